@@ -1,0 +1,74 @@
+-- Proofs by the cases of a test or an option, and what a passed test says.
+use mathlib.Core.Bool.{Bool, true, false}
+use mathlib.Core.List.{List, [], _∷_, _++_, map}
+use mathlib.Core.Option.{Option, none, some}
+use mathlib.Core.Path.{_≡_, refl, sym, ap, _∙_, subst}
+use Prim.Native.Nat.{ℕ, zero, suc, _+_, _≤_, _<_}
+use native.Mathlib.Nat.{not-suc-le-zero, le-of-suc-le-suc}
+use lib.Dec.{T, leb, ltb, eqb, leb→le, ltb→lt, eqb→eq}
+use lib.ListN.{length, getD}
+use Rattle.rules.specs.Base.{both, all, allFrom, first, lastOr, _>>=_}
+
+-- what holds of both branches holds of the test
+pub by-test : {A : Type 0} (P : A → Type 0) (b : Bool) {x y : A} → (b ≡ true → P x) → (b ≡ false → P y) → P (elim b [ true ↦ x | false ↦ y ])
+by-test P true f g = f refl
+by-test P false f g = g refl
+
+pub by-option : {A B : Type 0} (P : B → Type 0) (o : Option A) {x : B} {f : A → B} → (o ≡ none → P x) → ((a : A) → o ≡ some a → P (f a)) → P (elim o [ none ↦ x | some a ↦ f a ])
+by-option P none g h = g refl
+by-option P (some a) g h = h a refl
+
+-- a test's two ways
+pub ways : (b : Bool) (P : Type 0) → (b ≡ true → P) → (b ≡ false → P) → P
+ways true P f g = f refl
+ways false P f g = g refl
+
+-- true is not false, and something is not nothing
+abbrev IsTrue : Bool → Type 0
+IsTrue true = Unit {0}
+IsTrue false = ⊥
+
+pub true≢false : true ≡ false → ⊥
+true≢false e = subst IsTrue e tt
+
+abbrev IsSomething : {A : Type 0} → Option A → Type 0
+IsSomething none = ⊥
+IsSomething (some a) = Unit {0}
+
+pub some≢none : {A : Type 0} (a : A) → some a ≡ none → ⊥
+some≢none a e = subst IsSomething e tt
+
+valueOr : {A : Type 0} → A → Option A → A
+valueOr d none = d
+valueOr d (some a) = a
+
+pub some-injective : {A : Type 0} (a b : A) → some a ≡ some b → a ≡ b
+unfolding valueOr
+some-injective a b e = ap (valueOr a) e
+
+-- a test that passed
+pub passed : (b : Bool) → b ≡ true → T b
+passed b e = subst T (sym e) tt
+
+pub leb-le : (m n : ℕ) → leb m n ≡ true → m ≤ n
+leb-le m n e = leb→le m n (passed _ e)
+
+pub ltb-lt : (m n : ℕ) → ltb m n ≡ true → m < n
+ltb-lt m n e = ltb→lt m n (passed _ e)
+
+pub eqb-eq : (m n : ℕ) → eqb m n ≡ true → m ≡ n
+eqb-eq m n e = eqb→eq m n (passed _ e)
+
+pub both-left : (a b : Bool) → both a b ≡ true → a ≡ true
+both-left true b e = refl
+both-left false b e = e
+
+pub both-right : (a b : Bool) → both a b ≡ true → b ≡ true
+both-right true b e = e
+both-right false b e = absurd (true≢false (sym e))
+
+-- Options in turn: what the whole gives, each step gave.
+pub bind-some : {A B : Type 0} (o : Option A) (f : A → Option B) (b : B) → (o >>= f) ≡ some b → (a : A) × (o ≡ some a) × (f a ≡ some b)
+unfolding _>>=_
+bind-some none f b e = absurd (some≢none b (sym e))
+bind-some (some a) f b e = (a, refl, e)

@@ -1,0 +1,501 @@
+-- Placement of events whose closers end their tags and whose bounds a skip follows: what demand 3 says of one level.
+use mathlib.Core.Bool.{Bool, true, false}
+use mathlib.Core.List.{List, [], _∷_, _++_, append-nil, append-assoc}
+use mathlib.Core.Option.{Option, none, some}
+use mathlib.Core.Path.{_≡_, refl, sym, ap, _∙_, subst}
+use Prim.Native.Nat.{ℕ, zero, suc, _+_, _-_, _≤_, _<_}
+use native.Mathlib.Omega.{arith}
+use lib.Dec.{eqb}
+use lib.ListN.{length, take, drop, length-append}
+use lib.Seq.{take-add}
+use Rattle.rules.specs.Base.{Each, done, more, both, concatMap}
+use Rattle.rules.specs.File.{Tables, FieldPath, Anchor, CompareOp, Comparison}
+use Rattle.rules.specs.Constant.{unionTag, term}
+use Rattle.rules.specs.Lookup.{sameSteps, samePath}
+use Rattle.rules.specs.Events.{Narrowing, Event}
+use Rattle.rules.specs.Placement.{SeekKeyPart, Residual, Guide, Range, RangeEdge, Edges, SeekBuilder, new, withPart, withResidual, withGuide, withRange, withEdges, withCloser, withOpened, fall, placePart, placePrefix, rangeAt, attachable, placeFuzzy, placeNarrowing, closePart, placeCloser, takeHi, takeLo, takeEdge, sided, foldFrom, placeBound, place, placeAll}
+use Rattle.rules.specs.Levels.{narrowings}
+use Rattle.rules.specs.Demand3.{buildingAfter, beforeFall, partsOf, number, edges, Kept}
+use Rattle.rules.proofs.Cases.{by-test, ways, by-option, true≢false, some≢none, some-injective, eqb-eq, both-left, both-right}
+use Rattle.rules.proofs.Nested.{Nested}
+
+-- equal paths, by the test
+same-steps : (a b : List ℕ) → sameSteps a b ≡ true → a ≡ b
+unfolding sameSteps
+same-steps [] [] e = refl
+same-steps [] (y ∷ b) e = absurd (true≢false (sym e))
+same-steps (x ∷ a) [] e = absurd (true≢false (sym e))
+same-steps (x ∷ a) (y ∷ b) e = λ i. eqb-eq x y (both-left (eqb x y) _ e) i ∷ same-steps a b (both-right (eqb x y) _ e) i
+
+pub same-path : (p q : FieldPath) → samePath p q ≡ true → p ≡ q
+unfolding samePath
+same-path p q e =
+    λ i. record {
+      field = eqb-eq (p .field) (q .field) (both-left (eqb (p .field) (q .field)) _ e) i;
+      steps = same-steps (p .steps) (q .steps) (both-right (eqb (p .field) (q .field)) _ e) i;
+    }
+
+-- what stands after any number of a walk's steps; n tags are open
+pub record Steady (n : ℕ) (b : SeekBuilder) : Type 0 where
+  pub opens : length (b .opened) ≡ n
+  pub all-open : b .building ≡ true → Each (λ h. h ≡ true) (b .opened)
+  pub no-range : b .building ≡ true → b .range ≡ none
+  pub no-guide : b .building ≡ true → b .guide ≡ none
+  pub no-edge : b .building ≡ true → edges b ≡ 0
+  pub edge-excludes : 0 < edges b → (b .range ≡ none) × (b .guide ≡ none)
+  pub guide-path : (g : Guide) (r : Range) → b .guide ≡ some g → b .range ≡ some r → g .path ≡ r .path
+  pub edges-folded : edges b ≡ length (b .edges .folded)
+  pub closers-most : b .closers ≤ length (b .parts)
+
+steady-new : Steady 0 new
+unfolding new edges number
+steady-new =
+    record {
+      opens = refl;
+      all-open = λ e. done;
+      no-range = λ e. refl;
+      no-guide = λ e. refl;
+      no-edge = λ e. refl;
+      edge-excludes = λ h. (refl, refl);
+      guide-path = λ g r e f. absurd (some≢none g (sym e));
+      edges-folded = refl;
+      closers-most = omega arith;
+    }
+
+module _ (n : ℕ) (b : SeekBuilder) (s : Steady n b) where
+  steady-part : (part : SeekKeyPart) → Steady n (withPart part b)
+  unfolding withPart edges
+  steady-part part =
+      record {
+        opens = s .opens;
+        all-open = s .all-open;
+        no-range = s .no-range;
+        no-guide = s .no-guide;
+        no-edge = s .no-edge;
+        edge-excludes = s .edge-excludes;
+        guide-path = s .guide-path;
+        edges-folded = s .edges-folded;
+        closers-most = omega (arith, s .closers-most, length-append (b .parts) (part ∷ []));
+      }
+
+  steady-closer : Steady n (withCloser (withPart (SeekKeyPart.Bytes term) b))
+  unfolding withCloser withPart edges
+  steady-closer =
+      record {
+        opens = s .opens;
+        all-open = s .all-open;
+        no-range = s .no-range;
+        no-guide = s .no-guide;
+        no-edge = s .no-edge;
+        edge-excludes = s .edge-excludes;
+        guide-path = s .guide-path;
+        edges-folded = s .edges-folded;
+        closers-most = omega (arith, s .closers-most, length-append (b .parts) (SeekKeyPart.Bytes term ∷ []));
+      }
+
+  steady-residual : (path : FieldPath) (op : Narrowing) → Steady n (withResidual path op b)
+  unfolding withResidual edges
+  steady-residual path op =
+      record {
+        opens = s .opens;
+        all-open = s .all-open;
+        no-range = s .no-range;
+        no-guide = s .no-guide;
+        no-edge = s .no-edge;
+        edge-excludes = s .edge-excludes;
+        guide-path = s .guide-path;
+        edges-folded = s .edges-folded;
+        closers-most = s .closers-most;
+      }
+
+  steady-fall : Steady n (fall b)
+  unfolding fall edges
+  steady-fall =
+      record {
+        opens = s .opens;
+        all-open = λ e. absurd (true≢false (sym e));
+        no-range = λ e. absurd (true≢false (sym e));
+        no-guide = λ e. absurd (true≢false (sym e));
+        no-edge = λ e. absurd (true≢false (sym e));
+        edge-excludes = s .edge-excludes;
+        guide-path = s .guide-path;
+        edges-folded = s .edges-folded;
+        closers-most = s .closers-most;
+      }
+
+  steady-tag : Steady (suc n) (withOpened (b .building ∷ b .opened) b)
+  unfolding withOpened edges
+  steady-tag =
+      record {
+        opens = ap suc (s .opens);
+        all-open = λ e. more e (s .all-open e);
+        no-range = s .no-range;
+        no-guide = s .no-guide;
+        no-edge = s .no-edge;
+        edge-excludes = s .edge-excludes;
+        guide-path = s .guide-path;
+        edges-folded = s .edges-folded;
+        closers-most = s .closers-most;
+      }
+
+  steady-range : (path : FieldPath) (prefix : List ℕ) → b .building ≡ true → Steady n (fall (withRange (record { path = path; prefix = prefix }) b))
+  unfolding fall withRange edges
+  steady-range path prefix e =
+      record {
+        opens = s .opens;
+        all-open = λ q. absurd (true≢false (sym q));
+        no-range = λ q. absurd (true≢false (sym q));
+        no-guide = λ q. absurd (true≢false (sym q));
+        no-edge = λ q. absurd (true≢false (sym q));
+        edge-excludes = λ h. absurd (omega (arith, h, s .no-edge e));
+        guide-path = λ g r q f. absurd (some≢none g (sym q ∙ s .no-guide e));
+        edges-folded = s .edges-folded;
+        closers-most = s .closers-most;
+      }
+
+-- where a guide may be set
+attach : (b : SeekBuilder) (path : FieldPath) → attachable b path ≡ true → (b .guide ≡ none) × (b .building ≡ false → rangeAt (b .range) path ≡ true)
+unfolding attachable
+attach b path =
+    by-option (λ r. r ≡ true → (b .guide ≡ none) × (b .building ≡ false → rangeAt (b .range) path ≡ true)) (b .guide)
+    (λ e r. (e, by-test (λ q. q ≡ true → b .building ≡ false → rangeAt (b .range) path ≡ true) (b .building) (λ t q f. absurd (true≢false (sym t ∙ f))) (λ t q f. q) r))
+    (λ g e r. absurd (true≢false (sym r)))
+
+range-at : (o : Option Range) (path : FieldPath) → rangeAt o path ≡ true → (r : Range) × (o ≡ some r) × (r .path ≡ path)
+unfolding rangeAt
+range-at none path e = absurd (true≢false (sym e))
+range-at (some r) path e = (r, refl, same-path (r .path) path e)
+
+steady-guide : (n : ℕ) (b : SeekBuilder) (s : Steady n b) (g : Guide) → attachable b (g .path) ≡ true → Steady n (fall (withGuide g b))
+unfolding fall withGuide edges
+steady-guide n b s g e =
+    let a = attach b (g .path) e in
+    record {
+      opens = s .opens;
+      all-open = λ q. absurd (true≢false (sym q));
+      no-range = λ q. absurd (true≢false (sym q));
+      no-guide = λ q. absurd (true≢false (sym q));
+      no-edge = λ q. absurd (true≢false (sym q));
+      edge-excludes = λ h. ways (b .building) _ (λ q. absurd (omega (arith, h, s .no-edge q))) (λ q. let r = range-at (b .range) (g .path) (a .1 q) in absurd (some≢none (r .0) (sym (r .1) ∙ s .edge-excludes h .0)));
+      guide-path = λ g′ r′ q f. ways (b .building) _ (λ t. absurd (some≢none r′ (sym f ∙ s .no-range t)))
+          (λ t. let r = range-at (b .range) (g .path) (a .1 t) in ap (λ (k : Guide). k .path) (sym (some-injective g g′ q)) ∙ sym (r .2) ∙ ap (λ (k : Range). k .path) (some-injective (r .0) r′ (sym (r .1) ∙ f)));
+      edges-folded = s .edges-folded;
+      closers-most = s .closers-most;
+    }
+
+-- edges and folded comparisons keep step
+abbrev Paired : Edges → Type 0
+Paired e = number (e .lo) + number (e .hi) ≡ length (e .folded)
+
+paired-hi : (i : ℕ) (edge : RangeEdge) (e : Edges) → Paired e → Paired (takeHi i edge e)
+unfolding takeHi number
+paired-hi i edge e h = by-option Paired (e .hi) (λ q. omega (arith, h, ap number q, length-append (e .folded) (i ∷ []))) (λ hi q. h)
+
+paired-lo : (i : ℕ) (edge : RangeEdge) (e : Edges) → Paired e → Paired (takeLo i edge e)
+unfolding takeLo number
+paired-lo i edge e h = by-option Paired (e .lo) (λ q. omega (arith, h, ap number q, length-append (e .folded) (i ∷ []))) (λ lo q. h)
+
+paired-edge : (i : ℕ) (op : CompareOp) (value : List ℕ) (e : Edges) → Paired e → Paired (takeEdge i op value e)
+unfolding takeEdge
+paired-edge i CompareOp.Lt value e h = paired-hi i _ e h
+paired-edge i CompareOp.Le value e h = paired-hi i _ e h
+paired-edge i CompareOp.Gt value e h = paired-lo i _ e h
+paired-edge i CompareOp.Ge value e h = paired-lo i _ e h
+
+paired-fold : (T : Tables) (x t i : ℕ) (cs : List Comparison) (e : Edges) → Paired e → Paired (foldFrom T x t i cs e)
+unfolding foldFrom
+paired-fold T x t i [] e h = h
+paired-fold T x t i (c ∷ cs) e h =
+    paired-fold T x t (suc i) cs _ (by-option Paired (sided T x t c) (λ q. h) (λ s q. paired-edge i (s .op) (s .value) e h))
+
+-- a bound and the skip after it
+steady-folded : (T : Tables) (x t n : ℕ) (b : SeekBuilder) → Steady n b → b .building ≡ true → Steady n (fall (withEdges (foldFrom T x t 0 (T .comparisons) (b .edges)) b))
+unfolding fall withEdges edges
+steady-folded T x t n b s e =
+    record {
+      opens = s .opens;
+      all-open = λ q. absurd (true≢false (sym q));
+      no-range = λ q. absurd (true≢false (sym q));
+      no-guide = λ q. absurd (true≢false (sym q));
+      no-edge = λ q. absurd (true≢false (sym q));
+      edge-excludes = λ h. (s .no-range e, s .no-guide e);
+      guide-path = s .guide-path;
+      edges-folded = paired-fold T x t 0 (T .comparisons) (b .edges) (s .edges-folded);
+      closers-most = s .closers-most;
+    }
+
+steady-bound : (T : Tables) (x t n : ℕ) (b : SeekBuilder) → Steady n b → Steady n (fall (placeBound T x t b))
+unfolding placeBound
+steady-bound T x t n b s = by-test (λ b′. Steady n (fall b′)) (b .building) (λ e. steady-folded T x t n b s e) (λ e. steady-fall n b s)
+
+steady-narrowing : (n : ℕ) (b : SeekBuilder) (s : Steady n b) (path : FieldPath) (x : Narrowing) (es : List Event) → Nested n (Event.narrow path x ∷ es) → (m : ℕ) × Steady m (placeNarrowing path x b) × Nested m es
+unfolding placeNarrowing placePart placePrefix placeFuzzy withOpened
+steady-narrowing n b s path (Narrowing.Bytes bytes) es h = (n, by-test (Steady n) (b .building) (λ e. steady-part n b s _) (λ e. steady-residual n b s path _), h)
+steady-narrowing n b s path (Narrowing.Tag disc) es h = (suc n, by-test (Steady (suc n)) (b .building) (λ e. steady-part (suc n) _ (steady-tag n b s) _) (λ e. steady-residual (suc n) _ (steady-tag n b s) path _), h)
+steady-narrowing n b s path (Narrowing.RegisterField a at) es h = (n, by-test (Steady n) (b .building) (λ e. steady-part n b s _) (λ e. steady-residual n b s path _), h)
+steady-narrowing n b s path (Narrowing.FactId a) es h = (n, by-test (Steady n) (b .building) (λ e. steady-part n b s _) (λ e. steady-residual n b s path _), h)
+steady-narrowing n b s path (Narrowing.Prefix bytes) es h = (n, by-test (Steady n) (b .building) (λ e. steady-range n b s path bytes e) (λ e. steady-residual n b s path _), h)
+steady-narrowing n b s path (Narrowing.Fuzzy x d a) es h = (n, by-test (Steady n) (attachable b path) (λ e. steady-guide n b s _ e) (λ e. steady-residual n b s path _), h)
+
+-- What a level has placed, counted.
+pub filled : SeekBuilder → ℕ
+filled b = length (b .parts) + length (b .residuals) + number (b .range) + number (b .guide)
+
+abbrev pub Counts : ℕ → SeekBuilder → SeekBuilder → Type 0
+Counts k b b′ = filled b′ + b .closers ≡ filled b + k + b′ .closers
+
+counts-part : (part : SeekKeyPart) (path : FieldPath) (op : Narrowing) (b : SeekBuilder) → Counts 1 b (placePart part path op b)
+unfolding placePart withPart withResidual filled
+counts-part part path op b =
+    by-test (Counts 1 b) (b .building)
+    (λ e. omega (arith, length-append (b .parts) (part ∷ [])))
+    (λ e. omega (arith, length-append (b .residuals) (record { path = path; op = op } ∷ [])))
+
+counts-prefix : (n : ℕ) (b : SeekBuilder) (s : Steady n b) (path : FieldPath) (prefix : List ℕ) → Counts 1 b (placePrefix path prefix b)
+unfolding placePrefix withRange withResidual fall filled number
+counts-prefix n b s path prefix =
+    by-test (Counts 1 b) (b .building)
+    (λ e. omega (arith, ap number (s .no-range e)))
+    (λ e. omega (arith, length-append (b .residuals) (record { path = path; op = Narrowing.Prefix prefix } ∷ [])))
+
+counts-fuzzy : (b : SeekBuilder) (path : FieldPath) (x distance : ℕ) (anchor : Anchor) → Counts 1 b (placeFuzzy path x distance anchor b)
+unfolding placeFuzzy withGuide withResidual fall filled number
+counts-fuzzy b path x distance anchor =
+    by-test (Counts 1 b) (attachable b path)
+    (λ e. omega (arith, ap number (attach b path e .0)))
+    (λ e. omega (arith, length-append (b .residuals) (record { path = path; op = Narrowing.Fuzzy x distance anchor } ∷ [])))
+
+counts-narrowing : (n : ℕ) (b : SeekBuilder) (s : Steady n b) (path : FieldPath) (x : Narrowing) → Counts 1 b (placeNarrowing path x b)
+unfolding placeNarrowing withOpened filled
+counts-narrowing n b s path (Narrowing.Bytes bytes) = counts-part _ path _ b
+counts-narrowing n b s path (Narrowing.Tag disc) = counts-part _ path _ (withOpened (b .building ∷ b .opened) b)
+counts-narrowing n b s path (Narrowing.RegisterField a at) = counts-part _ path _ b
+counts-narrowing n b s path (Narrowing.FactId a) = counts-part _ path _ b
+counts-narrowing n b s path (Narrowing.Prefix bytes) = counts-prefix n b s path bytes
+counts-narrowing n b s path (Narrowing.Fuzzy x d a) = counts-fuzzy b path x d a
+
+-- a closer: the innermost open tag ends, and building held before it if it holds
+steady-outer : (n : ℕ) (b : SeekBuilder) (s : Steady (suc n) b) (held : Bool) (outer : List Bool) → b .opened ≡ held ∷ outer → Steady n (withOpened outer b)
+unfolding withOpened edges
+steady-outer n b s held outer e =
+    record {
+      opens = omega (arith, ap length e, s .opens);
+      all-open = λ q. tail-all (subst (Each (λ h. h ≡ true)) e (s .all-open q));
+      no-range = s .no-range;
+      no-guide = s .no-guide;
+      no-edge = s .no-edge;
+      edge-excludes = s .edge-excludes;
+      guide-path = s .guide-path;
+      edges-folded = s .edges-folded;
+      closers-most = s .closers-most;
+    }
+  where
+    tail-all : {x : Bool} {xs : List Bool} → Each (λ h. h ≡ true) (x ∷ xs) → Each (λ h. h ≡ true) xs
+    tail-all (more p h) = h
+
+steady-close : (n : ℕ) (held : Bool) (b : SeekBuilder) → Steady n b → Steady n (closePart held b)
+unfolding closePart
+steady-close n held b s = by-test (Steady n) (both held (b .building)) (λ e. steady-closer n b s) (λ e. s)
+
+counts-close : (held : Bool) (b : SeekBuilder) → Counts 0 b (closePart held b)
+unfolding closePart withCloser withPart filled
+counts-close held b = by-test (Counts 0 b) (both held (b .building)) (λ e. omega (arith, length-append (b .parts) (SeekKeyPart.Bytes term ∷ []))) (λ e. omega arith)
+
+steady-placed-closer : (n : ℕ) (b : SeekBuilder) (s : Steady (suc n) b) (opened : List Bool) → b .opened ≡ opened → Steady n (placeCloser opened b) × Counts 0 b (placeCloser opened b)
+unfolding placeCloser withOpened filled
+steady-placed-closer n b s [] e = absurd (omega (arith, ap length e, s .opens))
+steady-placed-closer n b s (held ∷ outer) e = (steady-close n held _ (steady-outer n b s held outer e), counts-close held (withOpened outer b))
+
+counts-fall : (b : SeekBuilder) → Counts 0 b (fall b)
+unfolding fall filled
+counts-fall b = omega arith
+
+counts-bound : (T : Tables) (x t : ℕ) (b : SeekBuilder) → Counts 0 b (fall (placeBound T x t b))
+unfolding placeBound withEdges fall filled
+counts-bound T x t b = by-test (λ b′. Counts 0 b (fall b′)) (b .building) (λ e. omega arith) (λ e. omega arith)
+
+-- all the events of a level
+pub record Placed (es : List Event) (b b′ : SeekBuilder) : Type 0 where
+  pub depth-left : ℕ
+  pub steady : Steady depth-left b′
+  pub counts : Counts (narrowings es) b b′
+
+placed-same : (n : ℕ) (b : SeekBuilder) → Steady n b → Placed [] b b
+unfolding narrowings
+placed-same n b s = record { depth-left = n; steady = s; counts = omega arith }
+
+counts-next : (k l : ℕ) (a b c : SeekBuilder) → Counts k a b → Counts l b c → Counts (k + l) a c
+counts-next k l a b c g h = omega (arith, g, h)
+
+placed-all : (T : Tables) (es : List Event) (n : ℕ) (b : SeekBuilder) → Steady n b → Nested n es → Placed es b (placeAll T es b)
+unfolding placeAll place narrowings
+placed-all T [] n b s h = placed-same n b s
+placed-all T (Event.narrow path x ∷ es) n b s h =
+    let a = steady-narrowing n b s path x es h in
+    let r = placed-all T es (a .0) (placeNarrowing path x b) (a .1) (a .2) in
+    record { depth-left = r .depth-left; steady = r .steady; counts = omega (arith, counts-narrowing n b s path x, r .counts) }
+placed-all T (Event.skip ∷ es) n b s h =
+    let r = placed-all T es n (fall b) (steady-fall n b s) h in
+    record { depth-left = r .depth-left; steady = r .steady; counts = omega (arith, counts-fall b, r .counts) }
+placed-all T (Event.closer ∷ es) zero b s h = absurd h
+placed-all T (Event.closer ∷ es) (suc n) b s h =
+    let a = steady-placed-closer n b s (b .opened) refl in
+    let r = placed-all T es n (placeCloser (b .opened) b) (a .0) h in
+    record { depth-left = r .depth-left; steady = r .steady; counts = omega (arith, a .1, r .counts) }
+placed-all T (Event.bound x t ∷ []) n b s h = absurd h
+placed-all T (Event.bound x t ∷ Event.skip ∷ es) n b s h =
+    let r = placed-all T es n (fall (placeBound T x t b)) (steady-bound T x t n b s) h in
+    record { depth-left = r .depth-left; steady = r .steady; counts = omega (arith, counts-bound T x t b, r .counts) }
+placed-all T (Event.bound x t ∷ Event.narrow p y ∷ es) n b s h = absurd h
+placed-all T (Event.bound x t ∷ Event.closer ∷ es) n b s h = absurd h
+placed-all T (Event.bound x t ∷ Event.bound y u ∷ es) n b s h = absurd h
+
+-- Building never returns, and without building no part is made: of any event.
+record Fallen (b b′ : SeekBuilder) : Type 0 where
+  building : b′ .building ≡ false
+  parts : b′ .parts ≡ b .parts
+
+fallen-part : (part : SeekKeyPart) (path : FieldPath) (op : Narrowing) (b : SeekBuilder) → b .building ≡ false → Fallen b (placePart part path op b)
+unfolding placePart withPart withResidual
+fallen-part part path op b h = by-test (Fallen b) (b .building) (λ e. absurd (true≢false (sym e ∙ h))) (λ e. record { building = h; parts = refl })
+
+fallen-narrowing : (path : FieldPath) (x : Narrowing) (b : SeekBuilder) → b .building ≡ false → Fallen b (placeNarrowing path x b)
+unfolding placeNarrowing placePrefix placeFuzzy withOpened withResidual withGuide fall
+fallen-narrowing path (Narrowing.Bytes bytes) b h = fallen-part _ path _ b h
+fallen-narrowing path (Narrowing.Tag disc) b h = let r = fallen-part _ path _ (withOpened (b .building ∷ b .opened) b) h in record { building = r .building; parts = r .parts }
+fallen-narrowing path (Narrowing.RegisterField a at) b h = fallen-part _ path _ b h
+fallen-narrowing path (Narrowing.FactId a) b h = fallen-part _ path _ b h
+fallen-narrowing path (Narrowing.Prefix bytes) b h = by-test (Fallen b) (b .building) (λ e. absurd (true≢false (sym e ∙ h))) (λ e. record { building = h; parts = refl })
+fallen-narrowing path (Narrowing.Fuzzy x d a) b h = by-test (Fallen b) (attachable b path) (λ e. record { building = refl; parts = refl }) (λ e. record { building = h; parts = refl })
+
+fallen-closer : (opened : List Bool) (b : SeekBuilder) → b .building ≡ false → Fallen b (placeCloser opened b)
+unfolding placeCloser closePart withOpened
+fallen-closer [] b h = record { building = h; parts = refl }
+fallen-closer (held ∷ outer) b h =
+    by-test (Fallen b) (both held (b .building)) (λ e. absurd (true≢false (sym (both-right held (b .building) e) ∙ h))) (λ e. record { building = h; parts = refl })
+
+fallen : (T : Tables) (e : Event) (b : SeekBuilder) → b .building ≡ false → Fallen b (place T e b)
+unfolding place placeBound fall
+fallen T (Event.narrow path x) b h = fallen-narrowing path x b h
+fallen T Event.skip b h = record { building = refl; parts = refl }
+fallen T Event.closer b h = fallen-closer (b .opened) b h
+fallen T (Event.bound x t) b h = by-test (Fallen b) (b .building) (λ e. absurd (true≢false (sym e ∙ h))) (λ e. record { building = h; parts = refl })
+
+fallen-all : (T : Tables) (es : List Event) (b : SeekBuilder) → b .building ≡ false → Fallen b (placeAll T es b)
+unfolding placeAll
+fallen-all T [] b h = record { building = h; parts = refl }
+fallen-all T (e ∷ es) b h =
+    let a = fallen T e b h in
+    let r = fallen-all T es (place T e b) (a .building) in
+    record { building = r .building; parts = r .parts ∙ a .parts }
+
+pub placeAll-append : (T : Tables) (es fs : List Event) (b : SeekBuilder) → placeAll T (es ++ fs) b ≡ placeAll T fs (placeAll T es b)
+unfolding placeAll
+placeAll-append T [] fs b = refl
+placeAll-append T (e ∷ es) fs b = placeAll-append T es fs (place T e b)
+
+never-returns : (T : Tables) (es : List Event) (i k : ℕ) → buildingAfter T es i ≡ false → buildingAfter T es (i + k) ≡ false
+unfolding buildingAfter
+never-returns T es i k h =
+    ap (λ (l : List Event). placeAll T l new .building) (take-add i k es)
+    ∙ ap (λ (b : SeekBuilder). b .building) (placeAll-append T (take i es) (take k (drop i es)) new)
+    ∙ fallen-all T (take k (drop i es)) (placeAll T (take i es) new) h .building
+
+-- While building holds each event makes its part, or building falls and it makes none.
+record Makes (parts : List SeekKeyPart) (b b′ : SeekBuilder) : Type 0 where
+  on : b′ .building ≡ true → b′ .parts ≡ b .parts ++ parts
+  fell : b′ .building ≡ false → b′ .parts ≡ b .parts
+
+makes-part : (b : SeekBuilder) → b .building ≡ true → (part : SeekKeyPart) (path : FieldPath) (op : Narrowing) → Makes (part ∷ []) b (placePart part path op b)
+unfolding placePart withPart
+makes-part b h part path op =
+    by-test (Makes (part ∷ []) b) (b .building) (λ e. record { on = λ q. refl; fell = λ q. absurd (true≢false (sym h ∙ q)) }) (λ e. absurd (true≢false (sym h ∙ e)))
+
+makes-none : (b b′ : SeekBuilder) → b′ .parts ≡ b .parts → Makes [] b b′
+makes-none b b′ e = record { on = λ q. e ∙ sym (append-nil (b .parts)); fell = λ q. e }
+
+makes-narrowing : (b : SeekBuilder) → b .building ≡ true → (path : FieldPath) (x : Narrowing) → Makes (partsOf (Event.narrow path x)) b (placeNarrowing path x b)
+unfolding partsOf placeNarrowing placePrefix placeFuzzy withOpened withResidual withRange withGuide fall
+makes-narrowing b h path (Narrowing.Bytes bytes) = makes-part b h _ path _
+makes-narrowing b h path (Narrowing.Tag disc) = let r = makes-part (withOpened (b .building ∷ b .opened) b) h (SeekKeyPart.Bytes (unionTag disc)) path (Narrowing.Tag disc) in record { on = r .on; fell = r .fell }
+makes-narrowing b h path (Narrowing.RegisterField a at) = makes-part b h _ path _
+makes-narrowing b h path (Narrowing.FactId a) = makes-part b h _ path _
+makes-narrowing b h path (Narrowing.Prefix bytes) = by-test (Makes [] b) (b .building) (λ e. makes-none b _ refl) (λ e. makes-none b _ refl)
+makes-narrowing b h path (Narrowing.Fuzzy x d a) = by-test (Makes [] b) (attachable b path) (λ e. makes-none b _ refl) (λ e. makes-none b _ refl)
+
+makes-skip : (b : SeekBuilder) → Makes (partsOf Event.skip) b (fall b)
+unfolding partsOf fall
+makes-skip b = makes-none b _ refl
+
+head-true : {x : Bool} {xs : List Bool} → Each (λ k. k ≡ true) (x ∷ xs) → x ≡ true
+head-true (more p g) = p
+
+makes-closer : (b : SeekBuilder) → b .building ≡ true → (n : ℕ) → Steady (suc n) b → (opened : List Bool) → b .opened ≡ opened → Makes (partsOf Event.closer) b (placeCloser opened b)
+unfolding partsOf placeCloser closePart withOpened withCloser withPart
+makes-closer b h n s [] e = absurd (omega (arith, ap length e, s .opens))
+makes-closer b h n s (held ∷ outer) e =
+    by-test (Makes (SeekKeyPart.Bytes term ∷ []) b) (both held (b .building))
+    (λ q. record { on = λ t. refl; fell = λ t. absurd (true≢false (sym h ∙ t)) })
+    (λ q. absurd (true≢false (sym (ap (λ (k : Bool). both k (b .building)) (head-true (subst (Each (λ k. k ≡ true)) e (s .all-open h))) ∙ h) ∙ q)))
+
+makes-bound : (b : SeekBuilder) (T : Tables) (x t : ℕ) → Makes (partsOf (Event.bound x t)) b (placeBound T x t b)
+unfolding partsOf placeBound withEdges
+makes-bound b T x t = by-test (Makes [] b) (b .building) (λ e. makes-none b _ refl) (λ e. makes-none b _ refl)
+
+-- what the rest of a level's parts are, after one event
+parts-step : (T : Tables) (e : Event) (es : List Event) (b : SeekBuilder) → Makes (partsOf e) b (place T e b) → (place T e b .building ≡ true → placeAll T es (place T e b) .parts ≡ place T e b .parts ++ concatMap partsOf (beforeFall T (place T e b) es)) → placeAll T (e ∷ es) b .parts ≡ b .parts ++ concatMap partsOf (beforeFall T b (e ∷ es))
+unfolding placeAll beforeFall concatMap
+parts-step T e es b m ih =
+    by-test (λ fs. placeAll T es (place T e b) .parts ≡ b .parts ++ concatMap partsOf fs) (place T e b .building)
+    (λ q. ih q ∙ ap (λ (l : List SeekKeyPart). l ++ concatMap partsOf (beforeFall T (place T e b) es)) (m .on q) ∙ append-assoc (b .parts) (partsOf e) (concatMap partsOf (beforeFall T (place T e b) es)))
+    (λ q. fallen-all T es (place T e b) q .parts ∙ m .fell q ∙ sym (append-nil (b .parts)))
+
+parts-all : (T : Tables) (es : List Event) (n : ℕ) (b : SeekBuilder) → Steady n b → Nested n es → b .building ≡ true → placeAll T es b .parts ≡ b .parts ++ concatMap partsOf (beforeFall T b es)
+unfolding placeAll place beforeFall concatMap
+parts-all T [] n b s h on = sym (append-nil (b .parts))
+parts-all T (Event.narrow path x ∷ es) n b s h on =
+    let a = steady-narrowing n b s path x es h in
+    parts-step T (Event.narrow path x) es b (makes-narrowing b on path x) (λ q. parts-all T es (a .0) (placeNarrowing path x b) (a .1) (a .2) q)
+parts-all T (Event.skip ∷ es) n b s h on = parts-step T Event.skip es b (makes-skip b) (λ q. parts-all T es n (fall b) (steady-fall n b s) h q)
+parts-all T (Event.closer ∷ es) zero b s h on = absurd h
+parts-all T (Event.closer ∷ es) (suc n) b s h on =
+    parts-step T Event.closer es b (makes-closer b on n s (b .opened) refl)
+    (λ q. parts-all T es n (placeCloser (b .opened) b) (steady-placed-closer n b s (b .opened) refl .0) h q)
+parts-all T (Event.bound x t ∷ []) n b s h on = absurd h
+parts-all T (Event.bound x t ∷ Event.skip ∷ es) n b s h on =
+    parts-step T (Event.bound x t) (Event.skip ∷ es) b (makes-bound b T x t)
+    (λ q. parts-step T Event.skip es (placeBound T x t b) (makes-skip (placeBound T x t b)) (λ r. parts-all T es n (fall (placeBound T x t b)) (steady-bound T x t n b s) h r))
+parts-all T (Event.bound x t ∷ Event.narrow p y ∷ es) n b s h on = absurd h
+parts-all T (Event.bound x t ∷ Event.closer ∷ es) n b s h on = absurd h
+parts-all T (Event.bound x t ∷ Event.bound y u ∷ es) n b s h on = absurd h
+
+-- lo and hi are two
+most-one : {A : Type 0} (o : Option A) → number o ≤ 1
+unfolding number
+most-one none = omega arith
+most-one (some a) = omega arith
+
+edges-two : (b : SeekBuilder) → edges b ≤ 2
+unfolding edges
+edges-two b = omega (arith, most-one (b .edges .lo), most-one (b .edges .hi))
+
+-- the sum, of what stands after all events
+sum-of : (k : ℕ) (b : SeekBuilder) → Counts k new b → b .closers ≤ length (b .parts) → k ≡ length (b .parts) - b .closers + length (b .residuals) + number (b .range) + number (b .guide)
+unfolding new filled number
+sum-of k b h c = omega (arith, h, c)
+
+-- what demand 3 says of one level
+pub kept : (T : Tables) (es : List Event) → Nested 0 es → Kept T es (placeAll T es new)
+unfolding new
+kept T es h =
+    let r = placed-all T es 0 new steady-new h in
+    record {
+      never-returns = never-returns T es;
+      parts = parts-all T es 0 new steady-new h refl;
+      edge-excludes = r .steady .edge-excludes;
+      guide-path = r .steady .guide-path;
+      edges-folded = r .steady .edges-folded;
+      edges-most = edges-two (placeAll T es new);
+      closers-most = r .steady .closers-most;
+      sum = sum-of (narrowings es) (placeAll T es new) (r .counts) (r .steady .closers-most);
+    }

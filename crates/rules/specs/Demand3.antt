@@ -1,0 +1,131 @@
+-- Demand 3: one claim about a file's whole list of levels, in the words of "A file's list of levels".
+use mathlib.Core.Bool.{Bool, true, false}
+use mathlib.Core.List.{List, [], _∷_, _++_, map}
+use mathlib.Core.Option.{Option, none, some}
+use mathlib.Core.Path.{_≡_}
+use Prim.Native.Nat.{ℕ, zero, suc, _+_, _-_, _≤_, _<_}
+use lib.ListN.{length, getD, take}
+use lib.Dec.{eqb}
+use Rattle.rules.specs.Base.{concatMap}
+use Rattle.rules.specs.File.{Tables, Binding, LevelEntry}
+use Rattle.rules.specs.Read.{got, file}
+use Rattle.rules.specs.Checks.{checks, fault}
+use Rattle.rules.specs.Constant.{unionTag, term}
+use Rattle.rules.specs.Events.{Select, Diagnostic, Narrowing, Event, Lists, Walk}
+use Rattle.rules.specs.Walk.{walkLevel}
+use Rattle.rules.specs.Placement.{SeekKeyPart, Guide, Range, RangeEdge, Edges, SeekBuilder, new, place, placeAll}
+use Rattle.rules.specs.Levels.{Level, starting, narrowings}
+use Rattle.rules.specs.Plan.{Plan, planLevel, planBytes}
+
+-- whether building holds after a level's first i events
+unfoldable pub buildingAfter : Tables → List Event → ℕ → Bool
+buildingAfter T events i = placeAll T (take i events) new .building
+
+-- "The fall is a level's first event after which building doesn't hold. Without one, all its events lie before the fall."
+unfoldable pub beforeFall : Tables → SeekBuilder → List Event → List Event
+beforeFall T b [] = []
+beforeFall T b (e ∷ es) = elim (place T e b .building) [ true ↦ e ∷ beforeFall T (place T e b) es | false ↦ [] ]
+
+-- the part of a "byte, tag, register and fact" narrowing and of a closer
+unfoldable pub partsOf : Event → List SeekKeyPart
+partsOf (Event.narrow path (Narrowing.Bytes bytes)) = SeekKeyPart.Bytes bytes ∷ []
+partsOf (Event.narrow path (Narrowing.Tag disc)) = SeekKeyPart.Bytes (unionTag disc) ∷ []
+partsOf (Event.narrow path (Narrowing.RegisterField address at)) = SeekKeyPart.RegisterField address at ∷ []
+partsOf (Event.narrow path (Narrowing.FactId address)) = SeekKeyPart.RegisterFactId address ∷ []
+partsOf (Event.narrow path (Narrowing.Prefix prefix)) = []
+partsOf (Event.narrow path (Narrowing.Fuzzy x distance anchor)) = []
+partsOf Event.skip = []
+partsOf Event.closer = SeekKeyPart.Bytes term ∷ []
+partsOf (Event.bound x t) = []
+
+-- "Ranges and guides are each 0 or 1."
+unfoldable pub number : {A : Type 0} → Option A → ℕ
+number none = 0
+number (some a) = 1
+
+-- "An edge is lo or hi, once set. Edges and folded are compared by number."
+unfoldable pub edges : SeekBuilder → ℕ
+edges b = number (b .edges .lo) + number (b .edges .hi)
+
+-- "A name is already bound if a binding has it, a starting one or one made earlier in the list of levels"
+unfoldable pub alreadyBound : List Binding → ℕ → Bool
+alreadyBound [] x = false
+alreadyBound (b ∷ bs) x = elim (eqb (b .name) x) [ true ↦ true | false ↦ alreadyBound bs x ]
+
+-- no name already bound is bound anew: of the new bindings in order, each against all before it
+abbrev pub NoneAnew : List Binding → List Binding → Type 0
+NoneAnew bound [] = Unit {0}
+NoneAnew bound (b ∷ new′) = (alreadyBound bound (b .name) ≡ false) × NoneAnew (bound ++ (b ∷ [])) new′
+
+-- what a level adds to each list "stands at that list's end"
+pub record Adds (start left : Lists) : Type 0 where
+  pub bindings : List Binding
+  pub bindings-end : left .bindings ≡ start .bindings ++ bindings
+  pub none-anew : NoneAnew (start .bindings) bindings
+  pub constrained-end : (added : List ℕ) × (left .constrained ≡ start .constrained ++ added)
+  pub selects-end : (added : List Select) × (left .selects ≡ start .selects ++ added)
+  pub diagnostics-end : (added : List Diagnostic) × (left .diagnostics ≡ start .diagnostics ++ added)
+
+-- what holds at every level; b is what the level holds
+pub record Kept (T : Tables) (events : List Event) (b : SeekBuilder) : Type 0 where
+  -- "building never returns once it fell"
+  pub never-returns : (i k : ℕ) → buildingAfter T events i ≡ false → buildingAfter T events (i + k) ≡ false
+  -- "the parts are exactly the byte, tag, register and fact narrowings and closers made before the fall, in order"
+  pub parts : b .parts ≡ concatMap partsOf (beforeFall T new events)
+  -- "an edge excludes range and guide"
+  pub edge-excludes : 0 < edges b → (b .range ≡ none) × (b .guide ≡ none)
+  -- "a guide beside a range has the range's path"
+  pub guide-path : (g : Guide) (r : Range) → b .guide ≡ some g → b .range ≡ some r → g .path ≡ r .path
+  -- "edges = folded, at most 2"
+  pub edges-folded : edges b ≡ length (b .edges .folded)
+  pub edges-most : edges b ≤ 2
+  -- "narrowings on 01's walk = parts - closers + residuals + ranges + guides"
+  pub closers-most : b .closers ≤ length (b .parts)
+  pub sum : narrowings events ≡ length (b .parts) - b .closers + length (b .residuals) + number (b .range) + number (b .guide)
+
+-- one level, whose entry in the file and whose starting lists are given
+pub record LevelKept (T : Tables) (entry : LevelEntry) (start : Lists) (l : Level) : Type 0 where
+  pub begins : l .start ≡ start
+  -- "every level holds just what 01's placement makes of 01's walk"
+  pub events-walked : l .events ≡ walkLevel T entry start .events
+  pub lists-walked : l .left ≡ walkLevel T entry start .lists
+  pub placed : l .built ≡ placeAll T (l .events) new
+  pub kept : Kept T (l .events) (l .built)
+  -- "no name already bound is bound anew"
+  pub adds : Adds start (l .left)
+
+-- entry and level number k of a list
+unfoldable pub entryAt : Tables → ℕ → LevelEntry
+entryAt T k = getD (T .levels) k (record { predicate = 0; node = 0; address = 0 })
+
+unfoldable pub levelAt : Tables → List Level → ℕ → Level
+levelAt T ls k = getD ls k (record { start = starting T; left = starting T; events = []; built = new })
+
+-- "The first level begins from the file's starting bindings, each later one from exactly what the one before it left."
+unfoldable pub startOf : Tables → List Level → ℕ → Lists
+startOf T ls zero = starting T
+startOf T ls (suc k) = levelAt T ls k .left
+
+-- the plan holds every level, and what the last one left
+pub record Holds (T : Tables) (ls : List Level) (left : Lists) (p : Plan) : Type 0 where
+  pub levels : p .levels ≡ map planLevel ls
+  pub bindings : left .bindings ≡ T .bindings ++ p .bindings
+  pub constrained : p .constrained ≡ left .constrained
+  pub selects : p .selects ≡ left .selects
+  pub diagnostics : p .diagnostics ≡ left .diagnostics
+
+-- "For every accepted file .. take its whole list of levels, none, one or many, compiled in order."
+pub record Demand3 (bytes out : List ℕ) : Type 0 where
+  pub tables : Tables
+  pub reads : file bytes ≡ got tables []
+  pub accepted : fault checks tables ≡ none
+  pub levels : List Level
+  pub every-level : length levels ≡ length (tables .levels)
+  pub kept : (k : ℕ) → k < length (tables .levels) → LevelKept tables (entryAt tables k) (startOf tables levels k) (levelAt tables levels k)
+  pub plan : Plan
+  pub holds : Holds tables levels (startOf tables levels (length levels)) plan
+  pub written : out ≡ planBytes plan
+
+unfoldable pub openDemand3 : Unit {0}
+unfolding buildingAfter beforeFall partsOf number edges alreadyBound entryAt levelAt startOf
+openDemand3 = tt

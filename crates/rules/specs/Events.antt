@@ -1,0 +1,127 @@
+-- "Walk", what a level's walk gives: the level's events, and what it adds to the four lists.
+use mathlib.Core.List.{List, [], _∷_, _++_}
+use mathlib.Core.Option.{Option}
+use Prim.Native.Nat.{ℕ}
+use lib.ListN.{length}
+use Rattle.rules.specs.File.{Anchor, FieldPath, Slot, Binding}
+use Rattle.rules.specs.Constant.{lookup}
+
+-- "Plan": the diagnostics' codes
+pub data Code : Type 0 where
+  NyiDisjunction NyiFactField NyiNever NyiRepeatedVariable NyiValueField NyiValueMatch NyiWholeKey : Code
+  RejectTypeMismatch RejectUnionArity RejectUnknownAlternative RejectUnresolvedAccess : Code
+
+unfoldable pub codeNumber : Code → ℕ
+codeNumber Code.NyiDisjunction = 1
+codeNumber Code.NyiFactField = 2
+codeNumber Code.NyiNever = 3
+codeNumber Code.NyiRepeatedVariable = 4
+codeNumber Code.NyiValueField = 5
+codeNumber Code.NyiValueMatch = 6
+codeNumber Code.NyiWholeKey = 7
+codeNumber Code.RejectTypeMismatch = 8
+codeNumber Code.RejectUnionArity = 9
+codeNumber Code.RejectUnknownAlternative = 10
+codeNumber Code.RejectUnresolvedAccess = 11
+
+pub record Select : Type 0 where
+  pub address : ℕ
+  pub path : FieldPath
+  pub disc : ℕ
+
+pub record Diagnostic : Type 0 where
+  pub node : ℕ
+  pub code : Code
+
+-- "A narrowing has a path and is bytes, tag (disc), register field, fact id, prefix or fuzzy."
+pub data Narrowing : Type 0 where
+  Bytes : List ℕ → Narrowing
+  Tag : ℕ → Narrowing
+  RegisterField : ℕ → FieldPath → Narrowing
+  FactId : ℕ → Narrowing
+  Prefix : List ℕ → Narrowing
+  Fuzzy : ℕ → ℕ → Anchor → Narrowing
+
+-- "the level's events in the order met, each a narrowing, a skip, a closer or a bound"; a bound has its Var's name and type
+pub data Event : Type 0 where
+  narrow : FieldPath → Narrowing → Event
+  skip : Event
+  closer : Event
+  bound : ℕ → ℕ → Event
+
+-- "Four lists go from level to level: bindings, constrained names, selects and diagnostics."
+pub record Lists : Type 0 where
+  pub bindings : List Binding
+  pub constrained : List ℕ
+  pub selects : List Select
+  pub diagnostics : List Diagnostic
+
+pub record Walk : Type 0 where
+  pub lists : Lists
+  pub events : List Event
+
+-- "What it adds to a list stands at that list's end, in the order met." Each of these adds one entry.
+unfoldable pub bind : ℕ → Slot → Walk → Walk
+bind x slot w =
+    record {
+      lists = record { bindings = w .lists .bindings ++ (record { name = x; slot = slot } ∷ []); constrained = w .lists .constrained; selects = w .lists .selects; diagnostics = w .lists .diagnostics };
+      events = w .events;
+    }
+
+unfoldable pub constrained : ℕ → Walk → Walk
+constrained x w =
+    record {
+      lists = record { bindings = w .lists .bindings; constrained = w .lists .constrained ++ (x ∷ []); selects = w .lists .selects; diagnostics = w .lists .diagnostics };
+      events = w .events;
+    }
+
+unfoldable pub select : ℕ → FieldPath → ℕ → Walk → Walk
+select address path disc w =
+    record {
+      lists = record { bindings = w .lists .bindings; constrained = w .lists .constrained; selects = w .lists .selects ++ (record { address = address; path = path; disc = disc } ∷ []); diagnostics = w .lists .diagnostics };
+      events = w .events;
+    }
+
+unfoldable pub report : ℕ → Code → Walk → Walk
+report n code w =
+    record {
+      lists = record { bindings = w .lists .bindings; constrained = w .lists .constrained; selects = w .lists .selects; diagnostics = w .lists .diagnostics ++ (record { node = n; code = code } ∷ []) };
+      events = w .events;
+    }
+
+unfoldable pub emit : Event → Walk → Walk
+emit e w = record { lists = w .lists; events = w .events ++ (e ∷ []) }
+
+-- What the walk asks of whatever keeps its lists and takes its events. The walk is told over any such S, so that it can be read once for these lists and
+-- once for a program's memory. `closer` is given what stood before its tag.
+pub record Ops (S : Type 0) : Type 0 where
+  pub lookup : S → ℕ → Option Slot
+  pub reported : S → ℕ
+  pub bind : ℕ → Slot → S → S
+  pub constrained : ℕ → S → S
+  pub select : ℕ → FieldPath → ℕ → S → S
+  pub report : ℕ → Code → S → S
+  pub narrow : FieldPath → Narrowing → S → S
+  pub skip : S → S
+  pub closer : S → S → S
+  pub bound : ℕ → ℕ → S → S
+
+-- the lists and events of this document
+abbrev pub walkOps : Ops Walk
+walkOps =
+    record {
+      lookup = λ w x. lookup (w .lists .bindings) x;
+      reported = λ w. length (w .lists .diagnostics);
+      bind = bind;
+      constrained = constrained;
+      select = select;
+      report = report;
+      narrow = λ path x w. emit (Event.narrow path x) w;
+      skip = λ w. emit Event.skip w;
+      closer = λ before w. emit Event.closer w;
+      bound = λ x t w. emit (Event.bound x t) w;
+    }
+
+unfoldable pub openEvents : Unit {0}
+unfolding codeNumber bind constrained select report emit
+openEvents = tt

@@ -1,0 +1,233 @@
+-- "Placement": a level's events, one by one, to its seek, guide, residuals and folded comparisons.
+use mathlib.Core.Bool.{Bool, true, false}
+use mathlib.Core.List.{List, [], _∷_, _++_}
+use mathlib.Core.Option.{Option, none, some}
+use Prim.Native.Nat.{ℕ, zero, suc, _+_}
+use lib.Dec.{eqb}
+use Rattle.rules.specs.Base.{both, _>>=_}
+use Rattle.rules.specs.File.{Tables, Anchor, Node, FieldPath, CompareOp, Comparison, nodeAt, varName}
+use Rattle.rules.specs.Constant.{Const, unionTag, term, bytesOnly, constant}
+use Rattle.rules.specs.Lookup.{samePath}
+use Rattle.rules.specs.Events.{Narrowing, Event}
+
+pub data SeekKeyPart : Type 0 where
+  Bytes : List ℕ → SeekKeyPart
+  RegisterField : ℕ → FieldPath → SeekKeyPart
+  RegisterFactId : ℕ → SeekKeyPart
+
+-- what a narrowing is where it is no part
+pub record Residual : Type 0 where
+  pub path : FieldPath
+  pub op : Narrowing
+
+pub record Guide : Type 0 where
+  pub path : FieldPath
+  pub term : ℕ
+  pub distance : ℕ
+  pub anchor : Anchor
+
+pub record Range : Type 0 where
+  pub path : FieldPath
+  pub prefix : List ℕ
+
+pub record RangeEdge : Type 0 where
+  pub value : List ℕ
+  pub inclusive : Bool
+
+-- lo and hi, and the indices of the comparisons that gave them
+pub record Edges : Type 0 where
+  pub lo : Option RangeEdge
+  pub hi : Option RangeEdge
+  pub folded : List ℕ
+
+-- closers: how many closer events became parts. opened: for each tag that no closer has ended, the last first, whether building held before it.
+pub record SeekBuilder : Type 0 where
+  pub building : Bool
+  pub parts : List SeekKeyPart
+  pub residuals : List Residual
+  pub guide : Option Guide
+  pub range : Option Range
+  pub edges : Edges
+  pub closers : ℕ
+  pub opened : List Bool
+
+-- "A level starts building, with nothing set." (Rust `SeekBuilder::new`)
+unfoldable pub new : SeekBuilder
+new = record { building = true; parts = []; residuals = []; guide = none; range = none; edges = record { lo = none; hi = none; folded = [] }; closers = 0; opened = [] }
+
+-- One change each.
+unfoldable pub withPart : SeekKeyPart → SeekBuilder → SeekBuilder
+withPart part b = record { building = b .building; parts = b .parts ++ (part ∷ []); residuals = b .residuals; guide = b .guide; range = b .range; edges = b .edges; closers = b .closers; opened = b .opened }
+
+unfoldable pub withResidual : FieldPath → Narrowing → SeekBuilder → SeekBuilder
+withResidual path op b = record { building = b .building; parts = b .parts; residuals = b .residuals ++ (record { path = path; op = op } ∷ []); guide = b .guide; range = b .range; edges = b .edges; closers = b .closers; opened = b .opened }
+
+unfoldable pub withGuide : Guide → SeekBuilder → SeekBuilder
+withGuide guide b = record { building = b .building; parts = b .parts; residuals = b .residuals; guide = some guide; range = b .range; edges = b .edges; closers = b .closers; opened = b .opened }
+
+unfoldable pub withRange : Range → SeekBuilder → SeekBuilder
+withRange range b = record { building = b .building; parts = b .parts; residuals = b .residuals; guide = b .guide; range = some range; edges = b .edges; closers = b .closers; opened = b .opened }
+
+unfoldable pub withEdges : Edges → SeekBuilder → SeekBuilder
+withEdges edges b = record { building = b .building; parts = b .parts; residuals = b .residuals; guide = b .guide; range = b .range; edges = edges; closers = b .closers; opened = b .opened }
+
+unfoldable pub withCloser : SeekBuilder → SeekBuilder
+withCloser b = record { building = b .building; parts = b .parts; residuals = b .residuals; guide = b .guide; range = b .range; edges = b .edges; closers = b .closers + 1; opened = b .opened }
+
+unfoldable pub withOpened : List Bool → SeekBuilder → SeekBuilder
+withOpened opened b = record { building = b .building; parts = b .parts; residuals = b .residuals; guide = b .guide; range = b .range; edges = b .edges; closers = b .closers; opened = opened }
+
+-- "Skip: building falls."
+unfoldable pub fall : SeekBuilder → SeekBuilder
+fall b = record { building = false; parts = b .parts; residuals = b .residuals; guide = b .guide; range = b .range; edges = b .edges; closers = b .closers; opened = b .opened }
+
+-- "The first four: a part while building .., else a residual."
+unfoldable pub placePart : SeekKeyPart → FieldPath → Narrowing → SeekBuilder → SeekBuilder
+placePart part path op b = elim (b .building) [ true ↦ withPart part b | false ↦ withResidual path op b ]
+
+-- "Prefix: while building it becomes the range, and building falls; else a residual."
+unfoldable pub placePrefix : FieldPath → List ℕ → SeekBuilder → SeekBuilder
+placePrefix path prefix b =
+    elim (b .building) [
+      | true ↦ fall (withRange (record { path = path; prefix = prefix }) b)
+      | false ↦ withResidual path (Narrowing.Prefix prefix) b
+    ]
+
+-- "either building holds or a range has the equal path"
+unfoldable pub rangeAt : Option Range → FieldPath → Bool
+rangeAt none path = false
+rangeAt (some range) path = samePath (range .path) path
+
+unfoldable pub attachable : SeekBuilder → FieldPath → Bool
+attachable b path = elim (b .guide) [ some guide ↦ false | none ↦ elim (b .building) [ true ↦ true | false ↦ rangeAt (b .range) path ] ]
+
+-- "Fuzzy: the guide, if none is set and either building holds or a range has the equal path; building falls. Else a residual."
+unfoldable pub placeFuzzy : FieldPath → ℕ → ℕ → Anchor → SeekBuilder → SeekBuilder
+placeFuzzy path x distance anchor b =
+    elim (attachable b path) [
+      | true ↦ fall (withGuide (record { path = path; term = x; distance = distance; anchor = anchor }) b)
+      | false ↦ withResidual path (Narrowing.Fuzzy x distance anchor) b
+    ]
+
+unfoldable pub placeNarrowing : FieldPath → Narrowing → SeekBuilder → SeekBuilder
+placeNarrowing path (Narrowing.Bytes bytes) b = placePart (SeekKeyPart.Bytes bytes) path (Narrowing.Bytes bytes) b
+placeNarrowing path (Narrowing.Tag disc) b = placePart (SeekKeyPart.Bytes (unionTag disc)) path (Narrowing.Tag disc) (withOpened (b .building ∷ b .opened) b)
+placeNarrowing path (Narrowing.RegisterField address at) b = placePart (SeekKeyPart.RegisterField address at) path (Narrowing.RegisterField address at) b
+placeNarrowing path (Narrowing.FactId address) b = placePart (SeekKeyPart.RegisterFactId address) path (Narrowing.FactId address) b
+placeNarrowing path (Narrowing.Prefix prefix) b = placePrefix path prefix b
+placeNarrowing path (Narrowing.Fuzzy x distance anchor) b = placeFuzzy path x distance anchor b
+
+-- "Closer: one part of byte 00 if building held before its tag and still holds, else nothing."
+unfoldable pub closePart : Bool → SeekBuilder → SeekBuilder
+closePart held b = elim (both held (b .building)) [ true ↦ withCloser (withPart (SeekKeyPart.Bytes term) b) | false ↦ b ]
+
+unfoldable pub placeCloser : List Bool → SeekBuilder → SeekBuilder
+placeCloser [] b = b
+placeCloser (held ∷ outer) b = closePart held (withOpened outer b)
+
+-- Rust `flipped`: a table of four
+unfoldable pub flipped : CompareOp → CompareOp
+flipped CompareOp.Lt = CompareOp.Gt
+flipped CompareOp.Le = CompareOp.Ge
+flipped CompareOp.Gt = CompareOp.Lt
+flipped CompareOp.Ge = CompareOp.Le
+
+-- what a Var is compared with, read from the Var's side
+pub record Compared : Type 0 where
+  pub op : CompareOp
+  pub node : ℕ
+
+unfoldable pub isVar : Tables → ℕ → ℕ → Bool
+isVar T x n = elim (varName (nodeAt T n)) [ none ↦ false | some y ↦ eqb y x ]
+
+-- "the comparisons with this Var on one side .. (op flipped when it is on the right)"
+unfoldable pub compared : Tables → ℕ → Comparison → Option Compared
+compared T x c =
+    elim (isVar T x (c .left)) [
+      | true ↦ some (record { op = c .op; node = c .right })
+      | false ↦ elim (isVar T x (c .right)) [
+        | true ↦ some (record { op = flipped (c .op); node = c .left })
+        | false ↦ none
+      ]
+    ]
+
+-- "The first Lt or Le gives hi, the first Gt or Ge gives lo .. The index of each one taken goes to folded."
+unfoldable pub takeHi : ℕ → RangeEdge → Edges → Edges
+takeHi i edge e = elim (e .hi) [ none ↦ record { lo = e .lo; hi = some edge; folded = e .folded ++ (i ∷ []) } | some hi ↦ e ]
+
+unfoldable pub takeLo : ℕ → RangeEdge → Edges → Edges
+takeLo i edge e = elim (e .lo) [ none ↦ record { lo = some edge; hi = e .hi; folded = e .folded ++ (i ∷ []) } | some lo ↦ e ]
+
+abbrev pub edge : List ℕ → Bool → RangeEdge
+edge value inclusive = record { value = value; inclusive = inclusive }
+
+-- "Le and Ge are inclusive."
+unfoldable pub takeEdge : ℕ → CompareOp → List ℕ → Edges → Edges
+takeEdge i CompareOp.Lt value e = takeHi i (edge value false) e
+takeEdge i CompareOp.Le value e = takeHi i (edge value true) e
+takeEdge i CompareOp.Gt value e = takeLo i (edge value false) e
+takeEdge i CompareOp.Ge value e = takeLo i (edge value true) e
+
+-- the op and bytes of a comparison that can give an edge: its "other side's constant is bytes"
+pub record Sided : Type 0 where
+  pub op : CompareOp
+  pub value : List ℕ
+
+unfoldable pub sided : Tables → ℕ → ℕ → Comparison → Option Sided
+sided T x t c = do
+  other ← compared T x c
+  constant′ ← constant T (other .node) t
+  value ← bytesOnly constant′
+  some (record { op = other .op; value = value })
+
+-- the comparisons in file order; i is the first one's index
+unfoldable pub foldFrom : Tables → ℕ → ℕ → ℕ → List Comparison → Edges → Edges
+foldFrom T x t i [] e = e
+foldFrom T x t i (c ∷ cs) e = foldFrom T x t (suc i) cs (elim (sided T x t c) [ none ↦ e | some s ↦ takeEdge i (s .op) (s .value) e ])
+
+-- "Bound: while building, the comparisons .." (Rust `bound`)
+unfoldable pub placeBound : Tables → ℕ → ℕ → SeekBuilder → SeekBuilder
+placeBound T x t b = elim (b .building) [ true ↦ withEdges (foldFrom T x t 0 (T .comparisons) (b .edges)) b | false ↦ b ]
+
+unfoldable pub place : Tables → Event → SeekBuilder → SeekBuilder
+place T (Event.narrow path x) b = placeNarrowing path x b
+place T Event.skip b = fall b
+place T Event.closer b = placeCloser (b .opened) b
+place T (Event.bound x t) b = placeBound T x t b
+
+-- "Placement begins anew at each level and takes its events one by one"
+unfoldable pub placeAll : Tables → List Event → SeekBuilder → SeekBuilder
+placeAll T [] b = b
+placeAll T (e ∷ es) b = placeAll T es (place T e b)
+
+pub data SeekKey : Type 0 where
+  Prefix : List ℕ → SeekKey
+  Composite : List SeekKeyPart → SeekKey
+  PrefixRange : List SeekKeyPart → Range → SeekKey
+  Bounded : List SeekKeyPart → Option RangeEdge → Option RangeEdge → SeekKey
+
+-- "Prefix (parts joined) if all parts are bytes, none included"
+unfoldable pub joined : List SeekKeyPart → Option (List ℕ)
+joined [] = some []
+joined (SeekKeyPart.Bytes bytes ∷ parts) = do
+  rest ← joined parts
+  some (bytes ++ rest)
+joined (SeekKeyPart.RegisterField address path ∷ parts) = none
+joined (SeekKeyPart.RegisterFactId address ∷ parts) = none
+
+unfoldable pub unranged : List SeekKeyPart → SeekKey
+unranged parts = elim (joined parts) [ some bytes ↦ SeekKey.Prefix bytes | none ↦ SeekKey.Composite parts ]
+
+-- "Seek: Bounded with an edge, else PrefixRange with a range, else Prefix .., else Composite." (Rust `seek_key`)
+unfoldable pub seek : List SeekKeyPart → Option Range → Option RangeEdge → Option RangeEdge → SeekKey
+seek parts range (some lo) hi = SeekKey.Bounded parts (some lo) hi
+seek parts range none (some hi) = SeekKey.Bounded parts none (some hi)
+seek parts (some range) none none = SeekKey.PrefixRange parts range
+seek parts none none none = unranged parts
+
+unfoldable pub seekKey : SeekBuilder → SeekKey
+seekKey b = seek (b .parts) (b .range) (b .edges .lo) (b .edges .hi)
+
+unfoldable pub openPlacement : Unit {0}
+unfolding new withPart withResidual withGuide withRange withEdges withCloser withOpened fall placePart placePrefix rangeAt attachable placeFuzzy placeNarrowing closePart placeCloser flipped isVar compared takeHi takeLo takeEdge sided foldFrom placeBound place placeAll joined unranged seek seekKey
+openPlacement = tt
