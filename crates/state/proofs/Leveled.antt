@@ -1,0 +1,154 @@
+-- One level in the memory, measured and then written: it stands in the plan as the written rules have it, or the rules' plan is really too long.
+use mathlib.Core.Bool.{true, false}
+use mathlib.Core.List.{List, [], _++_}
+use mathlib.Core.Path.{_≡_, refl, sym, ap, _∙_, subst}
+use Prim.Native.Nat.{ℕ, _+_, _<_, min}
+use native.Mathlib.Nat.{zero-add}
+use native.Mathlib.Omega.{arith}
+use borrow.Author.Tests.{leb-false}
+use lib.Dec.{leb}
+use lib.ListN.{length, length-append}
+use lib.Seq.{sets, length-sets}
+use Rattle.rules.specs.Base.{Each, done, all, concatMap}
+use Rattle.rules.specs.Limits.{planLimit}
+use Rattle.rules.specs.File.{Tables, LevelEntry, predicateAt}
+use Rattle.rules.specs.Events.{Lists, Walk}
+use Rattle.rules.specs.Walk.{walkLevel}
+use Rattle.rules.specs.Placement.{SeekBuilder, new, placeAll}
+use Rattle.rules.specs.Levels as Rules
+use Rattle.rules.specs.Plan as Plan
+use Rattle.rules.specs.Demand3.{Adds, number}
+use Rattle.rules.proofs.Cases.{by-test, true≢false}
+use Rattle.rules.proofs.Alone.{walk-keeps}
+use Rattle.rules.proofs.Lists.{AddsTo, adds-keeps}
+use Rattle.rules.proofs.Numbers.{Bounded}
+use Rattle.rules.proofs.Runs.{goes-key}
+use Rattle.rules.proofs.Sound.{BindingOk, Sound}
+use Rattle.state.specs.State.{Ends, Target, State, state, newLevel, measuring, stop}
+use Rattle.state.specs.Ops.{ops}
+use Rattle.state.specs.Levels.{levelEnd, frame, Written, written, begin, walked, rewritten, measured, level}
+use Rattle.state.proofs.Seqs.{sets-append}
+use Rattle.state.proofs.Mem.{Mem, mem-back}
+use Rattle.state.proofs.Sizes.{summary, weight, Sane}
+use Rattle.state.proofs.Growth.{built, met, listSize, Grew, grew-keeps}
+use Rattle.state.proofs.Rel.{planAs, Good, Rel, of-good}
+use Rattle.state.proofs.Sim.{PathWithin, Name, numbers, simulates}
+use Rattle.state.proofs.Frame.{leveled, writeAt, level-written, level-end, level-weight}
+
+-- an entry that an accepted file may have
+pub record EntryOk (T : Tables) (l : LevelEntry) : Type 0 where
+  pub predicate : l .predicate < length (T .predicates)
+  pub address : l .address < 65536
+
+-- a level begins
+sane-new : Sane 0 new
+unfolding new number
+sane-new = record { clean = λ e. refl; no-range = λ e. refl; no-guide = λ e. refl; solid = done; counted = omega arith }
+
+level-new : newLevel ≡ summary 0 new
+unfolding newLevel summary new all concatMap
+level-new = refl
+
+plan-new : (t : Target) (base : List ℕ) → base ≡ planAs t base new
+unfolding planAs new concatMap
+plan-new t base = by-test (λ (p : List ℕ). base ≡ p) (t .writing) (λ e. refl) (λ e. refl)
+
+abbrev fresh : Lists → Walk
+fresh l = record { lists = l; events = [] }
+
+rel-begin : (T : Tables) (t : Target) (l : Lists) (e : Ends) (s : State) → s .over ≡ false → Mem T l e (s .work) → Rel T t (s .plan) (fresh l) (begin e t s)
+unfolding begin placeAll Rules.narrowings
+rel-begin T t l e s o m = of-good T t (s .plan) l 0 new (begin e t s) o sane-new (record { mem = m; level = level-new; target = refl; plan = plan-new t (s .plan) })
+
+-- what is only measured writes nothing
+unmeasured : (base : List ℕ) (b : SeekBuilder) → planAs measuring base b ≡ base
+unfolding measuring planAs
+unmeasured base b = refl
+
+-- Between levels: the lists in the work area, and the plan written up to `front`.
+pub record Between (T : Tables) (base : List ℕ) (l : Lists) (front : List ℕ) (w : Written) : Type 0 where
+  pub mem : Mem T l (w .state .ends) (w .state .work)
+  pub at : w .at ≡ length front
+  pub plan : w .state .plan ≡ sets base 0 front
+
+-- After a level: so far written, or too long. `long` is what the plan would be at least.
+pub record After (T : Tables) (base : List ℕ) (l : Lists) (front : List ℕ) (long : ℕ) (w : Written) : Type 0 where
+  pub live : w .state .over ≡ false → Between T base l front w
+  pub dead : w .state .over ≡ true → min planLimit (length base) < long
+
+module _ (T : Tables) (S : Sound T) (bounded : Bounded T) where
+  -- two runs of an entry's walk
+  walk-related : (entry : LevelEntry) → EntryOk T entry → (t : Target) (base : List ℕ) (l : Lists) → Each (BindingOk T) (l .bindings) → (c : State) → Rel T t base (fresh l) c → Rel T t base (walkLevel T entry l) (walked T entry c)
+  unfolding walkLevel walked
+  walk-related entry ok t base l fit c r =
+      goes-key T S PathWithin Name (numbers T bounded) (ops T) (λ s. s .over) (entry .address) (Grew T) (Rel T t base) (grew-keeps T) (simulates T t base S bounded (entry .address) (ok .address))
+      (entry .node) (predicateAt T (entry .predicate) .key) (fresh l) c (S .keys (entry .predicate) (ok .predicate)) fit r .rel
+
+  module _ (base : List ℕ) (entry : LevelEntry) (ok : EntryOk T entry) (l : Lists) (fit : Each (BindingOk T) (l .bindings)) (front : List ℕ) where
+    -- the rules' level, and its bytes
+    abbrev W : Walk
+    W = walkLevel T entry l
+
+    abbrev bytes : List ℕ
+    bytes = Plan.levelBytes (leveled (met W) (built T W))
+
+    abbrev Ends′ : Written → Type 0
+    Ends′ w = After T base (W .lists) (front ++ bytes) (length front + length bytes + listSize T (W .lists)) w
+
+    -- lists and level that are longer than a plan
+    too-long : planLimit < listSize T (W .lists) + weight (built T W) → min planLimit (length base) < length front + length bytes + listSize T (W .lists)
+    too-long h = omega (arith, h, level-weight (met W) (built T W))
+
+    ends-over : (at : ℕ) (c : State) → c .over ≡ true → min planLimit (length base) < length front + length bytes + listSize T (W .lists) → Ends′ (written at c)
+    ends-over at c e h = record { live = λ q. absurd (true≢false (sym e ∙ q)); dead = λ q. h }
+
+    adds : Adds l (W .lists)
+    adds = walk-keeps T S AddsTo (adds-keeps T) entry (ok .predicate) l fit .0
+
+    -- measured, and then written
+    ends-rewritten : (e : Ends) (at : ℕ) (work : List ℕ) (m : State) → at ≡ length front → Mem T l e work → m .over ≡ false → Good T measuring (sets base 0 front) (W .lists) (met W) (built T W) m → Ends′ (written (levelEnd at (m .level)) (rewritten T entry e at m))
+    unfolding rewritten
+    ends-rewritten e at work m eat mem o g =
+        record {
+          live = λ q.
+              let h = again .live q in
+              record {
+                mem = h .mem;
+                at = omega (arith, eat, ap (levelEnd at) (g .level), level-end at (met W) (built T W), length-append front bytes);
+                plan = h .plan
+                    ∙ (λ i. planAs (writeAt at (g .level i)) (frame at (g .level i) (measured-plan i)) (built T W))
+                    ∙ level-written (sets base 0 front) at (met W) (built T W)
+                    ∙ ap (λ (k : ℕ). sets (sets base 0 front) k bytes) (eat ∙ sym (zero-add (length front)))
+                    ∙ sym (sets-append base 0 front bytes);
+              };
+          dead = λ q. too-long (again .dead q);
+        }
+      where
+        framed : State
+        framed = state (m .over) (m .ends) (m .level) (m .target) (m .work) (frame at (m .level) (m .plan))
+
+        again : Rel T (writeAt at (m .level)) (frame at (m .level) (m .plan)) W (walked T entry (begin e (writeAt at (m .level)) framed))
+        again =
+            walk-related entry ok (writeAt at (m .level)) (frame at (m .level) (m .plan)) l fit (begin e (writeAt at (m .level)) framed)
+            (rel-begin T (writeAt at (m .level)) l e framed o (mem-back T l (W .lists) e (m .ends) work (m .work) mem (g .mem) adds))
+
+        measured-plan : m .plan ≡ sets base 0 front
+        measured-plan = g .plan ∙ unmeasured (sets base 0 front) (built T W)
+
+    ends-measured : (e : Ends) (at : ℕ) (work : List ℕ) (m : State) → at ≡ length front → Mem T l e work → Rel T measuring (sets base 0 front) W m → Ends′ (measured T entry e at m)
+    unfolding measured stop
+    ends-measured e at work m eat mem r =
+        by-test Ends′ (m .over)
+        (λ o. ends-over at m o (too-long (r .dead o)))
+        (λ o. by-test Ends′ (leb (levelEnd at (m .level)) (min planLimit (length (m .plan))))
+        (λ q. ends-rewritten e at work m eat mem o (r .live o))
+        (λ q. ends-over at (stop m) refl
+        (omega (arith, leb-false (levelEnd at (m .level)) (min planLimit (length (m .plan))) q, eat, ap (levelEnd at) (r .live o .level), level-end at (met W) (built T W), ap length (r .live o .plan ∙ unmeasured (sets base 0 front) (built T W)), length-sets base 0 front))))
+
+    -- from one level to the next
+    pub ends-level : (w : Written) → w .state .over ≡ false → Between T base l front w → Ends′ (level T entry w)
+    unfolding level
+    ends-level w o b =
+        ends-measured (w .state .ends) (w .at) (w .state .work) _ (b .at) (b .mem)
+        (subst (λ (p : List ℕ). Rel T measuring p W (walked T entry (begin (w .state .ends) measuring (w .state)))) (b .plan)
+        (walk-related entry ok measuring (w .state .plan) l fit (begin (w .state .ends) measuring (w .state)) (rel-begin T measuring l (w .state .ends) (w .state) o (b .mem))))

@@ -1,0 +1,209 @@
+-- The memory's run of a level's walk and the written rules' run of it, side by side: related states end in related states.
+use mathlib.Core.Bool.{false}
+use mathlib.Core.List.{List, [], _∷_, _++_, append-assoc}
+use mathlib.Core.Option.{some}
+use mathlib.Core.Path.{_≡_, refl, sym, ap, _∙_, subst, subst₂}
+use Prim.Native.Nat.{ℕ, _+_, _≤_, _<_}
+use native.Mathlib.Nat.{add-zero}
+use native.Mathlib.Omega.{arith}
+use lib.ListN.{length, drop}
+use lib.Seq.{drop-append-seam}
+use Rattle.rules.specs.Base.{Each, done, concatMap}
+use Rattle.rules.specs.File.{Tables, FieldTy, Alternative, Ty, FieldPath, Slot, Binding, typeAt, nodeAt, recordTy, unionTy, fieldPath, then, payload}
+use Rattle.rules.specs.Events.{Code, Select, Diagnostic, Narrowing, Event, Lists, Walk, bind, constrained, select, report, emit}
+use Rattle.rules.specs.Walk.{narrowing}
+use Rattle.rules.specs.Placement.{SeekBuilder, place, placeNarrowing, placeBound, fall, closePart, withOpened}
+use Rattle.rules.specs.Levels.{narrowings}
+use Rattle.rules.specs.Plan as Plan
+use Rattle.rules.proofs.Cases.{some≢none, some-injective}
+use Rattle.rules.proofs.Each.{each-imply, each-getD, each-snoc, each-all}
+use Rattle.rules.proofs.Keeps.{narrow, skip}
+use Rattle.rules.proofs.Numbers.{TypeNumbers, NodeNumbers, Bounded}
+use Rattle.rules.proofs.RoundTrip.{PathNumbers, BindingNumbers}
+use Rattle.rules.proofs.Runs.{Numbers, Stands, Sim}
+use Rattle.state.specs.State.{Level, Target, State, unless, made, constrainedAt, selectsAt, diagnosticsAt, runsEnd}
+use Rattle.rules.proofs.Sound.{Sound}
+use Rattle.state.specs.Ops as Ops
+use Rattle.state.specs.Ops.{ops}
+use Rattle.state.proofs.Seqs.{length-snoc, length-least}
+use Rattle.state.proofs.Stopped.{stopped}
+use Rattle.state.proofs.Fitting.{all-fitting}
+use Rattle.state.proofs.Made.{binding-length}
+use Rattle.state.proofs.Mem.{mem-bind, mem-constrain, mem-select, mem-report, mem-lookup, same-reported}
+use Rattle.state.proofs.Sizes.{summary, Sane}
+use Rattle.state.proofs.Growth.{built, met, built-emit, met-emit, listSize, Grew, Larger, larger, grew-bind, grew-constrained, grew-select, grew-report, grew-skip, grew-bound, grew-constant, grew-register, grew-fact, larger-tag, larger-closer, built-closer}
+use Rattle.state.proofs.Rel.{Good, RelAt, Rel, rel-stays, rel-unless, rel-append, rel-counted, rel-fall, rel-bound, rel-close, rel-narrowing, good-opened}
+
+-- The walk's own paths: fields and steps within their fields.
+pub record PathWithin (p : FieldPath) : Type 0 where
+  pub field : p .field < 65536
+  pub steps : Each (λ n. n < 4294967296) (p .steps)
+
+abbrev pub Name : ℕ → Type 0
+Name x = x < 65536
+
+type-numbers : (T : Tables) → Bounded T → (t : ℕ) → TypeNumbers (typeAt T t)
+unfolding typeAt
+type-numbers T b t = each-getD t (b .types) tt
+
+node-numbers : (T : Tables) → Bounded T → (n : ℕ) → NodeNumbers (nodeAt T n)
+unfolding nodeAt
+node-numbers T b n = each-getD n (b .nodes) tt
+
+record-few : (ty : Ty) (fs : List FieldTy) → TypeNumbers ty → recordTy ty ≡ some fs → length fs < 256
+unfolding recordTy
+record-few Ty.Int fs h e = absurd (some≢none fs (sym e))
+record-few Ty.Str fs h e = absurd (some≢none fs (sym e))
+record-few Ty.Bytes fs h e = absurd (some≢none fs (sym e))
+record-few (Ty.Fact p) fs h e = absurd (some≢none fs (sym e))
+record-few (Ty.Record gs) fs h e = subst (λ (x : List FieldTy). length x < 256) (some-injective gs fs e) h
+record-few (Ty.Union alts) fs h e = absurd (some≢none fs (sym e))
+
+union-discs : (ty : Ty) (alts : List Alternative) → TypeNumbers ty → unionTy ty ≡ some alts → Each (λ a. a .disc < 4294967296) alts
+unfolding unionTy
+union-discs Ty.Int alts h e = absurd (some≢none alts (sym e))
+union-discs Ty.Str alts h e = absurd (some≢none alts (sym e))
+union-discs Ty.Bytes alts h e = absurd (some≢none alts (sym e))
+union-discs (Ty.Fact p) alts h e = absurd (some≢none alts (sym e))
+union-discs (Ty.Record fs) alts h e = absurd (some≢none alts (sym e))
+union-discs (Ty.Union as′) alts h e = subst (λ (x : List Alternative). Each (λ a. a .disc < 4294967296) x) (some-injective as′ alts e) h
+
+within-then : (p : FieldPath) (i : ℕ) → PathWithin p → i < 4294967296 → PathWithin (then p i)
+unfolding then
+within-then p i h l = record { field = h .field; steps = each-snoc (h .steps) l }
+
+within-first : (i : ℕ) → i < 65536 → PathWithin (fieldPath i)
+unfolding fieldPath
+within-first i h = record { field = h; steps = done }
+
+pub numbers : (T : Tables) → Bounded T → Numbers T PathWithin Name
+unfolding payload
+numbers T b =
+    record {
+      scalar = within-first 0 (omega arith);
+      first = λ t i fs e l. within-first i (omega (arith, record-few (typeAt T t) fs (type-numbers T b t) e));
+      next = λ p t i fs h e l. within-then p i h (omega (arith, record-few (typeAt T t) fs (type-numbers T b t) e));
+      tag = λ p t alts h e. each-imply (λ a d. within-then p (a .disc) h d) (union-discs (typeAt T t) alts (type-numbers T b t) e);
+      names = λ n x e. subst NodeNumbers e (node-numbers T b n);
+    }
+
+-- what a list would take with one entry more, where it has no room
+new-after : (T : Tables) (l : Lists) (new more′ : List Binding) → l .bindings ≡ T .bindings ++ new → drop (length (T .bindings)) (l .bindings ++ more′) ≡ new ++ more′
+new-after T l new more′ e =
+    ap (λ (bs : List Binding). drop (length (T .bindings)) (bs ++ more′)) e ∙ ap (drop (length (T .bindings))) (append-assoc (T .bindings) new more′) ∙ drop-append-seam (T .bindings) (new ++ more′)
+
+select-length : (s : Select) → 1 ≤ length (Plan.select s)
+unfolding Plan.select Plan.u16
+select-length s = omega arith
+
+module _ (T : Tables) (t : Target) (base : List ℕ) where
+  -- The four lists.
+  rel-bind : (x : ℕ) (slot : Slot) (w : Walk) (c : State) → BindingNumbers (record { name = x; slot = slot }) → Rel T t base w c → Rel T t base (bind x slot w) (Ops.bind x slot c)
+  unfolding bind Ops.bind listSize
+  rel-bind x slot w c numbers r =
+      rel-unless T t base w (bind x slot w) c _ (larger (grew-bind T x slot w)) r λ e g s.
+      let b : Binding = record { name = x; slot = slot } in
+      let m = g .mem in
+      rel-counted T t base (bind x slot w .lists) (met w) (built T w) c _ (c .ends .bindings) constrainedAt (Plan.binding b) _
+      (omega (arith, m .bindingCount, length-least Plan.binding (each-all (m .new) binding-length), m .bindings .fits))
+      (rel-append T t base (bind x slot w .lists) (met w) (built T w) c (c .ends .bindings) constrainedAt (Plan.binding b) _ e s
+      (λ h. record { mem = mem-bind T (w .lists) (c .ends) (c .work) m b numbers h; level = g .level; target = g .target; plan = g .plan })
+      (λ h. omega (arith, h, m .bindings .ends, length-snoc Plan.binding (m .new) b, ap (λ (bs : List Binding). length (concatMap Plan.binding bs)) (new-after T (w .lists) (m .new) (b ∷ []) (m .bindings-are)))))
+
+  rel-constrained : (x : ℕ) (w : Walk) (c : State) → Rel T t base w c → Rel T t base (constrained x w) (Ops.constrained x c)
+  unfolding constrained Ops.constrained listSize
+  rel-constrained x w c r =
+      rel-unless T t base w (constrained x w) c _ (larger (grew-constrained T x w)) r λ e g s.
+      rel-append T t base (constrained x w .lists) (met w) (built T w) c (c .ends .constrained) selectsAt (Plan.u16 x) _ e s
+      (λ h. record { mem = mem-constrain T (w .lists) (c .ends) (c .work) (g .mem) x h; level = g .level; target = g .target; plan = g .plan })
+      (λ h. omega (arith, h, g .mem .constrained .ends, length-snoc Plan.u16 (w .lists .constrained) x))
+
+  rel-select : (a : ℕ) (p : FieldPath) (d : ℕ) (w : Walk) (c : State) → Rel T t base w c → Rel T t base (select a p d w) (Ops.select a p d c)
+  unfolding select Ops.select listSize
+  rel-select a p d w c r =
+      rel-unless T t base w (select a p d w) c _ (larger (grew-select T a p d w)) r λ e g s.
+      let k : Select = record { address = a; path = p; disc = d } in
+      let m = g .mem in
+      rel-counted T t base (select a p d w .lists) (met w) (built T w) c _ (c .ends .selects) diagnosticsAt (Plan.select k) _
+      (omega (arith, m .selectCount, length-least Plan.select (each-all (w .lists .selects) select-length), m .selects .fits))
+      (rel-append T t base (select a p d w .lists) (met w) (built T w) c (c .ends .selects) diagnosticsAt (Plan.select k) _ e s
+      (λ h. record { mem = mem-select T (w .lists) (c .ends) (c .work) m k h; level = g .level; target = g .target; plan = g .plan })
+      (λ h. omega (arith, h, m .selects .ends, length-snoc Plan.select (w .lists .selects) k)))
+
+  rel-report : (n : ℕ) (code : Code) (w : Walk) (c : State) → Rel T t base w c → Rel T t base (report n code w) (Ops.report n code c)
+  unfolding report Ops.report listSize
+  rel-report n code w c r =
+      rel-unless T t base w (report n code w) c _ (larger (grew-report T n code w)) r λ e g s.
+      let d : Diagnostic = record { node = n; code = code } in
+      rel-append T t base (report n code w .lists) (met w) (built T w) c (c .ends .diagnostics) runsEnd (Plan.diagnostic d) _ e s
+      (λ h. record { mem = mem-report T (w .lists) (c .ends) (c .work) (g .mem) d h; level = g .level; target = g .target; plan = g .plan })
+      (λ h. omega (arith, h, g .mem .diagnostics .ends, length-snoc Plan.diagnostic (w .lists .diagnostics) d))
+
+  -- The level's events. One whose level is known:
+  rel-emit : (ev : Event) (w : Walk) (c : State) (f : State → State) (b : SeekBuilder) → built T (emit ev w) ≡ b → Larger T w (emit ev w) → Rel T t base w c
+      → (c .over ≡ false → Good T t base (w .lists) (met w) (built T w) c → Sane (met w + narrowings (ev ∷ [])) b → RelAt T t base (w .lists) (met w + narrowings (ev ∷ [])) b (f c))
+      → Rel T t base (emit ev w) (unless f c)
+  unfolding emit
+  rel-emit ev w c f b same g r k =
+      rel-unless T t base w (emit ev w) c f g r λ e good s.
+      subst₂ (λ (n : ℕ) (b′ : SeekBuilder). RelAt T t base (w .lists) n b′ (f c)) (sym (met-emit ev w)) (sym same) (k e good (subst₂ Sane (met-emit ev w) same s))
+
+  -- one that does not narrow
+  rel-quiet : (ev : Event) (w : Walk) (c : State) (f : State → State) (b : SeekBuilder) → narrowings (ev ∷ []) ≡ 0 → built T (emit ev w) ≡ b → Larger T w (emit ev w) → Rel T t base w c
+      → (c .over ≡ false → Good T t base (w .lists) (met w) (built T w) c → Sane (met w) b → RelAt T t base (w .lists) (met w) b (f c))
+      → Rel T t base (emit ev w) (unless f c)
+  rel-quiet ev w c f b none-met same g r k =
+      let n = ap (λ (m : ℕ). met w + m) none-met ∙ add-zero (met w) in
+      rel-emit ev w c f b same g r λ e good s.
+      subst (λ (m : ℕ). RelAt T t base (w .lists) m b (f c)) (sym n) (k e good (subst (λ (m : ℕ). Sane m b) n s))
+
+  rel-skip : (w : Walk) (c : State) → Rel T t base w c → Rel T t base (skip w) (Ops.skip c)
+  unfolding place narrowings Ops.skip
+  rel-skip w c r =
+      rel-quiet Event.skip w c (Ops.relevel Ops.fall) (fall (built T w)) refl (built-emit T Event.skip w) (larger (grew-skip T w)) r λ e g s.
+      rel-fall T t base (w .lists) (met w) (built T w) c e g s
+
+  rel-bounds : (x ty : ℕ) (w : Walk) (c : State) → Rel T t base w c → Rel T t base (emit (Event.bound x ty) w) (Ops.bound T x ty c)
+  unfolding place narrowings Ops.bound
+  rel-bounds x ty w c r =
+      rel-quiet (Event.bound x ty) w c (Ops.relevel (Ops.boundLevel T x ty)) (placeBound T x ty (built T w)) refl (built-emit T (Event.bound x ty) w) (larger (grew-bound T x ty w)) r λ e g s.
+      rel-bound T t base (w .lists) (met w) (built T w) c e g x ty s
+
+  rel-narrow : (p : FieldPath) (x : Narrowing) (w : Walk) (c : State) → Larger T w (narrow p x w) → Rel T t base w c → Rel T t base (narrow p x w) (Ops.narrow p x c)
+  unfolding place narrowings Ops.narrow
+  rel-narrow p x w c g r =
+      rel-emit (Event.narrow p x) w c (Ops.narrowing p x) (placeNarrowing p x (built T w)) (built-emit T (Event.narrow p x) w) g r λ e good s.
+      rel-narrowing T t base (w .lists) (met w) (built T w) c e good (r .sane) p x s
+
+  rel-closer : (d : ℕ) (p : FieldPath) (w w′ : Walk) (c c′ : State) → Rel T t base w c → Grew T (narrow p (Narrowing.Tag d) w) w′ → (c′ .over ≡ false → c .over ≡ false) → Rel T t base w′ c′ → Rel T t base (emit Event.closer w′) (Ops.closer c c′)
+  unfolding narrowings Ops.closer summary withOpened
+  rel-closer d p w w′ c c′ r g on r′ =
+      rel-quiet Event.closer w′ c′ (Ops.close (c .level .building)) (closePart (built T w .building) (withOpened (built T w .opened) (built T w′))) refl (built-closer T d p w w′ g) (larger-closer T d p w w′ g) r′ λ e good s.
+      rel-close T t base (w′ .lists) (met w′) (withOpened (built T w .opened) (built T w′)) c′ e (good-opened T t base (w′ .lists) (met w′) (built T w′) c′ (built T w .opened) good)
+      (built T w .building) (c .level .building) (ap (λ (x : Level). x .building) (r .live (on e) .level)) (r′ .sane .clean) s
+
+  -- All of it, for a level whose address is within its field.
+  pub simulates : Sound T → Bounded T → (address : ℕ) → address < 65536 → Sim T PathWithin Name (ops T) (λ c. c .over) address (Grew T) (Rel T t base)
+  unfolding made
+  simulates S bounded address h =
+      record {
+        idle = stopped T;
+        stays = λ w w′ c e g r. rel-stays T t base w w′ c e (larger g) r;
+        lookups = λ w c f e r x. ap (Ops.fitting T) (mem-lookup T (w .lists) (c .ends) (c .work) (r .live e .mem) x) ∙ all-fitting T S (w .lists .bindings) f x;
+        reported = λ w w′ c c′ e e′ r r′. same-reported T (w .lists) (w′ .lists) (c .ends) (c′ .ends) (c .work) (c′ .work) (r .live e .mem) (r′ .live e′ .mem);
+        fields = λ x ty p w c n s r. rel-bind x (Slot.Field address p ty) w c (record { name = n; slot = (h, path-numbers p ty s, omega (arith, bounded .few-types, s .fits .in-types)) }) r;
+        keys = λ x ty w c n l r. rel-bind x (Slot.Key address ty) w c (record { name = n; slot = (h, omega (arith, bounded .few-types)) }) r;
+        constrains = rel-constrained;
+        selects = λ n p d w c s r. rel-select n p d w c r;
+        reports = rel-report;
+        skips = rel-skip;
+        bounds = λ x ty w c r. rel-skip _ _ (rel-bounds x ty w c r);
+        constants = λ n ty k p w c e s r. rel-narrow p (narrowing k) w c (larger (grew-constant T n ty k p w e)) r;
+        registers = λ n at p w c s s′ r. rel-narrow p (Narrowing.RegisterField n at) w c (larger (grew-register T n at p w)) r;
+        facts = λ n p w c s r. rel-narrow p (Narrowing.FactId n) w c (larger (grew-fact T n p w)) r;
+        tags = λ d p w c s r. rel-narrow p (Narrowing.Tag d) w c (larger-tag T d p w) r;
+        closers = λ d p w w′ c c′ s r g on r′. rel-closer d p w w′ c c′ r g on r′;
+      }
+    where
+      path-numbers : (p : FieldPath) (ty : ℕ) → Stands T PathWithin p ty → PathNumbers p
+      path-numbers p ty s = record { field = s .within .field; count = omega (arith, s .fits .short); steps = s .within .steps }

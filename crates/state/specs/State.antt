@@ -1,0 +1,125 @@
+-- What the compiler keeps while it walks: the four lists as records in the work area, a level as counts and sizes, and where its bytes go in the plan.
+use mathlib.Core.Bool.{Bool, true, false}
+use mathlib.Core.List.{List, [], _∷_}
+use mathlib.Core.Option.{Option, none, some}
+use Prim.Native.Nat.{ℕ, zero, suc, _+_, _*_, _-_}
+use lib.ListN.{length, take, drop}
+use lib.Dec.{leb}
+use lib.Seq.{sets, slice}
+use Rattle.rules.specs.Base.{both}
+use Rattle.rules.specs.Limits.{planLimit}
+use Rattle.rules.specs.File.{Binding}
+use Rattle.rules.specs.Read as Read
+use Rattle.rules.specs.Placement.{SeekKeyPart, Guide, Range, Edges}
+
+-- The work area's four runs, each as long as a plan may be: a list that does not fit its run does not fit a plan.
+abbrev pub bindingsAt : ℕ
+bindingsAt = 0
+
+abbrev pub constrainedAt : ℕ
+constrainedAt = 16384
+
+abbrev pub selectsAt : ℕ
+selectsAt = 32768
+
+abbrev pub diagnosticsAt : ℕ
+diagnosticsAt = 49152
+
+abbrev pub runsEnd : ℕ
+runsEnd = 65536
+
+-- Where each list ends in the work area; of the two lists whose records differ in length also how many there are.
+pub record Ends : Type 0 where
+  pub bindings : ℕ
+  pub bindingCount : ℕ
+  pub constrained : ℕ
+  pub selects : ℕ
+  pub selectCount : ℕ
+  pub diagnostics : ℕ
+
+abbrev pub ends : ℕ → ℕ → ℕ → ℕ → ℕ → ℕ → Ends
+ends b bs c s ss d = record { bindings = b; bindingCount = bs; constrained = c; selects = s; selectCount = ss; diagnostics = d }
+
+-- no record in any list
+unfoldable pub noEnds : Ends
+noEnds = ends bindingsAt 0 constrainedAt selectsAt 0 diagnosticsAt
+
+-- Counts of a level's narrowings, closers that became parts, parts and residuals; the bytes of its parts joined and in plan form, and of its residuals in plan form.
+pub record Counts : Type 0 where
+  pub narrowings : ℕ
+  pub closers : ℕ
+  pub parts : ℕ
+  pub residuals : ℕ
+  pub joined : ℕ
+  pub parted : ℕ
+  pub rest : ℕ
+
+abbrev pub counts : ℕ → ℕ → ℕ → ℕ → ℕ → ℕ → ℕ → Counts
+counts n c p r j q s = record { narrowings = n; closers = c; parts = p; residuals = r; joined = j; parted = q; rest = s }
+
+-- plain: all parts are bytes
+pub record Level : Type 0 where
+  pub building : Bool
+  pub plain : Bool
+  pub counts : Counts
+  pub guide : Option Guide
+  pub range : Option Range
+  pub edges : Edges
+
+-- "A level starts building, with nothing set."
+unfoldable pub newLevel : Level
+newLevel = record { building = true; plain = true; counts = counts 0 0 0 0 0 0 0; guide = none; range = none; edges = record { lo = none; hi = none; folded = [] } }
+
+-- Whether a level is written or only measured; whether its parts are joined; where its parts and its residuals begin in the plan.
+pub record Target : Type 0 where
+  pub writing : Bool
+  pub joining : Bool
+  pub partsAt : ℕ
+  pub restAt : ℕ
+
+unfoldable pub measuring : Target
+measuring = record { writing = false; joining = false; partsAt = 0; restAt = 0 }
+
+-- over: the plan is too long, and nothing changes any more
+pub record State : Type 0 where
+  pub over : Bool
+  pub ends : Ends
+  pub level : Level
+  pub target : Target
+  pub work : List ℕ
+  pub plan : List ℕ
+
+abbrev pub state : Bool → Ends → Level → Target → List ℕ → List ℕ → State
+state o e l t w p = record { over = o; ends = e; level = l; target = t; work = w; plan = p }
+
+unfoldable pub stop : State → State
+stop s = state true (s .ends) (s .level) (s .target) (s .work) (s .plan)
+
+-- a change, unless the plan is too long already
+unfoldable pub unless : (State → State) → State → State
+unless f s = elim (s .over) [ true ↦ s | false ↦ f s ]
+
+-- The bindings that records of the rule file's form hold.
+unfoldable pub bindingsIn : ℕ → List ℕ → List Binding
+bindingsIn zero bytes = []
+bindingsIn (suc n) bytes = elim (Read.binding bytes) [ Read.got b rest ↦ b ∷ bindingsIn n rest | Read.refused k ↦ [] ]
+
+-- those that the walks have made so far
+unfoldable pub made : State → List Binding
+made s = let bytes = slice bindingsAt (s .ends .bindings) (s .work) in bindingsIn (length bytes) bytes
+
+-- Sizes: a level is too long where its parts, joined while all are bytes, and its residuals are longer than a plan. The other numbers are kept below what
+-- their fields hold; past that the plan is too long too, since each of what they count has a byte of its own.
+unfoldable pub partBytes : Level → ℕ
+partBytes l = elim (l .plain) [ true ↦ l .counts .joined | false ↦ l .counts .parted ]
+
+unfoldable pub fits : Level → Bool
+fits l =
+    both (leb (partBytes l + l .counts .rest) planLimit)
+    (both (leb (l .counts .parted) 65536)
+    (both (leb (l .counts .narrowings) 65535)
+    (both (leb (l .counts .parts) 65535) (leb (l .counts .residuals) 65535))))
+
+unfoldable pub openState : Unit {0}
+unfolding noEnds newLevel measuring stop unless bindingsIn made partBytes fits
+openState = tt

@@ -1,0 +1,1 @@
+// The compiler's state while it walks a level.
