@@ -1,0 +1,5 @@
+pub mod Bottom
+pub mod Fill
+pub mod Marks
+pub mod Views
+pub mod Verdicts

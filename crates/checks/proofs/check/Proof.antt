@@ -1,0 +1,95 @@
+use mathlib.Core.Path.{_≡_, refl, sym, ap, ap₂, _∙_, subst}
+use mathlib.Core.Bool.{Bool, true, false}
+use native.Mathlib.Omega.{arith}
+use Prim.Native.Nat.{ℕ, _+_, _*_, _-_, _≤_, _<_, max}
+use lib.ListN.{length, getD, drop, take, length-set}
+use lib.Dec.{ltb, leb, eqb}
+use denote.Ref.{now}
+use borrow.Author.Tests.{lt-ltb, le-ltb, le-leb, lt-leb, not-true, not-false}
+use Rattle.rules.specs.Base.{both, all, concatMap}
+use Rattle.file.specs.Steps.{word, depthsBase, constantsBase}
+use Rattle.file.specs.Tables.{tablesOf, Indexed}
+use Rattle.views.specs.Views.{run}
+use Rattle.checks.proofs.Fill.{indexed-so}
+use Rattle.rules.specs.File.{depths}
+use Rattle.checks.proofs.Verdicts.{all-8, all-9, all-later, index-8, index-9, index-filled, checked, numbered, refused-accepted}
+use lib.Seq.{sets}
+use Rattle.checks.specs.Checked.{flagsOf}
+use borrow.Author.Needs.{needs}
+use Rattle.checks.proofs.check.Statement.{statement}
+use Rattle.checks.proofs.check.Tie as tie
+use Rattle.checks.proofs.check.Reads as reads
+use Rattle.checks.proofs.check.Lts as lts
+use Rattle.checks.proofs.fill_constants.Reads as fill-constants-reads
+use Rattle.checks.proofs.fill_depths.Reads as fill-depths-reads
+use Rattle.checks.proofs.later_checks.Reads as later-checks-reads
+use Rattle.numbers.proofs.children_lower.Reads as children-lower-reads
+use Rattle.numbers.proofs.numbers_in.Reads as numbers-in-reads
+
+-- src/lib.rt:415:9
+numbers-in-requires : tie.Need-numbers-in-requires
+numbers-in-requires c κs = c .before .before .before .pre
+
+-- src/lib.rt:416:9
+same-length : tie.Need-same-length
+same-length c = search needs
+
+-- src/lib.rt:416:9
+returns : tie.Need-returns
+returns c = let a = sym (c .before .numbers-in .ensures) ∙ not-true _ (c .if1 .taken) in (all-8 _ a, (index-8 _ _ a, λ e. absurd (refused-accepted e)))
+
+-- src/lib.rt:418:9
+children-lower-requires : tie.Need-children-lower-requires
+children-lower-requires c κs = c .before .before .before .before .before .before .pre
+
+-- src/lib.rt:419:9
+same-length-2 : tie.Need-same-length-2
+same-length-2 c = search needs
+
+-- src/lib.rt:419:9
+returns-2 : tie.Need-returns-2
+returns-2 c =
+    let a = sym (c .before .before .before .before .numbers-in .ensures) ∙ not-false _ (c .before .before .before .if1 .left) in
+    let b = sym (c .before .children-lower .ensures) ∙ not-true _ (c .if2 .taken) in
+    (all-9 _ a b, (index-9 _ _ a b, λ e. absurd (refused-accepted e)))
+
+-- src/lib.rt:421:5
+fill-depths-requires : tie.Need-fill-depths-requires
+fill-depths-requires c κs = (c .before .before .before .before .before .before .before .before .before .pre, sym (c .before .before .children-lower .ensures) ∙ not-false _ (c .before .if2 .left))
+
+-- src/lib.rt:422:5
+fill-constants-requires : tie.Need-fill-constants-requires
+fill-constants-requires c κs = (indexed-so _ _ _ (depths (tablesOf (now (c .before .before .before .before .before .before .before .before .before .before .before .before .before .args .file)))) depthsBase (omega arith) (c .before .before .before .fill-depths .ensures) (c .before .before .before .before .before .before .before .before .before .before .before .before .before .pre), sym (c .before .before .before .before .before .before .children-lower .ensures) ∙ not-false _ (c .before .before .before .before .before .if2 .left))
+
+-- src/lib.rt:423:5
+later-checks-requires : tie.Need-later-checks-requires
+later-checks-requires c κs = numbered _ _ _ _ (c .before .before .before .before .before .before .before .before .before .before .before .before .before .before .before .before .before .pre) (sym (c .before .before .before .before .before .before .before .before .before .before .before .before .before .numbers-in .ensures) ∙ not-false _ (c .before .before .before .before .before .before .before .before .before .before .before .before .if1 .left)) (sym (c .before .before .before .before .before .before .before .before .before .before .children-lower .ensures) ∙ not-false _ (c .before .before .before .before .before .before .before .before .before .if2 .left)) (c .before .before .before .before .before .before .before .fill-depths .ensures) (c .before .before .before .fill-constants .ensures)
+
+-- src/lib.rt:409:1
+same-length-3 : tie.Need-same-length-3
+same-length-3 c = c .before .before .before .before .fill-constants .kept .1 .0 ∙ c .before .before .before .before .before .before .before .before .fill-depths .kept .1 .0
+
+-- src/lib.rt:409:1
+returns-3 : tie.Need-returns-3
+returns-3 c =
+    let a = sym (c .before .before .before .before .before .before .before .before .before .before .before .before .before .before .numbers-in .ensures) ∙ not-false _ (c .before .before .before .before .before .before .before .before .before .before .before .before .before .if1 .left) in
+    let b = sym (c .before .before .before .before .before .before .before .before .before .before .before .children-lower .ensures) ∙ not-false _ (c .before .before .before .before .before .before .before .before .before .before .if2 .left) in
+    let i = c .before .before .before .before .fill-constants .ensures in
+    let d = c .before .before .before .before .before .before .before .before .fill-depths .ensures in
+    (c .later-checks .ensures ∙ all-later _ a b, (i ∙ ap (λ l. sets l constantsBase (flagsOf (tablesOf (now (c .before .before .before .before .before .before .before .before .before .before .before .before .before .before .before .before .before .before .args .file))))) d ∙ index-filled _ _ a b, λ e. checked _ _ (numbered _ _ _ _ (c .before .before .before .before .before .before .before .before .before .before .before .before .before .before .before .before .before .before .pre) a b d i) (sym (c .later-checks .ensures) ∙ e)))
+
+pub check-spec : {M : Type 1} → statement M
+check-spec =
+    tie.close
+    (tie.spec
+    numbers-in-requires
+    same-length
+    returns
+    children-lower-requires
+    same-length-2
+    returns-2
+    fill-depths-requires
+    fill-constants-requires
+    later-checks-requires
+    same-length-3
+    returns-3)

@@ -1,0 +1,83 @@
+use mathlib.Core.Path.{_≡_, refl, sym, ap, ap₂, _∙_, subst}
+use mathlib.Core.Bool.{Bool, true, false}
+use native.Mathlib.Omega.{arith}
+use Prim.Native.Nat.{ℕ, _+_, _*_, _-_, _≤_, _<_, max}
+use lib.ListN.{length, getD, drop, take, length-set}
+use lib.Dec.{ltb, leb, eqb}
+use denote.Ref.{now}
+use borrow.Author.Tests.{lt-ltb, le-ltb, le-leb, lt-leb, not-true, not-false}
+use Rattle.rules.specs.Base.{both, all, concatMap}
+use Rattle.file.specs.Steps.{word, depthsBase, constantsBase}
+use Rattle.file.specs.Tables.{tablesOf, Indexed}
+use Rattle.views.specs.Views.{run}
+use Rattle.checks.proofs.Verdicts.{later-10, later-11, later-12, later-13, later-14, later-none}
+use borrow.Author.Needs.{needs}
+use Rattle.checks.proofs.later_checks.Statement.{statement}
+use Rattle.checks.proofs.later_checks.Tie as tie
+use Rattle.checks.proofs.later_checks.Reads as reads
+use Rattle.checks.proofs.later_checks.Lts as lts
+use Rattle.checks.proofs.children_once.Reads as children-once-reads
+use Rattle.checks.proofs.consts_constant.Reads as consts-constant-reads
+use Rattle.checks.proofs.paths_fit.Reads as paths-fit-reads
+use Rattle.checks.proofs.types_shallow.Reads as types-shallow-reads
+use Rattle.numbers.proofs.types_distinct.Reads as types-distinct-reads
+
+-- src/lib.rt:390:9
+types-distinct-requires : tie.Need-types-distinct-requires
+types-distinct-requires c κs = c .before .before .pre .filled .indexed
+
+-- src/lib.rt:391:9
+returns : tie.Need-returns
+returns c = later-10 _ (sym (c .before .types-distinct .ensures) ∙ not-true _ (c .if1 .taken))
+
+-- src/lib.rt:393:9
+types-shallow-requires : tie.Need-types-shallow-requires
+types-shallow-requires c κs = c .before .before .before .before .pre .filled
+
+-- src/lib.rt:394:9
+returns-2 : tie.Need-returns-2
+returns-2 c = later-11 _ (sym (c .before .before .before .types-distinct .ensures) ∙ not-false _ (c .before .before .if1 .left)) (sym (c .before .types-shallow .ensures) ∙ not-true _ (c .if2 .taken))
+
+-- src/lib.rt:396:9
+children-once-requires : tie.Need-children-once-requires
+children-once-requires c κs = (c .before .before .before .before .before .before .pre .filled .indexed, c .before .before .before .before .before .before .pre .lower)
+
+-- src/lib.rt:397:9
+returns-3 : tie.Need-returns-3
+returns-3 c = later-12 _ (sym (c .before .before .before .before .before .types-distinct .ensures) ∙ not-false _ (c .before .before .before .before .if1 .left)) (sym (c .before .before .before .types-shallow .ensures) ∙ not-false _ (c .before .before .if2 .left)) (sym (c .before .children-once .ensures) ∙ not-true _ (c .if3 .taken))
+
+-- src/lib.rt:399:9
+consts-constant-requires : tie.Need-consts-constant-requires
+consts-constant-requires c κs = c .before .before .before .before .before .before .before .before .pre
+
+-- src/lib.rt:400:9
+returns-4 : tie.Need-returns-4
+returns-4 c = later-13 _ (sym (c .before .before .before .before .before .before .before .types-distinct .ensures) ∙ not-false _ (c .before .before .before .before .before .before .if1 .left)) (sym (c .before .before .before .before .before .types-shallow .ensures) ∙ not-false _ (c .before .before .before .before .if2 .left)) (sym (c .before .before .before .children-once .ensures) ∙ not-false _ (c .before .before .if3 .left)) (sym (c .before .consts-constant .ensures) ∙ not-true _ (c .if4 .taken))
+
+-- src/lib.rt:402:9
+paths-fit-requires : tie.Need-paths-fit-requires
+paths-fit-requires c κs = c .before .before .before .before .before .before .before .before .before .before .pre
+
+-- src/lib.rt:403:9
+returns-5 : tie.Need-returns-5
+returns-5 c = later-14 _ (sym (c .before .before .before .before .before .before .before .before .before .types-distinct .ensures) ∙ not-false _ (c .before .before .before .before .before .before .before .before .if1 .left)) (sym (c .before .before .before .before .before .before .before .types-shallow .ensures) ∙ not-false _ (c .before .before .before .before .before .before .if2 .left)) (sym (c .before .before .before .before .before .children-once .ensures) ∙ not-false _ (c .before .before .before .before .if3 .left)) (sym (c .before .before .before .consts-constant .ensures) ∙ not-false _ (c .before .before .if4 .left)) (sym (c .before .paths-fit .ensures) ∙ not-true _ (c .if5 .taken))
+
+-- src/lib.rt:386:1
+returns-6 : tie.Need-returns-6
+returns-6 c = later-none _ (sym (c .before .before .before .before .before .before .before .before .before .types-distinct .ensures) ∙ not-false _ (c .before .before .before .before .before .before .before .before .if1 .left)) (sym (c .before .before .before .before .before .before .before .types-shallow .ensures) ∙ not-false _ (c .before .before .before .before .before .before .if2 .left)) (sym (c .before .before .before .before .before .children-once .ensures) ∙ not-false _ (c .before .before .before .before .if3 .left)) (sym (c .before .before .before .consts-constant .ensures) ∙ not-false _ (c .before .before .if4 .left)) (sym (c .before .paths-fit .ensures) ∙ not-false _ (c .if5 .left))
+
+pub later-checks-spec : {M : Type 1} → statement M
+later-checks-spec =
+    tie.close
+    (tie.spec
+    types-distinct-requires
+    returns
+    types-shallow-requires
+    returns-2
+    children-once-requires
+    returns-3
+    consts-constant-requires
+    returns-4
+    paths-fit-requires
+    returns-5
+    returns-6)

@@ -1,0 +1,42 @@
+use mathlib.Core.Path.{_≡_, refl, sym, ap, ap₂, _∙_, subst}
+use mathlib.Core.Bool.{Bool, true, false}
+use native.Mathlib.Omega.{arith}
+use Prim.Native.Nat.{ℕ, _+_, _*_, _-_, _≤_, _<_, max}
+use lib.ListN.{length, getD, drop, take, length-set}
+use lib.Seq.{sets}
+use lib.Dec.{ltb, leb, eqb}
+use denote.Ref.{now}
+use borrow.Author.Tests.{lt-ltb, le-ltb, le-leb, lt-leb, not-true, not-false}
+use Rattle.rules.specs.Base.{both, all}
+use Rattle.file.specs.Steps.{word, depthsBase, constantsBase}
+use Rattle.file.specs.Tables.{tablesOf, Indexed}
+use Rattle.views.specs.Views.{run}
+use Rattle.checks.proofs.Marks.{first-met, met-again, once-none, marked-none}
+use borrow.Author.Needs.{needs}
+use Rattle.checks.proofs.mark.Statement.{statement}
+use Rattle.checks.proofs.mark.Tie as tie
+use Rattle.checks.proofs.mark.Reads as reads
+use Rattle.checks.proofs.mark.Lts as lts
+
+-- src/lib.rt:300:8
+slice-read-if1 : tie.Need-slice-read-if1
+slice-read-if1 c = search needs
+
+-- src/lib.rt:301:9
+returns : tie.Need-returns
+returns c = (sym (met-again _ _ _ (c .if1 .taken) .0), sym (met-again _ _ _ (c .if1 .taken) .1))
+
+-- src/lib.rt:303:5
+slice-write-marks : tie.Need-slice-write-marks
+slice-write-marks c = search needs
+
+-- src/lib.rt:295:1
+same-length : tie.Need-same-length
+same-length c = search needs
+
+-- src/lib.rt:295:1
+returns-2 : tie.Need-returns-2
+returns-2 c = (sym (first-met _ _ _ (c .if1 .left) .0 ∙ once-none _), sym (first-met _ _ _ (c .if1 .left) .1 ∙ marked-none _))
+
+pub mark-spec : {M : Type 1} → statement M
+mark-spec = tie.close (tie.spec slice-read-if1 returns slice-write-marks same-length returns-2)

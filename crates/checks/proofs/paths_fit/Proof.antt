@@ -1,0 +1,44 @@
+use mathlib.Core.Path.{_≡_, refl, sym, ap, ap₂, _∙_, subst}
+use mathlib.Core.Bool.{Bool, true, false}
+use native.Mathlib.Omega.{arith}
+use Prim.Native.Nat.{ℕ, _+_, _*_, _-_, _≤_, _<_, max}
+use lib.ListN.{length, getD, drop, take, length-set}
+use lib.Seq.{sets}
+use lib.Dec.{ltb, leb, eqb}
+use denote.Ref.{now}
+use borrow.Author.Tests.{lt-ltb, le-ltb, le-leb, lt-leb, not-true, not-false}
+use Rattle.rules.specs.Base.{both, all}
+use Rattle.file.specs.Steps.{word, depthsBase, constantsBase}
+use Rattle.file.specs.Tables.{tablesOf, Indexed}
+use Rattle.views.specs.Views.{run}
+use Rattle.rules.specs.Checks.{pathsFit}
+use Rattle.checks.specs.Checked.{slotsFit, fetchedFit}
+use Rattle.numbers.proofs.Every.{both-false, both-then}
+use borrow.Author.Needs.{needs}
+use Rattle.checks.proofs.paths_fit.Statement.{statement}
+use Rattle.checks.proofs.paths_fit.Tie as tie
+use Rattle.checks.proofs.paths_fit.Reads as reads
+use Rattle.checks.proofs.paths_fit.Lts as lts
+use Rattle.checks.proofs.fetched_fit.Reads as fetched-fit-reads
+use Rattle.checks.proofs.slots_fit.Reads as slots-fit-reads
+
+-- src/lib.rt:288:9
+slots-fit-requires : tie.Need-slots-fit-requires
+slots-fit-requires c κs = search needs
+
+-- src/lib.rt:289:9
+returns : tie.Need-returns
+unfolding pathsFit slotsFit
+returns c = sym (both-false _ _ (sym (c .before .slots-fit .ensures) ∙ not-true _ (c .if1 .taken)))
+
+-- src/lib.rt:291:5
+fetched-fit-requires : tie.Need-fetched-fit-requires
+fetched-fit-requires c κs = c .before .before .before .before .pre .filled .indexed
+
+-- src/lib.rt:284:1
+returns-2 : tie.Need-returns-2
+unfolding pathsFit slotsFit fetchedFit
+returns-2 c = c .fetched-fit .ensures ∙ sym (both-then _ _ (sym (c .before .before .slots-fit .ensures) ∙ not-false _ (c .before .if1 .left)))
+
+pub paths-fit-spec : {M : Type 1} → statement M
+paths-fit-spec = tie.close (tie.spec slots-fit-requires returns fetched-fit-requires returns-2)

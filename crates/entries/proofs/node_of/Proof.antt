@@ -1,0 +1,28 @@
+use native.Mathlib.Omega.{arith}
+use Rattle.entries.proofs.Past.{past-nodes}
+use borrow.Author.Needs.{needs}
+use Rattle.entries.proofs.node_of.Statement.{statement}
+use Rattle.entries.proofs.node_of.Tie as tie
+use Rattle.entries.proofs.node_of.Reads as reads
+use Rattle.entries.proofs.node_of.Lts as lts
+use Rattle.views.proofs.count_of.Reads as count-of-reads
+use Rattle.views.proofs.node_at.Reads as node-at-reads
+
+-- src/lib.rt:35:12
+count-of-requires : tie.Need-count-of-requires
+count-of-requires c κs = search needs
+
+-- src/lib.rt:36:9
+node-at-requires : tie.Need-node-at-requires
+node-at-requires c κs = search needs
+
+-- src/lib.rt:31:1
+returns : tie.Need-returns
+returns c = search needs
+
+-- src/lib.rt:31:1
+returns-2 : tie.Need-returns-2
+returns-2 c = past-nodes _ _ _ (omega (arith, c .if1 .left, c .before .count-of .ensures))
+
+pub node-of-spec : {M : Type 1} → statement M
+node-of-spec = tie.close (tie.spec count-of-requires node-at-requires returns returns-2)

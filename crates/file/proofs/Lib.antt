@@ -1,0 +1,5 @@
+pub mod Readers
+pub mod Suffix
+pub mod Leaves
+pub mod Sections
+pub mod Accepted

@@ -1,0 +1,25 @@
+use mathlib.Core.Path.{_≡_, refl, sym, ap, _∙_}
+use native.Mathlib.Omega.{arith}
+use Rattle.file.proofs.Leaves.{type-small}
+use Rattle.file.specs.Steps.{baseOf}
+use borrow.Author.Needs.{needs}
+use Rattle.file.proofs.base.Statement.{statement}
+use Rattle.file.proofs.base.Tie as tie
+use Rattle.file.proofs.base.Reads as reads
+use Rattle.file.proofs.base.Lts as lts
+
+-- src/lib.rt:275:5
+mul-result : tie.Need-mul-result
+mul-result c = search needs
+
+-- src/lib.rt:275:5
+array-read-result : tie.Need-array-read-result
+array-read-result c = search needs
+
+-- src/lib.rt:271:1
+returns : tie.Need-returns
+unfolding baseOf
+returns c = refl
+
+pub base-spec : {M : Type 1} → statement M
+base-spec = tie.close (tie.spec mul-result array-read-result returns)

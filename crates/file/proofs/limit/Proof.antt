@@ -1,0 +1,25 @@
+use mathlib.Core.Path.{_≡_, refl, sym, ap, _∙_}
+use native.Mathlib.Omega.{arith}
+use Rattle.file.proofs.Leaves.{type-small}
+use Rattle.file.specs.Steps.{limitOf}
+use borrow.Author.Needs.{needs}
+use Rattle.file.proofs.limit.Statement.{statement}
+use Rattle.file.proofs.limit.Tie as tie
+use Rattle.file.proofs.limit.Reads as reads
+use Rattle.file.proofs.limit.Lts as lts
+
+-- src/lib.rt:267:5
+mul-result : tie.Need-mul-result
+mul-result c = search needs
+
+-- src/lib.rt:267:5
+array-read-result : tie.Need-array-read-result
+array-read-result c = search needs
+
+-- src/lib.rt:263:1
+returns : tie.Need-returns
+unfolding limitOf
+returns c = refl
+
+pub limit-spec : {M : Type 1} → statement M
+limit-spec = tie.close (tie.spec mul-result array-read-result returns)

@@ -1,0 +1,49 @@
+-- The tables of an accepted file, and how the index finds their records.
+use Prim.Native.Nat.{ℕ, _+_, _≤_, _<_}
+use mathlib.Core.Path.{_≡_}
+use mathlib.Core.List.{List, []}
+use lib.ListN.{length, getD}
+use Rattle.rules.specs.Limits.{fileLimit}
+use Rattle.rules.specs.File.{Tables}
+use Rattle.rules.specs.Read.{Read, Reader, name, type, predicate, node, binding, hoisted, fetched, constraint, comparison, level}
+use Rattle.rules.specs.Read.Read.{got, refused}
+use Rattle.rules.specs.Read as Read
+use Rattle.file.specs.Steps.{readAt, baseOf, limitOf, indexLength}
+
+abbrev pub noTables : Tables
+noTables = record { names = []; types = []; predicates = []; nodes = []; bindings = []; hoisted = []; fetched = []; constraints = []; comparisons = []; levels = [] }
+
+abbrev pub gotTables : Read Tables → Tables
+gotTables (got T rest) = T
+gotTables (refused n) = noTables
+
+-- what the written rules read in file f
+unfoldable pub tablesOf : List ℕ → Tables
+tablesOf f = gotTables (Read.file f)
+
+-- reader r finds a at position p of f
+pub record Stands {A : Type 0} (f : List ℕ) (r : Reader A) (p : ℕ) (a : A) : Type 0 where
+  pub rest : List ℕ
+  pub reads : readAt f r p ≡ got a rest
+
+-- the index finds the records xs of section s of f
+pub record Section {A : Type 0} (f ix : List ℕ) (s : ℕ) (r : Reader A) (xs : List A) : Type 0 where
+  pub count : getD ix (baseOf s) 0 ≡ length xs
+  pub under : length xs ≤ limitOf s
+  pub record-at : (t : ℕ) (d : A) → t < length xs → Stands f r (getD ix (baseOf s + 1 + t) 0) (getD xs t d)
+
+-- f is a file that the reader accepts, and ix its index
+pub record Indexed (f ix : List ℕ) : Type 0 where
+  pub small : length f ≤ fileLimit
+  pub long : length ix ≡ indexLength
+  pub accepted : Read.file f ≡ got (tablesOf f) []
+  pub names : Section f ix 0 name (tablesOf f .names)
+  pub types : Section f ix 1 type (tablesOf f .types)
+  pub predicates : Section f ix 2 predicate (tablesOf f .predicates)
+  pub nodes : Section f ix 3 node (tablesOf f .nodes)
+  pub bindings : Section f ix 4 binding (tablesOf f .bindings)
+  pub hoisted : Section f ix 5 hoisted (tablesOf f .hoisted)
+  pub fetched : Section f ix 6 fetched (tablesOf f .fetched)
+  pub constraints : Section f ix 7 constraint (tablesOf f .constraints)
+  pub comparisons : Section f ix 8 comparison (tablesOf f .comparisons)
+  pub levels : Section f ix 9 level (tablesOf f .levels)

@@ -1,0 +1,348 @@
+// Reading a rule file front to back: refusals 3 to 7, and the index of where each record starts.
+ghost use mathlib.Core.Path.{_≡_};
+ghost use mathlib.Core.List.{List};
+ghost use Prim.Native.Nat.{ℕ, _+_, _*_, _-_, _≤_, _<_};
+ghost use lib.ListN.{length, getD};
+ghost use lib.Seq.{sets};
+ghost use Rattle.rules.specs.Limits.{fileLimit};
+ghost use Rattle.rules.specs.Read.{u8, many, several, name, type, node, slot, binding, fetched, comparison, fuzzyNode, path};
+ghost use Rattle.rules.specs.Read as Read;
+ghost use Rattle.file.specs.Steps.{word, stepAt, recordOf, limitOf, baseOf, countAt, starts, sectionOf, entries, indexLength, indexOf};
+ghost use Rattle.file.specs.Tables.{Indexed};
+
+// Where what was read ends, or the number of the first fault.
+pub enum Step {
+    Next(usize),
+    Refused(u8),
+}
+
+// The index has an area for each section: its count, then where each of its records starts. Two further areas hold the depth of each
+// type and, for each node, whether it is constant: the checks fill them.
+pub const INDEX: usize = 7242;
+
+pub const DEPTHS: usize = 4682;
+
+pub const CONSTANTS: usize = 5194;
+
+const LIMITS: [usize; 10] = [512, 512, 256, 2048, 256, 256, 256, 256, 256, 64];
+
+const BASES: [usize; 11] = [
+    0,
+    513,
+    1026,
+    1283,
+    3332,
+    3589,
+    3846,
+    4103,
+    4360,
+    4617,
+    DEPTHS,
+];
+
+// The bytes of a section's record, where their number is fixed, and those that follow a kind.
+const RECORD_SIZES: [usize; 10] = [0, 0, 4, 0, 0, 4, 0, 4, 0, 6];
+
+const TYPE_SIZES: [usize; 4] = [0, 0, 0, 2];
+
+const NODE_SIZES: [usize; 17] = [8, 2, 0, 2, 0, 0, 2, 0, 0, 4, 2, 4, 0, 0, 4, 0, 0];
+
+const SLOT_SIZES: [usize; 6] = [4, 4, 2, 0, 4, 2];
+
+pub fn wide(x: u8) -> usize
+    ensures { λ r. ⌜ (r ≡ x) × (r < 256) ⌝ }
+{
+    x as usize
+}
+
+pub fn wide16(x: u16) -> usize
+    ensures { λ r. ⌜ r ≡ x ⌝ }
+{
+    x as usize
+}
+
+// The two bytes at p, the lower first.
+pub fn word_at(file: &[u8], p: usize) -> usize
+    requires { ⌜ p + 2 ≤ length (now file) ⌝ }
+    ensures { λ r. ⌜ (r ≡ word (now (file .entry)) p) × (r < 65536) ⌝ }
+{
+    wide(file[p]) + 256 * wide(file[p + 1])
+}
+
+// n bytes, whatever they hold.
+pub fn fixed(file: &[u8], n: usize, p: usize) -> Step
+    requires { ⌜ (p ≤ length (now file)) × (n ≤ 65536) ⌝ }
+    ensures { λ r. ⌜ r ≡ stepAt (now (file .entry)) (many n u8) p ⌝ }
+{
+    if n <= file.len() - p {
+        Step::Next(p + n)
+    } else {
+        Step::Refused(3)
+    }
+}
+
+// A count byte, then as many times w bytes.
+pub fn repeated(file: &[u8], w: usize, p: usize) -> Step
+    requires { ⌜ (p ≤ length (now file)) × (w ≤ 8) ⌝ }
+    ensures { λ r. ⌜ r ≡ stepAt (now (file .entry)) (several (many w u8)) p ⌝ }
+{
+    if p >= file.len() {
+        return Step::Refused(3);
+    }
+    let n = wide(file[p]);
+    fixed(file, n * w, p + 1)
+}
+
+pub fn name_end(file: &[u8], at: usize) -> Step
+    requires { ⌜ at ≤ length (now file) ⌝ }
+    ensures { λ r. ⌜ r ≡ stepAt (now (file .entry)) name at ⌝ }
+{
+    if at >= file.len() {
+        return Step::Refused(3);
+    }
+    let mut left = wide(file[at]);
+    let mut p = at + 1;
+    while left > 0 {
+        if p >= file.len() {
+            return Step::Refused(3);
+        }
+        if file[p] >= 128 {
+            return Step::Refused(6);
+        }
+        p += 1;
+        left -= 1;
+    }
+    Step::Next(p)
+}
+
+pub fn type_end(file: &[u8], at: usize) -> Step
+    requires { ⌜ at ≤ length (now file) ⌝ }
+    ensures { λ r. ⌜ r ≡ stepAt (now (file .entry)) type at ⌝ }
+{
+    if at >= file.len() {
+        return Step::Refused(3);
+    }
+    let k = wide(file[at]);
+    if k < 4 {
+        return fixed(file, TYPE_SIZES[k], at + 1);
+    }
+    if k == 4 {
+        return repeated(file, 4, at + 1);
+    }
+    if k == 5 {
+        return repeated(file, 8, at + 1);
+    }
+    Step::Refused(5)
+}
+
+fn fuzzy_end(file: &[u8], p: usize) -> Step
+    requires { ⌜ p ≤ length (now file) ⌝ }
+    ensures { λ r. ⌜ r ≡ stepAt (now (file .entry)) fuzzyNode p ⌝ }
+{
+    if file.len() - p < 4 {
+        return Step::Refused(3);
+    }
+    if file[p + 3] > 1 {
+        return Step::Refused(5);
+    }
+    Step::Next(p + 4)
+}
+
+pub fn node_end(file: &[u8], at: usize) -> Step
+    requires { ⌜ at ≤ length (now file) ⌝ }
+    ensures { λ r. ⌜ r ≡ stepAt (now (file .entry)) node at ⌝ }
+{
+    if at >= file.len() {
+        return Step::Refused(3);
+    }
+    let k = wide(file[at]);
+    if k > 16 {
+        return Step::Refused(5);
+    }
+    if k == 2 {
+        return repeated(file, 1, at + 1);
+    }
+    if k == 7 {
+        return fuzzy_end(file, at + 1);
+    }
+    if k == 8 {
+        return repeated(file, 4, at + 1);
+    }
+    fixed(file, NODE_SIZES[k], at + 1)
+}
+
+fn path_end(file: &[u8], p: usize) -> Step
+    requires { ⌜ p ≤ length (now file) ⌝ }
+    ensures { λ r. ⌜ r ≡ stepAt (now (file .entry)) path p ⌝ }
+{
+    if file.len() - p < 2 {
+        return Step::Refused(3);
+    }
+    repeated(file, 4, p + 2)
+}
+
+// An address, a path and a number: a fetched entry, and a Field slot after its kind.
+pub fn fetched_end(file: &[u8], p: usize) -> Step
+    requires { ⌜ p ≤ length (now file) ⌝ }
+    ensures { λ r. ⌜ r ≡ stepAt (now (file .entry)) fetched p ⌝ }
+{
+    if file.len() - p < 2 {
+        return Step::Refused(3);
+    }
+    match path_end(file, p + 2) {
+        Step::Next(q) => fixed(file, 2, q),
+        Step::Refused(x) => Step::Refused(x),
+    }
+}
+
+pub fn slot_end(file: &[u8], at: usize) -> Step
+    requires { ⌜ at ≤ length (now file) ⌝ }
+    ensures { λ r. ⌜ r ≡ stepAt (now (file .entry)) slot at ⌝ }
+{
+    if at >= file.len() {
+        return Step::Refused(3);
+    }
+    let k = wide(file[at]);
+    if k > 5 {
+        return Step::Refused(5);
+    }
+    if k == 3 {
+        return fetched_end(file, at + 1);
+    }
+    fixed(file, SLOT_SIZES[k], at + 1)
+}
+
+pub fn binding_end(file: &[u8], p: usize) -> Step
+    requires { ⌜ p ≤ length (now file) ⌝ }
+    ensures { λ r. ⌜ r ≡ stepAt (now (file .entry)) binding p ⌝ }
+{
+    if file.len() - p < 2 {
+        return Step::Refused(3);
+    }
+    slot_end(file, p + 2)
+}
+
+pub fn comparison_end(file: &[u8], at: usize) -> Step
+    requires { ⌜ at ≤ length (now file) ⌝ }
+    ensures { λ r. ⌜ r ≡ stepAt (now (file .entry)) comparison at ⌝ }
+{
+    if at >= file.len() {
+        return Step::Refused(3);
+    }
+    if file[at] > 3 {
+        return Step::Refused(5);
+    }
+    fixed(file, 4, at + 1)
+}
+
+// A record of section s.
+pub fn record_end(file: &[u8], s: usize, at: usize) -> Step
+    requires { ⌜ (at ≤ length (now file)) × (s < 10) ⌝ }
+    ensures { λ r. ⌜ r ≡ stepAt (now (file .entry)) (recordOf s) at ⌝ }
+{
+    match s {
+        0 => name_end(file, at),
+        1 => type_end(file, at),
+        3 => node_end(file, at),
+        4 => binding_end(file, at),
+        6 => fetched_end(file, at),
+        8 => comparison_end(file, at),
+        _ => fixed(file, RECORD_SIZES[s], at),
+    }
+}
+
+// n records of section s from at on: each one's start goes into the index, from base on.
+pub fn records(file: &[u8], index: &mut [u16], s: usize, base: usize, n: usize, at: usize) -> Step
+    requires { ⌜ (at ≤ length (now file)) × (length (now file) ≤ fileLimit) × (s < 10) × (base + n ≤ length (now index)) ⌝ }
+    ensures { λ r. ⌜ r ≡ stepAt (now (file .entry)) (many n (recordOf s)) at ⌝ }
+    ensures { λ r. ⌜ now (index .exit) ≡ sets (now (index .entry)) base (starts (now (file .entry)) s n at) ⌝ }
+{
+    let mut p = at;
+    let mut i = base;
+    let mut left = n;
+    while left > 0 {
+        match record_end(file, s, p) {
+            Step::Next(q) => {
+                index[i] = p as u16;
+                p = q;
+                i += 1;
+                left -= 1;
+            }
+            Step::Refused(x) => {
+                return Step::Refused(x);
+            }
+        }
+    }
+    Step::Next(p)
+}
+
+fn limit(s: usize) -> usize
+    requires { ⌜ s < 10 ⌝ }
+    ensures { λ r. ⌜ r ≡ limitOf s ⌝ }
+{
+    LIMITS[s]
+}
+
+// Where the area of section s begins in the index.
+pub fn base(s: usize) -> usize
+    requires { ⌜ s < 10 ⌝ }
+    ensures { λ r. ⌜ r ≡ baseOf s ⌝ }
+{
+    BASES[s]
+}
+
+// The count of section s.
+pub fn count(file: &[u8], s: usize, p: usize) -> Step
+    requires { ⌜ (p ≤ length (now file)) × (s < 10) ⌝ }
+    ensures { λ r. ⌜ r ≡ countAt (now (file .entry)) s p ⌝ }
+{
+    if file.len() - p < 2 {
+        return Step::Refused(3);
+    }
+    let n = word_at(file, p);
+    if n > limit(s) {
+        return Step::Refused(4);
+    }
+    Step::Next(n)
+}
+
+pub fn section(file: &[u8], index: &mut [u16], s: usize, p: usize) -> Step
+    requires { ⌜ (p ≤ length (now file)) × (length (now file) ≤ fileLimit) × (s < 10) × (length (now index) ≡ indexLength) ⌝ }
+    ensures { λ r. ⌜ r ≡ stepAt (now (file .entry)) (sectionOf s) p ⌝ }
+    ensures { λ r. ⌜ now (index .exit) ≡ sets (now (index .entry)) (baseOf s) (entries (now (file .entry)) s p) ⌝ }
+{
+    match count(file, s, p) {
+        Step::Next(n) => {
+            let b = base(s);
+            index[b] = n as u16;
+            records(file, index, s, b + 1, n, p + 2)
+        }
+        Step::Refused(x) => Step::Refused(x),
+    }
+}
+
+// The whole file. On acceptance the index finds every record.
+pub fn read(file: &[u8], index: &mut [u16]) -> Step
+    requires { ⌜ (length (now file) ≤ fileLimit) × (length (now index) ≡ indexLength) ⌝ }
+    ensures { λ r. ⌜ r ≡ stepAt (now (file .entry)) Read.file 0 ⌝ }
+    ensures { λ r. ⌜ now (index .exit) ≡ indexOf (now (file .entry)) (now (index .entry)) ⌝ }
+    ensures { λ r. ⌜ ((q : ℕ) → r ≡ Step.Next q → Indexed (now (file .entry)) (now (index .exit))) ⌝ }
+{
+    let mut p = 0;
+    let mut s = 0;
+    while s < 10 {
+        match section(file, index, s, p) {
+            Step::Next(q) => {
+                p = q;
+                s += 1;
+            }
+            Step::Refused(x) => {
+                return Step::Refused(x);
+            }
+        }
+    }
+    if p < file.len() {
+        return Step::Refused(7);
+    }
+    Step::Next(p)
+}

@@ -1,0 +1,29 @@
+use Rattle.numbers.proofs.Every.{both-false, both-then}
+use mathlib.Core.Path.{_≡_, refl, sym, ap, ap₂, _∙_}
+use mathlib.Core.Bool.{Bool, true, false}
+use native.Mathlib.Omega.{arith}
+use Prim.Native.Nat.{ℕ, _+_, _*_, _-_, _≤_, _<_}
+use lib.ListN.{length, getD}
+use lib.Dec.{ltb, eqb}
+use denote.Ref.{now}
+use borrow.Author.Needs.{needs}
+use borrow.Author.Tests.{lt-ltb, le-ltb, not-true, not-false}
+use Rattle.rules.specs.Base.{both, all, distinct}
+use Rattle.file.specs.Steps.{word}
+use Rattle.file.specs.Tables.{tablesOf}
+use Rattle.views.specs.Views.{run}
+use Rattle.numbers.proofs.both_below.Statement.{statement}
+use Rattle.numbers.proofs.both_below.Tie as tie
+use Rattle.numbers.proofs.both_below.Reads as reads
+use Rattle.numbers.proofs.both_below.Lts as lts
+
+-- src/lib.rt:130:9
+returns : tie.Need-returns
+returns c = sym (both-false _ _ (le-ltb _ _ (c .if1 .taken)))
+
+-- src/lib.rt:126:1
+returns-2 : tie.Need-returns-2
+returns-2 c = sym (both-then _ _ (lt-ltb _ _ (c .if1 .left)))
+
+pub both-below-spec : {M : Type 1} → statement M
+both-below-spec = tie.close (tie.spec returns returns-2)

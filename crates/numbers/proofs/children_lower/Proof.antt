@@ -1,0 +1,41 @@
+use mathlib.Core.Path.{_≡_, refl, sym, ap, ap₂, _∙_}
+use mathlib.Core.Bool.{Bool, true, false}
+use native.Mathlib.Omega.{arith}
+use Prim.Native.Nat.{ℕ, _+_, _*_, _-_, _≤_, _<_}
+use lib.ListN.{length, getD}
+use lib.Dec.{ltb, eqb}
+use borrow.Author.Tests.{lt-ltb, le-ltb, not-true, not-false}
+use Rattle.rules.specs.Base.{both, all, distinct}
+use Rattle.file.specs.Tables.{tablesOf}
+use Rattle.rules.specs.Checks.{childrenLower}
+use Rattle.numbers.specs.Numbers.{typesLower, nodesLower}
+use Rattle.numbers.proofs.Every.{both-false, both-then}
+use borrow.Author.Needs.{needs}
+use Rattle.numbers.proofs.children_lower.Statement.{statement}
+use Rattle.numbers.proofs.children_lower.Tie as tie
+use Rattle.numbers.proofs.children_lower.Reads as reads
+use Rattle.numbers.proofs.children_lower.Lts as lts
+use Rattle.numbers.proofs.nodes_lower.Reads as nodes-lower-reads
+use Rattle.numbers.proofs.types_lower.Reads as types-lower-reads
+
+-- src/lib.rt:298:9
+types-lower-requires : tie.Need-types-lower-requires
+types-lower-requires c κs = search needs
+
+-- src/lib.rt:299:9
+returns : tie.Need-returns
+unfolding childrenLower typesLower
+returns c = sym (both-false _ _ (sym (c .before .types-lower .ensures) ∙ not-true _ (c .if1 .taken)))
+
+-- src/lib.rt:301:5
+nodes-lower-requires : tie.Need-nodes-lower-requires
+nodes-lower-requires c κs = search needs
+
+-- src/lib.rt:294:1
+returns-2 : tie.Need-returns-2
+unfolding childrenLower typesLower nodesLower
+returns-2 c = c .nodes-lower .ensures ∙ sym (both-then _ _ (sym (c .before .before .types-lower .ensures) ∙ not-false _ (c .before .if1 .left)))
+
+pub children-lower-spec : {M : Type 1} → statement M
+children-lower-spec =
+    tie.close (tie.spec types-lower-requires returns nodes-lower-requires returns-2)

@@ -1,0 +1,45 @@
+use Rattle.numbers.proofs.Every.{number-long, number-short}
+use mathlib.Core.Path.{_≡_, refl, sym, ap, ap₂, _∙_}
+use mathlib.Core.Bool.{Bool, true, false}
+use native.Mathlib.Omega.{arith}
+use Prim.Native.Nat.{ℕ, _+_, _*_, _-_, _≤_, _<_}
+use lib.ListN.{length, getD}
+use lib.Dec.{ltb, eqb}
+use denote.Ref.{now}
+use borrow.Author.Tests.{lt-ltb, le-ltb, not-true, not-false}
+use Rattle.rules.specs.Base.{both, all, distinct}
+use Rattle.file.specs.Steps.{word}
+use Rattle.file.specs.Tables.{tablesOf}
+use Rattle.views.specs.Views.{run}
+use Rattle.numbers.specs.Numbers.{numberAt}
+use borrow.Author.Needs.{needs}
+use Rattle.numbers.proofs.number_at.Statement.{statement}
+use Rattle.numbers.proofs.number_at.Tie as tie
+use Rattle.numbers.proofs.number_at.Reads as reads
+use Rattle.numbers.proofs.number_at.Lts as lts
+use Rattle.file.proofs.word_at.Reads as word-at-reads
+use Rattle.views.proofs.long_at.Reads as long-at-reads
+
+-- src/lib.rt:310:9
+long-at-requires : tie.Need-long-at-requires
+long-at-requires c κs = search needs
+
+-- src/lib.rt:312:9
+word-at-requires : tie.Need-word-at-requires
+word-at-requires c κs = search needs
+
+-- src/lib.rt:312:9
+cast-result : tie.Need-cast-result
+cast-result c = search needs
+
+-- src/lib.rt:305:1
+returns : tie.Need-returns
+returns c = number-long _ _ _ _ (c .before .if1 .taken) (c .long-at .ensures)
+
+-- src/lib.rt:305:1
+returns-2 : tie.Need-returns-2
+returns-2 c = number-short _ _ _ _ (c .before .if1 .left) (c .word-at .ensures .0)
+
+pub number-at-spec : {M : Type 1} → statement M
+number-at-spec =
+    tie.close (tie.spec long-at-requires word-at-requires cast-result returns returns-2)

@@ -1,0 +1,67 @@
+use mathlib.Core.Path.{_≡_, refl, sym, ap, ap₂, _∙_}
+use mathlib.Core.Bool.{Bool, true, false}
+use native.Mathlib.Omega.{arith}
+use Prim.Native.Nat.{ℕ, _+_, _*_, _-_, _≤_, _<_}
+use lib.ListN.{length, getD}
+use lib.Dec.{ltb, eqb}
+use borrow.Author.Needs.{needs}
+use borrow.Author.Tests.{lt-ltb, le-ltb, not-true, not-false}
+use Rattle.rules.specs.Base.{both, all, distinct}
+use Rattle.file.specs.Tables.{tablesOf}
+use Rattle.rules.specs.Checks.{numbersIn}
+use Rattle.numbers.specs.Numbers.{sectionIn}
+use Rattle.numbers.proofs.Every.{every, every-none, every-yes, every-no}
+use Rattle.numbers.proofs.Seen.{numbers-every}
+use Rattle.numbers.proofs.numbers_in.Statement.{statement}
+use Rattle.numbers.proofs.numbers_in.Tie as tie
+use Rattle.numbers.proofs.numbers_in.Reads as reads
+use Rattle.numbers.proofs.numbers_in.Lts as lts
+use Rattle.numbers.proofs.records_in.Reads as records-in-reads
+
+abbrev Inv-loop : tie.InvT-loop
+Inv-loop file index s₀ s = (numbersIn (tablesOf file) ≡ every (sectionIn (tablesOf file)) (10 - s) s) × (s ≤ 10)
+
+abbrev μ-loop : tie.MeasureT-loop
+μ-loop file index s₀ s = 10 - s
+
+-- src/lib.rt:213:5
+loop-holds : tie.Need-loop-holds Inv-loop μ-loop
+loop-holds c = (numbers-every _, omega arith)
+
+-- src/lib.rt:214:13
+records-in-requires : tie.Need-records-in-requires Inv-loop μ-loop
+records-in-requires c κs = (c .before .before .before .before .pre, c .loop-test .taken)
+
+-- src/lib.rt:215:13
+returns : tie.Need-returns Inv-loop μ-loop
+returns c = sym (c .before .before .before .loop .inv .0 ∙ every-no _ _ _ (omega arith) (sym (c .before .records-in .ensures) ∙ not-true _ (c .if1 .taken)))
+
+-- src/lib.rt:217:9
+add-s : tie.Need-add-s Inv-loop μ-loop
+add-s c = search needs
+
+-- src/lib.rt:213:5
+loop-less : tie.Need-loop-less Inv-loop μ-loop
+loop-less c = omega arith
+
+-- src/lib.rt:213:5
+loop-again : tie.Need-loop-again Inv-loop μ-loop
+loop-again c = (c .before .before .before .loop .inv .0 ∙ every-yes _ _ _ _ (omega arith) (sym (c .before .records-in .ensures) ∙ not-false _ (c .if1 .left)), omega arith)
+
+-- src/lib.rt:208:1
+returns-2 : tie.Need-returns-2 Inv-loop μ-loop
+returns-2 c = sym (c .before .loop .inv .0 ∙ every-none _ _ _ (omega arith))
+
+pub numbers-in-spec : {M : Type 1} → statement M
+numbers-in-spec =
+    tie.close
+    (tie.spec
+    Inv-loop
+    μ-loop
+    loop-holds
+    records-in-requires
+    returns
+    add-s
+    loop-less
+    loop-again
+    returns-2)

@@ -1,0 +1,73 @@
+use mathlib.Core.Path.{_≡_, refl, sym, ap, ap₂, _∙_}
+use mathlib.Core.Bool.{Bool, true, false}
+use native.Mathlib.Omega.{arith}
+use Prim.Native.Nat.{ℕ, _+_, _*_, _-_, _≤_, _<_}
+use lib.ListN.{length, getD}
+use lib.Dec.{ltb, eqb}
+use borrow.Author.Needs.{needs}
+use borrow.Author.Tests.{lt-ltb, le-ltb, not-true, not-false}
+use Rattle.rules.specs.Base.{both, all, distinct}
+use Rattle.file.specs.Tables.{tablesOf}
+use Rattle.numbers.specs.Numbers.{recordIn, sectionIn}
+use Rattle.views.specs.Views.{sizeOf}
+use Rattle.numbers.proofs.Every.{every, every-none, every-yes, every-no}
+use Rattle.numbers.proofs.Seen.{section-every, every-start}
+use Rattle.numbers.proofs.records_in.Statement.{statement}
+use Rattle.numbers.proofs.records_in.Tie as tie
+use Rattle.numbers.proofs.records_in.Reads as reads
+use Rattle.numbers.proofs.records_in.Lts as lts
+use Rattle.numbers.proofs.record_in.Reads as record-in-reads
+use Rattle.views.proofs.count_of.Reads as count-of-reads
+
+abbrev Inv-loop : tie.InvT-loop
+Inv-loop file index s n t₀ t = (sectionIn (tablesOf file) s ≡ every (recordIn (tablesOf file) s) (n - t) t) × (t ≤ n) × (n ≡ sizeOf (tablesOf file) s)
+
+abbrev μ-loop : tie.MeasureT-loop
+μ-loop file index s n t₀ t = n - t
+
+-- src/lib.rt:196:9
+count-of-requires : tie.Need-count-of-requires Inv-loop μ-loop
+count-of-requires c κs = search needs
+
+-- src/lib.rt:198:5
+loop-holds : tie.Need-loop-holds Inv-loop μ-loop
+loop-holds c = (section-every _ _ (c .before .before .before .pre .1) ∙ every-start _ _ _ (c .count-of .ensures), omega arith, c .count-of .ensures)
+
+-- src/lib.rt:199:13
+record-in-requires : tie.Need-record-in-requires Inv-loop μ-loop
+record-in-requires c κs = (c .before .before .before .before .before .pre .0, (c .before .before .before .before .before .pre .1, omega (arith, c .before .loop .inv .2, c .loop-test .taken)))
+
+-- src/lib.rt:200:13
+returns : tie.Need-returns Inv-loop μ-loop
+returns c = sym (c .before .before .before .loop .inv .0 ∙ every-no _ _ _ (omega arith) (sym (c .before .record-in .ensures) ∙ not-true _ (c .if1 .taken)))
+
+-- src/lib.rt:202:9
+add-t : tie.Need-add-t Inv-loop μ-loop
+add-t c = search needs
+
+-- src/lib.rt:198:5
+loop-less : tie.Need-loop-less Inv-loop μ-loop
+loop-less c = omega arith
+
+-- src/lib.rt:198:5
+loop-again : tie.Need-loop-again Inv-loop μ-loop
+loop-again c = (c .before .before .before .loop .inv .0 ∙ every-yes _ _ _ _ (omega arith) (sym (c .before .record-in .ensures) ∙ not-false _ (c .if1 .left)), omega arith, c .before .before .before .loop .inv .2)
+
+-- src/lib.rt:191:1
+returns-2 : tie.Need-returns-2 Inv-loop μ-loop
+returns-2 c = sym (c .before .loop .inv .0 ∙ every-none _ _ _ (omega arith))
+
+pub records-in-spec : {M : Type 1} → statement M
+records-in-spec =
+    tie.close
+    (tie.spec
+    Inv-loop
+    μ-loop
+    count-of-requires
+    loop-holds
+    record-in-requires
+    returns
+    add-t
+    loop-less
+    loop-again
+    returns-2)

@@ -1,0 +1,411 @@
+// The whole-file checks 8, 9 and 10.
+ghost use mathlib.Core.Path.{_≡_};
+ghost use mathlib.Core.Bool.{Bool};
+ghost use Prim.Native.Nat.{ℕ, _+_, _*_, _≤_, _<_};
+ghost use lib.ListN.{length};
+ghost use lib.Dec.{ltb};
+ghost use Rattle.rules.specs.Limits.{fileLimit};
+ghost use Rattle.rules.specs.Base.{both, all, distinct};
+ghost use Rattle.rules.specs.File.{typeAt, nodeAt, predicateAt, childTypes, childNodes};
+ghost use Rattle.rules.specs.Checks.{typeIn, predicateIn, nodeIn, bindingIn, hoistedIn, constraintIn, comparisonIn, levelIn, numbersIn, childrenLower, typeDistinct, typesDistinct};
+ghost use Rattle.file.specs.Steps.{word};
+ghost use Rattle.file.specs.Tables.{Indexed, tablesOf};
+ghost use Rattle.views.specs.Views.{sizeOf, run, bindingAt, hoistedAt, constraintAt, comparisonAt, levelAt};
+ghost use Rattle.numbers.specs.Numbers.{Words, pairsIn, numberAt, among, recordIn, sectionIn, typesLower, nodesLower};
+use file::wide16;
+use file::word_at;
+use paths::PredicateId;
+use views::MaybePredicate;
+use views::MaybeType;
+use views::NodeView;
+use views::SlotView;
+use views::TypeView;
+use views::binding_at;
+use views::comparison_at;
+use views::constraint_at;
+use views::count_of;
+use views::hoisted_at;
+use views::level_at;
+use views::long_at;
+use views::node_at;
+use views::predicate_at;
+use views::type_at;
+
+// Whether each of n two-byte numbers is below the bound; the first stands at p, each next one w bytes on.
+pub fn words_below(file: &[u8], w: usize, n: usize, p: usize, bound: usize) -> bool
+    requires { ⌜ Words (now file) 2 w n p ⌝ }
+    ensures { λ r. ⌜ r ≡ all (λ c. ltb c bound) (run (word (now (file .entry))) w n p) ⌝ }
+{
+    let mut left = n;
+    let mut q = p;
+    while left > 0 {
+        if word_at(file, q) >= bound {
+            return false;
+        }
+        q += w;
+        left -= 1;
+    }
+    true
+}
+
+// 8: pairs of a name and another number, as many bytes apart as the stride, the other number so many bytes behind the name.
+fn pairs_in(
+    file: &[u8],
+    w: usize,
+    n: usize,
+    p: usize,
+    names: usize,
+    behind: usize,
+    bound: usize,
+) -> bool
+    requires { ⌜ Words (now file) 2 w n p ⌝ }
+    requires { ⌜ Words (now file) 2 w n (p + behind) ⌝ }
+    ensures { λ r. ⌜ r ≡ pairsIn (now (file .entry)) w n p names behind bound ⌝ }
+{
+    if !words_below(file, w, n, p, names) {
+        return false;
+    }
+    words_below(file, w, n, p + behind, bound)
+}
+
+fn type_in(file: &[u8], index: &[u16], t: usize) -> bool
+    requires { ⌜ Indexed (now file) (now index) ⌝ }
+    requires { ⌜ t < length (tablesOf (now file) .types) ⌝ }
+    ensures { λ r. ⌜ r ≡ typeIn (tablesOf (now (file .entry))) (typeAt (tablesOf (now (file .entry))) t) ⌝ }
+{
+    let names = count_of(file, index, 0);
+    let types = count_of(file, index, 1);
+    match type_at(file, index, t) {
+        TypeView::Int => true,
+        TypeView::Str => true,
+        TypeView::Bytes => true,
+        TypeView::Fact(p) => wide16(p.0) < count_of(file, index, 2),
+        TypeView::Record(n, at) => pairs_in(file, 4, n, at, names, 2, types),
+        TypeView::Union(n, at) => pairs_in(file, 8, n, at, names, 6, types),
+    }
+}
+
+fn predicate_in(file: &[u8], index: &[u16], t: usize) -> bool
+    requires { ⌜ Indexed (now file) (now index) ⌝ }
+    requires { ⌜ t < length (tablesOf (now file) .predicates) ⌝ }
+    ensures { λ r. ⌜ r ≡ predicateIn (tablesOf (now (file .entry))) (predicateAt (tablesOf (now (file .entry))) t) ⌝ }
+{
+    let types = count_of(file, index, 1);
+    let p = predicate_at(file, index, PredicateId(t as u16));
+    if p.key >= types {
+        return false;
+    }
+    let value = p.value;
+    match value {
+        MaybeType::Nothing => true,
+        MaybeType::Just(v) => v < types,
+    }
+}
+
+fn node_in(file: &[u8], index: &[u16], n: usize) -> bool
+    requires { ⌜ Indexed (now file) (now index) ⌝ }
+    requires { ⌜ n < length (tablesOf (now file) .nodes) ⌝ }
+    ensures { λ r. ⌜ r ≡ nodeIn (tablesOf (now (file .entry))) (nodeAt (tablesOf (now (file .entry))) n) ⌝ }
+{
+    let names = count_of(file, index, 0);
+    let nodes = count_of(file, index, 3);
+    match node_at(file, index, n) {
+        NodeView::Int(_) => true,
+        NodeView::Str(x) => x < names,
+        NodeView::Bytes(_, _) => true,
+        NodeView::Var(x) => x < names,
+        NodeView::Wildcard => true,
+        NodeView::Never => true,
+        NodeView::Prefix(x) => x < names,
+        NodeView::Fuzzy(x, _, _) => x < names,
+        NodeView::Record(m, at) => pairs_in(file, 4, m, at, names, 2, nodes),
+        NodeView::Access(x, c) => both_below(x, names, c, nodes),
+        NodeView::Value(c) => c < nodes,
+        NodeView::Select(x, c) => both_below(x, names, c, nodes),
+        NodeView::Disjunction => true,
+        NodeView::Subquery => true,
+        NodeView::Fact(p, c) => both_below(wide16(p.0), count_of(file, index, 2), c, nodes),
+        NodeView::Arith => true,
+        NodeView::Error => true,
+    }
+}
+
+// Two numbers, each below its bound.
+fn both_below(a: usize, m: usize, b: usize, n: usize) -> bool
+    ensures { λ r. ⌜ r ≡ both (ltb a m) (ltb b n) ⌝ }
+{
+    if a >= m {
+        return false;
+    }
+    b < n
+}
+
+fn binding_in(file: &[u8], index: &[u16], b: usize) -> bool
+    requires { ⌜ Indexed (now file) (now index) ⌝ }
+    requires { ⌜ b < length (tablesOf (now file) .bindings) ⌝ }
+    ensures { λ r. ⌜ r ≡ bindingIn (tablesOf (now (file .entry))) (bindingAt (tablesOf (now (file .entry))) b) ⌝ }
+{
+    let types = count_of(file, index, 1);
+    let v = binding_at(file, index, b);
+    if v.name >= count_of(file, index, 0) {
+        return false;
+    }
+    let slot = v.slot;
+    match slot {
+        SlotView::Row(_, p) => match p {
+            MaybePredicate::Nothing => true,
+            MaybePredicate::Just(q) => wide16(q.0) < count_of(file, index, 2),
+        },
+        SlotView::Key(_, t) => t < types,
+        SlotView::Derived(_) => true,
+        SlotView::Field(_, _, t) => t < types,
+        SlotView::Value(_, t) => t < types,
+        SlotView::Const(n) => n < count_of(file, index, 3),
+    }
+}
+
+// A record of section s names only numbers that are below their sections' counts.
+fn record_in(file: &[u8], index: &[u16], s: usize, t: usize) -> bool
+    requires { ⌜ Indexed (now file) (now index) ⌝ }
+    requires { ⌜ (s < 10) × (t < sizeOf (tablesOf (now file)) s) ⌝ }
+    ensures { λ r. ⌜ r ≡ recordIn (tablesOf (now (file .entry))) s t ⌝ }
+{
+    match s {
+        1 => type_in(file, index, t),
+        2 => predicate_in(file, index, t),
+        3 => node_in(file, index, t),
+        4 => binding_in(file, index, t),
+        5 => {
+            let h = hoisted_at(file, index, t);
+            both_below(
+                h.node,
+                count_of(file, index, 3),
+                h.name,
+                count_of(file, index, 0),
+            )
+        }
+        7 => {
+            let k = constraint_at(file, index, t);
+            both_below(
+                k.name,
+                count_of(file, index, 0),
+                k.node,
+                count_of(file, index, 3),
+            )
+        }
+        8 => {
+            let c = comparison_at(file, index, t);
+            both_below(
+                c.left,
+                count_of(file, index, 3),
+                c.right,
+                count_of(file, index, 3),
+            )
+        }
+        9 => {
+            let l = level_at(file, index, t);
+            let p = l.predicate;
+            both_below(
+                wide16(p.0),
+                count_of(file, index, 2),
+                l.node,
+                count_of(file, index, 3),
+            )
+        }
+        _ => true,
+    }
+}
+
+fn records_in(file: &[u8], index: &[u16], s: usize) -> bool
+    requires { ⌜ Indexed (now file) (now index) ⌝ }
+    requires { ⌜ s < 10 ⌝ }
+    ensures { λ r. ⌜ r ≡ sectionIn (tablesOf (now (file .entry))) s ⌝ }
+{
+    let n = count_of(file, index, s);
+    let mut t = 0;
+    while t < n {
+        if !record_in(file, index, s, t) {
+            return false;
+        }
+        t += 1;
+    }
+    true
+}
+
+// 8: numbers at or past their section's count.
+pub fn numbers_in(file: &[u8], index: &[u16]) -> bool
+    requires { ⌜ Indexed (now file) (now index) ⌝ }
+    ensures { λ r. ⌜ r ≡ numbersIn (tablesOf (now (file .entry))) ⌝ }
+{
+    let mut s = 0;
+    while s < 10 {
+        if !records_in(file, index, s) {
+            return false;
+        }
+        s += 1;
+    }
+    true
+}
+
+fn type_lower(file: &[u8], index: &[u16], t: usize) -> bool
+    requires { ⌜ Indexed (now file) (now index) ⌝ }
+    requires { ⌜ t < length (tablesOf (now file) .types) ⌝ }
+    ensures { λ r. ⌜ r ≡ all (λ c. ltb c t) (childTypes (typeAt (tablesOf (now (file .entry))) t)) ⌝ }
+{
+    match type_at(file, index, t) {
+        TypeView::Int => true,
+        TypeView::Str => true,
+        TypeView::Bytes => true,
+        TypeView::Fact(_) => true,
+        TypeView::Record(n, at) => words_below(file, 4, n, at + 2, t),
+        TypeView::Union(n, at) => words_below(file, 8, n, at + 6, t),
+    }
+}
+
+fn types_lower(file: &[u8], index: &[u16]) -> bool
+    requires { ⌜ Indexed (now file) (now index) ⌝ }
+    ensures { λ r. ⌜ r ≡ typesLower (tablesOf (now (file .entry))) ⌝ }
+{
+    let n = count_of(file, index, 1);
+    let mut t = 0;
+    while t < n {
+        if !type_lower(file, index, t) {
+            return false;
+        }
+        t += 1;
+    }
+    true
+}
+
+fn node_lower(file: &[u8], index: &[u16], n: usize) -> bool
+    requires { ⌜ Indexed (now file) (now index) ⌝ }
+    requires { ⌜ n < length (tablesOf (now file) .nodes) ⌝ }
+    ensures { λ r. ⌜ r ≡ all (λ c. ltb c n) (childNodes (nodeAt (tablesOf (now (file .entry))) n)) ⌝ }
+{
+    match node_at(file, index, n) {
+        NodeView::Int(_) => true,
+        NodeView::Str(_) => true,
+        NodeView::Bytes(_, _) => true,
+        NodeView::Var(_) => true,
+        NodeView::Wildcard => true,
+        NodeView::Never => true,
+        NodeView::Prefix(_) => true,
+        NodeView::Fuzzy(_, _, _) => true,
+        NodeView::Record(m, at) => words_below(file, 4, m, at + 2, n),
+        NodeView::Access(_, c) => c < n,
+        NodeView::Value(c) => c < n,
+        NodeView::Select(_, c) => c < n,
+        NodeView::Disjunction => true,
+        NodeView::Subquery => true,
+        NodeView::Fact(_, c) => c < n,
+        NodeView::Arith => true,
+        NodeView::Error => true,
+    }
+}
+
+fn nodes_lower(file: &[u8], index: &[u16]) -> bool
+    requires { ⌜ Indexed (now file) (now index) ⌝ }
+    ensures { λ r. ⌜ r ≡ nodesLower (tablesOf (now (file .entry))) ⌝ }
+{
+    let n = count_of(file, index, 3);
+    let mut t = 0;
+    while t < n {
+        if !node_lower(file, index, t) {
+            return false;
+        }
+        t += 1;
+    }
+    true
+}
+
+// 9: a child that is not lower than its parent.
+pub fn children_lower(file: &[u8], index: &[u16]) -> bool
+    requires { ⌜ Indexed (now file) (now index) ⌝ }
+    ensures { λ r. ⌜ r ≡ childrenLower (tablesOf (now (file .entry))) ⌝ }
+{
+    if !types_lower(file, index) {
+        return false;
+    }
+    nodes_lower(file, index)
+}
+
+// A two-byte number, or a four-byte one.
+fn number_at(file: &[u8], long: bool, p: usize) -> u32
+    requires { ⌜ p + 4 ≤ length (now file) ⌝ }
+    ensures { λ r. ⌜ r ≡ numberAt (now (file .entry)) long p ⌝ }
+{
+    if long {
+        long_at(file, p)
+    } else {
+        word_at(file, p) as u32
+    }
+}
+
+// Whether x is among n numbers.
+fn is_among(file: &[u8], long: bool, w: usize, n: usize, p: usize, x: u32) -> bool
+    requires { ⌜ Words (now file) 4 w n p ⌝ }
+    ensures { λ r. ⌜ r ≡ among x (run (numberAt (now (file .entry)) long) w n p) ⌝ }
+{
+    let mut left = n;
+    let mut q = p;
+    while left > 0 {
+        if number_at(file, long, q) == x {
+            return true;
+        }
+        q += w;
+        left -= 1;
+    }
+    false
+}
+
+fn all_distinct(file: &[u8], long: bool, w: usize, n: usize, p: usize) -> bool
+    requires { ⌜ Words (now file) 4 w n p ⌝ }
+    ensures { λ r. ⌜ r ≡ distinct (run (numberAt (now (file .entry)) long) w n p) ⌝ }
+{
+    let mut left = n;
+    let mut q = p;
+    while left > 0 {
+        if is_among(file, long, w, left - 1, q + w, number_at(file, long, q)) {
+            return false;
+        }
+        q += w;
+        left -= 1;
+    }
+    true
+}
+
+fn type_distinct(file: &[u8], index: &[u16], t: usize) -> bool
+    requires { ⌜ Indexed (now file) (now index) ⌝ }
+    requires { ⌜ t < length (tablesOf (now file) .types) ⌝ }
+    ensures { λ r. ⌜ r ≡ typeDistinct (typeAt (tablesOf (now (file .entry))) t) ⌝ }
+{
+    match type_at(file, index, t) {
+        TypeView::Int => true,
+        TypeView::Str => true,
+        TypeView::Bytes => true,
+        TypeView::Fact(_) => true,
+        TypeView::Record(n, at) => all_distinct(file, false, 4, n, at),
+        TypeView::Union(n, at) => {
+            if !all_distinct(file, false, 8, n, at) {
+                return false;
+            }
+            all_distinct(file, true, 8, n, at + 2)
+        }
+    }
+}
+
+// 10: a type that repeats a name, or a Union a disc.
+pub fn types_distinct(file: &[u8], index: &[u16]) -> bool
+    requires { ⌜ Indexed (now file) (now index) ⌝ }
+    ensures { λ r. ⌜ r ≡ typesDistinct (tablesOf (now (file .entry))) ⌝ }
+{
+    let n = count_of(file, index, 1);
+    let mut t = 0;
+    while t < n {
+        if !type_distinct(file, index, t) {
+            return false;
+        }
+        t += 1;
+    }
+    true
+}

@@ -1,0 +1,39 @@
+-- What the code behind the checks requires: a file that was read and passed every check, with an index that holds its depths and its constancy.
+use Prim.Native.Nat.{ℕ, _+_, _<_}
+use mathlib.Core.Path.{_≡_}
+use mathlib.Core.Bool.{Bool, true, false}
+use mathlib.Core.List.{List}
+use mathlib.Core.Option.{none}
+use lib.ListN.{length, getD}
+use Rattle.rules.specs.Limits.{nodeLimit}
+use Rattle.rules.specs.File.{Tables, FieldPattern, depth, isConstant}
+use Rattle.rules.specs.Checks.{checks, fault}
+use Rattle.file.specs.Steps.{depthsBase, constantsBase}
+use Rattle.file.specs.Tables.{Indexed, tablesOf}
+
+-- how the index says that a node is constant
+abbrev pub flag : Bool → ℕ
+flag true = 1
+flag false = 0
+
+pub record Ready (f ix : List ℕ) : Type 0 where
+  pub indexed : Indexed f ix
+  pub accepted : fault checks (tablesOf f) ≡ none
+  pub depths : (t : ℕ) → t < length (tablesOf f .types) → getD ix (depthsBase + t) 0 ≡ depth (tablesOf f) t
+  pub constants : (n : ℕ) → n < length (tablesOf f .nodes) → getD ix (constantsBase + n) 0 ≡ flag (isConstant (tablesOf f) n)
+
+-- "a measure of not-constant and node number falls": a constant stands below every node that is none, so that a Var's Const is lower
+unfoldable pub rank : Tables → ℕ → ℕ
+rank T n = elim (isConstant T n) [ true ↦ n | false ↦ nodeLimit + n ]
+
+-- a pattern of a Record, below rank r
+pub record PatternOk (T : Tables) (r : ℕ) (f : FieldPattern) : Type 0 where
+  pub in-names : f .name < length (T .names)
+  pub in-nodes : f .node < length (T .nodes)
+  pub lower : rank T (f .node) < r
+
+-- a field or an alternative of type t
+pub record ChildOk (T : Tables) (t name type : ℕ) : Type 0 where
+  pub in-names : name < length (T .names)
+  pub in-types : type < length (T .types)
+  pub lower : type < t

@@ -1,0 +1,1 @@
+// What is asked of a file and its index once the checks have passed.

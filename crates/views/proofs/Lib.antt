@@ -1,0 +1,5 @@
+pub mod Runs
+pub mod Entries
+pub mod Nodes
+pub mod Slots
+pub mod Arms

@@ -1,0 +1,26 @@
+use mathlib.Core.Path.{_≡_, refl, sym, ap, _∙_}
+use native.Mathlib.Omega.{arith}
+use Prim.Native.Nat.{_+_, _*_, _≤_, _<_}
+use lib.ListN.{length, getD}
+use denote.Ref.{now}
+use borrow.Author.Needs.{needs}
+use Rattle.file.specs.Tables.{tablesOf}
+use Rattle.file.specs.Steps.{word}
+use Rattle.views.specs.Views.{anchorKind}
+use Rattle.views.proofs.anchor_of.Statement.{statement}
+use Rattle.views.proofs.anchor_of.Tie as tie
+use Rattle.views.proofs.anchor_of.Reads as reads
+use Rattle.views.proofs.anchor_of.Lts as lts
+
+-- src/lib.rt:270:1
+returns : tie.Need-returns
+unfolding anchorKind
+returns c = sym (ap anchorKind (c .if1 .taken))
+
+-- src/lib.rt:270:1
+returns-2 : tie.Need-returns-2
+unfolding anchorKind
+returns-2 c = let e : c .before .args .b ≡ 1 = omega arith in sym (ap anchorKind e)
+
+pub anchor-of-spec : {M : Type 1} → statement M
+anchor-of-spec = tie.close (tie.spec returns returns-2)

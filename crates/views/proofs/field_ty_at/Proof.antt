@@ -1,0 +1,43 @@
+use mathlib.Core.Path.{_≡_, refl, sym, ap, _∙_}
+use native.Mathlib.Omega.{arith}
+use Prim.Native.Nat.{_+_, _*_, _≤_, _<_}
+use lib.ListN.{length, getD}
+use denote.Ref.{now}
+use Rattle.file.specs.Tables.{tablesOf}
+use Rattle.file.specs.Steps.{word}
+use Rattle.views.specs.Views.{fieldAt}
+use borrow.Author.Needs.{needs}
+use Rattle.views.proofs.field_ty_at.Statement.{statement}
+use Rattle.views.proofs.field_ty_at.Tie as tie
+use Rattle.views.proofs.field_ty_at.Reads as reads
+use Rattle.views.proofs.field_ty_at.Lts as lts
+use Rattle.file.proofs.word_at.Reads as word-at-reads
+
+-- src/lib.rt:193:18
+mul-p : tie.Need-mul-p
+mul-p c = search needs
+
+-- src/lib.rt:193:13
+add-p : tie.Need-add-p
+add-p c = search needs
+
+-- src/lib.rt:195:15
+word-at-requires : tie.Need-word-at-requires
+word-at-requires c κs = search needs
+
+-- src/lib.rt:196:27
+add-word-at : tie.Need-add-word-at
+add-word-at c = search needs
+
+-- src/lib.rt:196:13
+word-at-requires-2 : tie.Need-word-at-requires-2
+word-at-requires-2 c κs = search needs
+
+-- src/lib.rt:189:1
+returns : tie.Need-returns
+unfolding fieldAt
+returns c = rw (c .before .word-at .ensures .0, c .word-at2 .ensures .0) refl
+
+pub field-ty-at-spec : {M : Type 1} → statement M
+field-ty-at-spec =
+    tie.close (tie.spec mul-p add-p word-at-requires add-word-at word-at-requires-2 returns)

@@ -1,0 +1,60 @@
+use mathlib.Core.Path.{_≡_, refl, sym, ap, _∙_}
+use native.Mathlib.Omega.{arith}
+use Prim.Native.Nat.{_+_, _*_, _≤_, _<_}
+use lib.ListN.{length, getD}
+use denote.Ref.{now}
+use Rattle.file.specs.Tables.{tablesOf}
+use Rattle.file.specs.Steps.{word}
+use Rattle.views.specs.Views.{long}
+use borrow.Author.Needs.{needs}
+use Rattle.views.proofs.long_at.Statement.{statement}
+use Rattle.views.proofs.long_at.Tie as tie
+use Rattle.views.proofs.long_at.Reads as reads
+use Rattle.views.proofs.long_at.Lts as lts
+use Rattle.file.proofs.word_at.Reads as word-at-reads
+
+-- src/lib.rt:185:6
+word-at-requires : tie.Need-word-at-requires
+word-at-requires c κs = search needs
+
+-- src/lib.rt:185:6
+cast-result : tie.Need-cast-result
+cast-result c = search needs
+
+-- src/lib.rt:185:56
+add-word-at : tie.Need-add-word-at
+add-word-at c = search needs
+
+-- src/lib.rt:185:42
+word-at-requires-2 : tie.Need-word-at-requires-2
+word-at-requires-2 c κs = search needs
+
+-- src/lib.rt:185:42
+cast-result-2 : tie.Need-cast-result-2
+cast-result-2 c = search needs
+
+-- src/lib.rt:185:33
+mul-result : tie.Need-mul-result
+mul-result c = search needs
+
+-- src/lib.rt:185:5
+add-result : tie.Need-add-result
+add-result c = search needs
+
+-- src/lib.rt:181:1
+returns : tie.Need-returns
+unfolding long
+returns c = omega arith
+
+pub long-at-spec : {M : Type 1} → statement M
+long-at-spec =
+    tie.close
+    (tie.spec
+    word-at-requires
+    cast-result
+    add-word-at
+    word-at-requires-2
+    cast-result-2
+    mul-result
+    add-result
+    returns)

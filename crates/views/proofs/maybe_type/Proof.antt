@@ -1,0 +1,26 @@
+use Rattle.views.proofs.Entries.{none-is, some-is}
+use mathlib.Core.Path.{_≡_, refl, sym, ap, _∙_}
+use native.Mathlib.Omega.{arith}
+use Prim.Native.Nat.{_+_, _*_, _≤_, _<_, ℕ}
+use lib.ListN.{length, getD}
+use denote.Ref.{now}
+use borrow.Author.Needs.{needs}
+use Rattle.file.specs.Tables.{tablesOf}
+use Rattle.file.specs.Steps.{word}
+use Rattle.views.specs.Views.{orNone}
+use borrow.Author.Tests.{eq-eqb, ne-eqb}
+use Rattle.views.proofs.maybe_type.Statement.{statement}
+use Rattle.views.proofs.maybe_type.Tie as tie
+use Rattle.views.proofs.maybe_type.Reads as reads
+use Rattle.views.proofs.maybe_type.Lts as lts
+
+-- src/lib.rt:237:1
+returns : tie.Need-returns
+returns c = none-is _ (c .if1 .taken)
+
+-- src/lib.rt:237:1
+returns-2 : tie.Need-returns-2
+returns-2 c = some-is _ (c .if1 .left)
+
+pub maybe-type-spec : {M : Type 1} → statement M
+maybe-type-spec = tie.close (tie.spec returns returns-2)
