@@ -1,0 +1,11 @@
+-- Escaped bytes, one after another.
+pub mod Escapes
+-- A type of the form asked for, or not.
+pub mod Only
+-- Lengths that stop at the cap.
+pub mod Caps
+-- The fields and the payload, measured.
+pub mod Measured
+-- What `constant` gives for each form of node.
+pub mod Arms
+pub mod Known

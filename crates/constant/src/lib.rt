@@ -1,0 +1,266 @@
+// The constant that a pattern is at a type. It carries positions and the length of its bytes, which are produced only where they are wanted.
+ghost use mathlib.Core.Path.{_≡_};
+ghost use Prim.Native.Nat.{_+_, _*_, _≤_, _<_, min};
+ghost use mathlib.Core.List.{[], _∷_};
+ghost use lib.ListN.{length};
+ghost use Rattle.rules.specs.File.{nameAt, typeAt};
+ghost use Rattle.rules.specs.Constant as Rules;
+ghost use Rattle.rules.specs.Constant.{escape, encodePrefix, constantFields, constantRecord};
+ghost use Rattle.file.specs.Tables.{Indexed, tablesOf};
+ghost use Rattle.views.specs.Views.{run, byteAt, fieldAt, alternativeAt, patternAt};
+ghost use Rattle.ready.specs.Ready.{Ready};
+ghost use Rattle.constant.specs.Sizes.{cap, sizeWith, Small, viewOf, constView, intOnly, strOnly, bytesAlone, sizeOf, wrapped, fieldBytes, payloadBytes, Patterns, Fields, Alternatives};
+use lookups::Found;
+use lookups::MaybeAlternative;
+use lookups::alternative_of;
+use lookups::field_pattern;
+use lookups::folded;
+use views::Anchor;
+use views::NodeView;
+use views::TypeView;
+use views::field_pattern_at;
+use views::field_ty_at;
+use views::name_at;
+use views::node_at;
+use views::type_at;
+
+// Bytes has the node, the type and the length, which stops at CAP; Prefix the name; Fuzzy the name, the distance and the anchor.
+pub enum Const {
+    Nothing,
+    Bytes(usize, usize, usize),
+    Prefix(usize),
+    Fuzzy(usize, u8, Anchor),
+}
+
+// A number of bytes, which stops at CAP.
+pub enum Size {
+    Nothing,
+    Of(usize),
+}
+
+pub const CAP: usize = 65536;
+
+pub fn capped(a: usize, b: usize) -> usize
+    requires { ⌜ (a ≤ 131072) × (b ≤ 131072) ⌝ }
+    ensures { λ r. ⌜ r ≡ min cap (a + b) ⌝ }
+{
+    let n = a + b;
+    if n > CAP {
+        return CAP;
+    }
+    n
+}
+
+// How many bytes a byte takes.
+fn width(b: u8) -> usize
+    ensures { λ r. ⌜ r ≡ length (escape (b ∷ [])) ⌝ }
+{
+    if b == 0 { 2 } else { 1 }
+}
+
+// How many bytes the n bytes from at on take, a zero byte taking two.
+pub fn escaped_len(file: &[u8], at: usize, n: usize) -> usize
+    requires { ⌜ (at + n ≤ length (now file)) × (n ≤ 32768) ⌝ }
+    ensures { λ r. ⌜ (r ≡ length (escape (run (byteAt (now (file .entry))) 1 n at))) × (r ≤ 2 * n) ⌝ }
+{
+    let mut len: usize = 0;
+    let mut i: usize = 0;
+    while i < n {
+        len += width(file[at + i]);
+        i += 1;
+    }
+    len
+}
+
+// The length of a name's prefix bytes: 03 and its text.
+pub fn prefix_len(file: &[u8], index: &[u16], name: usize) -> usize
+    requires { ⌜ Indexed (now file) (now index) ⌝ }
+    requires { ⌜ name < length (tablesOf (now file) .names) ⌝ }
+    ensures { λ r. ⌜ (r ≡ length (encodePrefix (nameAt (tablesOf (now (file .entry))) name))) × (r ≤ 65537) ⌝ }
+{
+    let t = name_at(file, index, name);
+    1 + escaped_len(file, t.at, t.len)
+}
+
+fn at_int(file: &[u8], index: &[u16], ty: usize, c: Const) -> Const
+    requires { ⌜ Indexed (now file) (now index) ⌝ }
+    requires { ⌜ ty < length (tablesOf (now file) .types) ⌝ }
+    ensures { λ r. ⌜ r ≡ intOnly (typeAt (tablesOf (now (file .entry))) ty) c ⌝ }
+{
+    if let TypeView::Int = type_at(file, index, ty) {
+        c
+    } else {
+        Const::Nothing
+    }
+}
+
+fn at_str(file: &[u8], index: &[u16], ty: usize, c: Const) -> Const
+    requires { ⌜ Indexed (now file) (now index) ⌝ }
+    requires { ⌜ ty < length (tablesOf (now file) .types) ⌝ }
+    ensures { λ r. ⌜ r ≡ strOnly (typeAt (tablesOf (now (file .entry))) ty) c ⌝ }
+{
+    if let TypeView::Str = type_at(file, index, ty) {
+        c
+    } else {
+        Const::Nothing
+    }
+}
+
+fn at_bytes(file: &[u8], index: &[u16], ty: usize, c: Const) -> Const
+    requires { ⌜ Indexed (now file) (now index) ⌝ }
+    requires { ⌜ ty < length (tablesOf (now file) .types) ⌝ }
+    ensures { λ r. ⌜ r ≡ bytesAlone (typeAt (tablesOf (now (file .entry))) ty) c ⌝ }
+{
+    if let TypeView::Bytes = type_at(file, index, ty) {
+        c
+    } else {
+        Const::Nothing
+    }
+}
+
+// Prefix or Fuzzy within a record or union gives none.
+fn bytes_only(c: Const) -> Size
+    ensures { λ r. ⌜ r ≡ sizeOf c ⌝ }
+{
+    match c {
+        Const::Nothing => Size::Nothing,
+        Const::Bytes(_, _, n) => Size::Of(n),
+        Const::Prefix(_) => Size::Nothing,
+        Const::Fuzzy(_, _, _) => Size::Nothing,
+    }
+}
+
+// A constant of k bytes around what was measured.
+fn wrap(node: usize, ty: usize, k: usize, s: Size) -> Const
+    requires { ⌜ k ≤ 16 ⌝ }
+    requires { ⌜ Small s ⌝ }
+    ensures { λ r. ⌜ r ≡ wrapped node ty k s ⌝ }
+{
+    match s {
+        Size::Nothing => Const::Nothing,
+        Size::Of(n) => Const::Bytes(node, ty, capped(k, n)),
+    }
+}
+
+// A field's bytes: those of the first of a Record's n pairs that has its name.
+fn constant_field(
+    file: &[u8],
+    index: &[u16],
+    node: usize,
+    n: usize,
+    at: usize,
+    name: usize,
+    ty: usize,
+) -> Size
+    requires { ⌜ Ready (now file) (now index) ⌝ }
+    requires { ⌜ Patterns (now file) (tablesOf (now file)) node n at ⌝ }
+    requires { ⌜ ty < length (tablesOf (now file) .types) ⌝ }
+    ensures { λ r. ⌜ r ≡ sizeWith 0 (fieldBytes (Rules.constant (tablesOf (now (file .entry)))) (run (patternAt (now (file .entry))) 4 n at) name ty) ⌝ }
+{
+    let Found::At(p) = field_pattern(file, at, n, name) else {
+        return Size::Nothing;
+    };
+    bytes_only(constant(file, index, p, ty))
+}
+
+// The k fields of a Record type, in its order. The encoding is positional, so a missing one leaves none.
+fn constant_fields(
+    file: &[u8],
+    index: &[u16],
+    node: usize,
+    n: usize,
+    at: usize,
+    k: usize,
+    from: usize,
+) -> Size
+    requires { ⌜ Ready (now file) (now index) ⌝ }
+    requires { ⌜ Patterns (now file) (tablesOf (now file)) node n at ⌝ }
+    requires { ⌜ Fields (now file) (tablesOf (now file)) k from ⌝ }
+    ensures { λ r. ⌜ r ≡ sizeWith 0 (constantFields (Rules.constant (tablesOf (now (file .entry)))) (run (patternAt (now (file .entry))) 4 n at) (run (fieldAt (now (file .entry))) 4 k from)) ⌝ }
+{
+    let mut total: usize = 0;
+    let mut i: usize = 0;
+    while i < k {
+        let f = field_ty_at(file, from, i);
+        let Size::Of(len) = constant_field(file, index, node, n, at, f.name, f.ty) else {
+            return Size::Nothing;
+        };
+        total = capped(total, len);
+        i += 1;
+    }
+    Size::Of(total)
+}
+
+// The payload of a union value: a record of one pair, which names one of the k alternatives.
+fn constant_union(
+    file: &[u8],
+    index: &[u16],
+    node: usize,
+    n: usize,
+    at: usize,
+    k: usize,
+    from: usize,
+) -> Size
+    requires { ⌜ Ready (now file) (now index) ⌝ }
+    requires { ⌜ Patterns (now file) (tablesOf (now file)) node n at ⌝ }
+    requires { ⌜ Alternatives (now file) (tablesOf (now file)) k from ⌝ }
+    ensures { λ r. ⌜ r ≡ sizeWith 0 (payloadBytes (Rules.constant (tablesOf (now (file .entry)))) (run (patternAt (now (file .entry))) 4 n at) (run (alternativeAt (now (file .entry))) 8 k from)) ⌝ }
+{
+    if n != 1 {
+        return Size::Nothing;
+    }
+    let p = field_pattern_at(file, at, 0);
+    let MaybeAlternative::Just(a) = alternative_of(file, from, k, p.name) else {
+        return Size::Nothing;
+    };
+    bytes_only(constant(file, index, p.node, a.ty))
+}
+
+// A Record's n pairs at a type.
+fn constant_record(file: &[u8], index: &[u16], node: usize, ty: usize, n: usize, at: usize) -> Const
+    requires { ⌜ Ready (now file) (now index) ⌝ }
+    requires { ⌜ Patterns (now file) (tablesOf (now file)) node n at ⌝ }
+    requires { ⌜ ty < length (tablesOf (now file) .types) ⌝ }
+    ensures { λ r. ⌜ r ≡ viewOf (tablesOf (now (file .entry))) node ty (constantRecord (Rules.constant (tablesOf (now (file .entry)))) (run (patternAt (now (file .entry))) 4 n at) (typeAt (tablesOf (now (file .entry))) ty)) ⌝ }
+{
+    match type_at(file, index, ty) {
+        TypeView::Record(k, from) => wrap(
+            node,
+            ty,
+            2,
+            constant_fields(file, index, node, n, at, k, from),
+        ),
+        TypeView::Union(k, from) => wrap(
+            node,
+            ty,
+            6,
+            constant_union(file, index, node, n, at, k, from),
+        ),
+        _ => Const::Nothing,
+    }
+}
+
+// The bytes that a pattern determines at a type, if it determines all of them: their place and their length.
+pub fn constant(file: &[u8], index: &[u16], node: usize, ty: usize) -> Const
+    requires { ⌜ Ready (now file) (now index) ⌝ }
+    requires { ⌜ node < length (tablesOf (now file) .nodes) ⌝ }
+    requires { ⌜ ty < length (tablesOf (now file) .types) ⌝ }
+    ensures { λ r. ⌜ r ≡ constView (tablesOf (now (file .entry))) node ty ⌝ }
+{
+    let m = folded(file, index, node);
+    match node_at(file, index, m) {
+        NodeView::Int(_) => at_int(file, index, ty, Const::Bytes(node, ty, 9)),
+        NodeView::Str(x) => {
+            let n = capped(1, prefix_len(file, index, x));
+            at_str(file, index, ty, Const::Bytes(node, ty, n))
+        }
+        NodeView::Bytes(k, at) => {
+            let n = capped(2, escaped_len(file, at, k));
+            at_bytes(file, index, ty, Const::Bytes(node, ty, n))
+        }
+        NodeView::Prefix(x) => at_str(file, index, ty, Const::Prefix(x)),
+        NodeView::Fuzzy(x, d, a) => at_str(file, index, ty, Const::Fuzzy(x, d, a)),
+        NodeView::Record(n, at) => constant_record(file, index, node, ty, n, at),
+        _ => Const::Nothing,
+    }
+}

@@ -1,0 +1,248 @@
+// The bytes of a constant, written at a place of a lent buffer; the place after them is handed back. What lies past the buffer's end is lost.
+ghost use mathlib.Core.Path.{_≡_};
+ghost use Prim.Native.Nat.{_+_, _*_, _≤_, _<_};
+ghost use mathlib.Core.List.{[], _∷_};
+ghost use lib.ListN.{length};
+ghost use Rattle.rules.specs.File.{Ty, nameAt, typeAt};
+ghost use Rattle.rules.specs.Constant as Rules;
+ghost use Rattle.rules.specs.Constant.{escape, encodeInt, encodePrefix, encodeStr, encodeBytes, constantFields};
+ghost use Rattle.file.specs.Tables.{Indexed, tablesOf};
+ghost use Rattle.views.specs.Views.{run, byteAt, fieldAt, alternativeAt, patternAt};
+ghost use Rattle.records.specs.Records.{reach};
+ghost use Rattle.ready.specs.Ready.{Ready};
+ghost use Rattle.constant.specs.Sizes.{fieldBytes, Patterns, Fields, Alternatives};
+ghost use Rattle.encode.specs.Written.{orEmpty, bytesOf, recordBytes, Here, Wrote, down};
+use file::wide;
+use lookups::Found;
+use lookups::MaybeAlternative;
+use lookups::alternative_of;
+use lookups::field_pattern;
+use lookups::folded;
+use records::put_tag;
+use records::put8;
+use views::NodeView;
+use views::TypeView;
+use views::field_pattern_at;
+use views::field_ty_at;
+use views::name_at;
+use views::node_at;
+use views::type_at;
+
+// A byte; a zero byte is followed by FF.
+fn put_escaped(buf: &mut [u8], at: usize, b: u8) -> usize
+    requires { ⌜ at ≤ 3 * reach ⌝ }
+    ensures { λ r. ⌜ Wrote (escape (b ∷ [])) at (now (buf .entry)) r (now (buf .exit)) ⌝ }
+{
+    put8(buf, at, b);
+    if b == 0 {
+        put8(buf, at + 1, 255);
+        return at + 2;
+    }
+    at + 1
+}
+
+// n bytes of the file from a place on.
+fn put_text(file: &[u8], buf: &mut [u8], at: usize, from: usize, n: usize) -> usize
+    requires { ⌜ (from + n ≤ length (now file)) × (n ≤ 32768) × (at ≤ 2 * reach) ⌝ }
+    ensures { λ r. ⌜ Wrote (escape (run (byteAt (now (file .entry))) 1 n from)) at (now (buf .entry)) r (now (buf .exit)) ⌝ }
+{
+    let mut p = at;
+    let mut i: usize = 0;
+    while i < n {
+        p = put_escaped(buf, p, file[from + i]);
+        i += 1;
+    }
+    p
+}
+
+// n bytes of the file from a place on, the last of them first.
+fn put_down(file: &[u8], buf: &mut [u8], at: usize, from: usize, n: usize) -> usize
+    requires { ⌜ (from + n ≤ length (now file)) × (n ≤ 8) × (at ≤ 2 * reach) ⌝ }
+    ensures { λ r. ⌜ Wrote (down (byteAt (now (file .entry))) n from) at (now (buf .entry)) r (now (buf .exit)) ⌝ }
+{
+    let mut left = n;
+    let mut p = at;
+    while left > 0 {
+        left -= 1;
+        put8(buf, p, file[from + left]);
+        p += 1;
+    }
+    p
+}
+
+// 02, then eight bytes big-endian with the sign bit flipped.
+pub fn put_i64(file: &[u8], buf: &mut [u8], at: usize, from: usize) -> usize
+    requires { ⌜ (from + 8 ≤ length (now file)) × (at ≤ reach) ⌝ }
+    ensures { λ r. ⌜ Wrote (encodeInt (run (byteAt (now (file .entry))) 1 8 from)) at (now (buf .entry)) r (now (buf .exit)) ⌝ }
+{
+    put8(buf, at, 2);
+    let high = (wide(file[from + 7]) + 128) % 256;
+    put8(buf, at + 1, high as u8);
+    put_down(file, buf, at + 2, from, 7)
+}
+
+// A Prefix is the Str without its 00.
+pub fn put_prefix(file: &[u8], index: &[u16], buf: &mut [u8], at: usize, name: usize) -> usize
+    requires { ⌜ Indexed (now file) (now index) ⌝ }
+    requires { ⌜ (name < length (tablesOf (now file) .names)) × (at ≤ reach) ⌝ }
+    ensures { λ r. ⌜ Wrote (encodePrefix (nameAt (tablesOf (now (file .entry))) name)) at (now (buf .entry)) r (now (buf .exit)) ⌝ }
+    ensures { λ r. ⌜ r ≤ at + 65537 ⌝ }
+{
+    put8(buf, at, 3);
+    let t = name_at(file, index, name);
+    put_text(file, buf, at + 1, t.at, t.len)
+}
+
+pub fn put_str(file: &[u8], index: &[u16], buf: &mut [u8], at: usize, name: usize) -> usize
+    requires { ⌜ Indexed (now file) (now index) ⌝ }
+    requires { ⌜ (name < length (tablesOf (now file) .names)) × (at ≤ reach) ⌝ }
+    ensures { λ r. ⌜ Wrote (encodeStr (nameAt (tablesOf (now (file .entry))) name)) at (now (buf .entry)) r (now (buf .exit)) ⌝ }
+{
+    let p = put_prefix(file, index, buf, at, name);
+    put8(buf, p, 0);
+    p + 1
+}
+
+pub fn put_bytes(file: &[u8], buf: &mut [u8], at: usize, from: usize, n: usize) -> usize
+    requires { ⌜ (from + n ≤ length (now file)) × (n ≤ 32768) × (at ≤ reach) ⌝ }
+    ensures { λ r. ⌜ Wrote (encodeBytes (run (byteAt (now (file .entry))) 1 n from)) at (now (buf .entry)) r (now (buf .exit)) ⌝ }
+{
+    put8(buf, at, 4);
+    let p = put_text(file, buf, at + 1, from, n);
+    put8(buf, p, 0);
+    p + 1
+}
+
+// A field: the first of a Record's n pairs that has its name.
+fn put_field(
+    file: &[u8],
+    index: &[u16],
+    buf: &mut [u8],
+    at: usize,
+    node: usize,
+    n: usize,
+    pairs: usize,
+    name: usize,
+    ty: usize,
+) -> usize
+    requires { ⌜ Ready (now file) (now index) ⌝ }
+    requires { ⌜ Patterns (now file) (tablesOf (now file)) node n pairs ⌝ }
+    requires { ⌜ ty < length (tablesOf (now file) .types) ⌝ }
+    requires { ⌜ Here (fieldBytes (Rules.constant (tablesOf (now file))) (run (patternAt (now file)) 4 n pairs) name ty) at ⌝ }
+    ensures { λ r. ⌜ Wrote (orEmpty (fieldBytes (Rules.constant (tablesOf (now (file .entry)))) (run (patternAt (now (file .entry))) 4 n pairs) name ty)) at (now (buf .entry)) r (now (buf .exit)) ⌝ }
+{
+    let Found::At(p) = field_pattern(file, pairs, n, name) else {
+        return at;
+    };
+    put_constant(file, index, buf, at, p, ty)
+}
+
+// The k fields of a Record type, in its order.
+fn put_fields(
+    file: &[u8],
+    index: &[u16],
+    buf: &mut [u8],
+    at: usize,
+    node: usize,
+    n: usize,
+    pairs: usize,
+    k: usize,
+    from: usize,
+) -> usize
+    requires { ⌜ Ready (now file) (now index) ⌝ }
+    requires { ⌜ Patterns (now file) (tablesOf (now file)) node n pairs ⌝ }
+    requires { ⌜ Fields (now file) (tablesOf (now file)) k from ⌝ }
+    requires { ⌜ Here (constantFields (Rules.constant (tablesOf (now file))) (run (patternAt (now file)) 4 n pairs) (run (fieldAt (now file)) 4 k from)) at ⌝ }
+    ensures { λ r. ⌜ Wrote (orEmpty (constantFields (Rules.constant (tablesOf (now (file .entry)))) (run (patternAt (now (file .entry))) 4 n pairs) (run (fieldAt (now (file .entry))) 4 k from))) at (now (buf .entry)) r (now (buf .exit)) ⌝ }
+{
+    let mut p = at;
+    let mut i: usize = 0;
+    while i < k {
+        let f = field_ty_at(file, from, i);
+        p = put_field(file, index, buf, p, node, n, pairs, f.name, f.ty);
+        i += 1;
+    }
+    p
+}
+
+// 05, the disc big-endian, the payload, 00. A union value is one pair, which names one of the k alternatives.
+fn put_union(
+    file: &[u8],
+    index: &[u16],
+    buf: &mut [u8],
+    at: usize,
+    node: usize,
+    n: usize,
+    pairs: usize,
+    k: usize,
+    from: usize,
+) -> usize
+    requires { ⌜ Ready (now file) (now index) ⌝ }
+    requires { ⌜ Patterns (now file) (tablesOf (now file)) node n pairs ⌝ }
+    requires { ⌜ Alternatives (now file) (tablesOf (now file)) k from ⌝ }
+    requires { ⌜ Here (recordBytes (Rules.constant (tablesOf (now file))) (run (patternAt (now file)) 4 n pairs) (Ty.Union (run (alternativeAt (now file)) 8 k from))) at ⌝ }
+    ensures { λ r. ⌜ Wrote (orEmpty (recordBytes (Rules.constant (tablesOf (now (file .entry)))) (run (patternAt (now (file .entry))) 4 n pairs) (Ty.Union (run (alternativeAt (now (file .entry))) 8 k from)))) at (now (buf .entry)) r (now (buf .exit)) ⌝ }
+{
+    let p = field_pattern_at(file, pairs, 0);
+    let MaybeAlternative::Just(a) = alternative_of(file, from, k, p.name) else {
+        return at;
+    };
+    put_tag(buf, at, a.disc);
+    let q = put_constant(file, index, buf, at + 5, p.node, a.ty);
+    put8(buf, q, 0);
+    q + 1
+}
+
+// A Record's n pairs at a type: 06, the fields, 00; or a union.
+fn put_record(
+    file: &[u8],
+    index: &[u16],
+    buf: &mut [u8],
+    at: usize,
+    node: usize,
+    n: usize,
+    pairs: usize,
+    ty: usize,
+) -> usize
+    requires { ⌜ Ready (now file) (now index) ⌝ }
+    requires { ⌜ Patterns (now file) (tablesOf (now file)) node n pairs ⌝ }
+    requires { ⌜ ty < length (tablesOf (now file) .types) ⌝ }
+    requires { ⌜ Here (recordBytes (Rules.constant (tablesOf (now file))) (run (patternAt (now file)) 4 n pairs) (typeAt (tablesOf (now file)) ty)) at ⌝ }
+    ensures { λ r. ⌜ Wrote (orEmpty (recordBytes (Rules.constant (tablesOf (now (file .entry)))) (run (patternAt (now (file .entry))) 4 n pairs) (typeAt (tablesOf (now (file .entry))) ty))) at (now (buf .entry)) r (now (buf .exit)) ⌝ }
+{
+    match type_at(file, index, ty) {
+        TypeView::Record(k, from) => {
+            put8(buf, at, 6);
+            let p = put_fields(file, index, buf, at + 1, node, n, pairs, k, from);
+            put8(buf, p, 0);
+            p + 1
+        }
+        TypeView::Union(k, from) => put_union(file, index, buf, at, node, n, pairs, k, from),
+        _ => at,
+    }
+}
+
+// The bytes of a node at a type, where its constant is bytes.
+pub fn put_constant(
+    file: &[u8],
+    index: &[u16],
+    buf: &mut [u8],
+    at: usize,
+    node: usize,
+    ty: usize,
+) -> usize
+    requires { ⌜ Ready (now file) (now index) ⌝ }
+    requires { ⌜ node < length (tablesOf (now file) .nodes) ⌝ }
+    requires { ⌜ ty < length (tablesOf (now file) .types) ⌝ }
+    requires { ⌜ Here (bytesOf (tablesOf (now file)) node ty) at ⌝ }
+    ensures { λ r. ⌜ Wrote (orEmpty (bytesOf (tablesOf (now (file .entry))) node ty)) at (now (buf .entry)) r (now (buf .exit)) ⌝ }
+{
+    let m = folded(file, index, node);
+    match node_at(file, index, m) {
+        NodeView::Int(p) => put_i64(file, buf, at, p),
+        NodeView::Str(x) => put_str(file, index, buf, at, x),
+        NodeView::Bytes(n, p) => put_bytes(file, buf, at, p, n),
+        NodeView::Record(n, p) => put_record(file, index, buf, at, node, n, p, ty),
+        _ => at,
+    }
+}

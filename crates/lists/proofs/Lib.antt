@@ -1,0 +1,5 @@
+pub mod Appends
+pub mod Forms
+pub mod Scans
+pub mod Fits
+pub mod Finds

@@ -1,0 +1,36 @@
+use Rattle.lists.proofs.Scans.{found-reads, found-slot, found-none}
+use borrow.Author.Needs.{needs}
+use Rattle.lists.proofs.made_slot.Statement.{statement}
+use Rattle.lists.proofs.made_slot.Tie as tie
+use Rattle.lists.proofs.made_slot.Reads as reads
+use Rattle.lists.proofs.made_slot.Lts as lts
+use Rattle.lists.proofs.find.Reads as find-reads
+use Rattle.lists.proofs.slot_at.Reads as slot-at-reads
+
+-- src/lib.rt:361:27
+find-requires : tie.Need-find-requires
+find-requires c κs = search needs
+
+-- src/lib.rt:361:22
+enum-known-p : tie.Need-enum-known-p
+enum-known-p c = search needs
+
+-- src/lib.rt:362:34
+slot-at-requires : tie.Need-slot-at-requires
+slot-at-requires c κs = found-reads _ _ _ (c .before .before .before .find .ensures) _ (c .before .p .given .1)
+
+-- src/lib.rt:364:9
+enum-told : tie.Need-enum-told
+enum-told c = search needs
+
+-- src/lib.rt:358:1
+returns : tie.Need-returns
+returns c = found-slot _ _ _ (c .before .before .before .before .find .ensures) _ _ (c .before .before .p .given .1) (c .slot-at .ensures)
+
+-- src/lib.rt:358:1
+returns-2 : tie.Need-returns-2
+returns-2 c = found-none _ _ _ (c .before .before .find .ensures) (c .enum-told .given .1)
+
+pub made-slot-spec : {M : Type 1} → statement M
+made-slot-spec =
+    tie.close (tie.spec find-requires enum-known-p slot-at-requires enum-told returns returns-2)

@@ -1,0 +1,90 @@
+use borrow.Author.Tests.{not-false}
+use mathlib.Core.Path.{_≡_, refl, sym, ap, _∙_}
+use native.Mathlib.Omega.{arith}
+use Rattle.rules.specs.Plan as Plan
+use Rattle.state.specs.State.{stop}
+use Rattle.state.specs.Ops as Ops
+use Rattle.records.proofs.Stores.{next, byte-is, word-is}
+use Rattle.lists.specs.Lists.{stateWith}
+use Rattle.lists.proofs.Appends.{over, not-over, appended, no-room, stops, counted, too-many}
+use borrow.Author.Needs.{needs}
+use Rattle.lists.proofs.report.Statement.{statement}
+use Rattle.lists.proofs.report.Tie as tie
+use Rattle.lists.proofs.report.Reads as reads
+use Rattle.lists.proofs.report.Lts as lts
+use Rattle.lists.proofs.code_number.Reads as code-number-reads
+use Rattle.lists.proofs.stopped.Reads as stopped-reads
+use Rattle.records.proofs.put16.Reads as put16-reads
+use Rattle.records.proofs.put8.Reads as put8-reads
+use Rattle.records.proofs.wide32.Reads as wide32-reads
+
+-- src/lib.rt:103:9
+returns : tie.Need-returns
+unfolding Ops.report
+returns c = λ lv tg p. over _ _ (c .if1 .taken)
+
+-- src/lib.rt:106:9
+wide32-requires : tie.Need-wide32-requires
+wide32-requires c κs = search needs
+
+-- src/lib.rt:107:15
+add-end : tie.Need-add-end
+add-end c = search needs
+
+-- src/lib.rt:109:9
+stopped-requires : tie.Need-stopped-requires
+stopped-requires c κs = search needs
+
+-- src/lib.rt:109:9
+returns-2 : tie.Need-returns-2
+unfolding Ops.report Plan.diagnostic Plan.u16
+returns-2 c = λ lv tg p. stops _ _ _ _ _ _ _ (c .before .before .before .before .if1 .left) (c .stopped .ensures) (no-room _ _ _ _ _ _ _ (c .before .before .wide32 .ensures .0) refl (c .before .if2 .taken))
+
+-- src/lib.rt:111:5
+put16-requires : tie.Need-put16-requires
+put16-requires c κs = search needs
+
+-- src/lib.rt:112:16
+add-put8 : tie.Need-add-put8
+add-put8 c = search needs
+
+-- src/lib.rt:112:24
+code-number-requires : tie.Need-code-number-requires
+code-number-requires c κs = search needs
+
+-- src/lib.rt:112:5
+put8-requires : tie.Need-put8-requires
+put8-requires c κs = search needs
+
+-- src/lib.rt:113:24
+cast-ends : tie.Need-cast-ends
+cast-ends c = search needs
+
+-- src/lib.rt:99:1
+same-length : tie.Need-same-length
+same-length c = search needs
+
+-- src/lib.rt:99:1
+returns-3 : tie.Need-returns-3
+unfolding Ops.report Plan.diagnostic Plan.u16
+returns-3 c = λ lv tg p.
+    not-over _ _ _ (c .before .before .before .before .before .before .before .before .before .before .before .before .if1 .left)
+    (appended _ _ _ _ _ _ _ (c .before .before .before .before .before .before .before .before .before .before .wide32 .ensures .0) refl _ (c .before .before .before .before .before .before .before .before .before .if2 .left)
+    (next _ _ _ _ _ _ _ (c .before .before .before .before .before .before .before .put16 .ensures) (byte-is _ _ _ _ _ (c .before .before .put8 .ensures) (c .before .before .before .code-number .ensures)) refl))
+
+pub report-spec : {M : Type 1} → statement M
+report-spec =
+    tie.close
+    (tie.spec
+    returns
+    wide32-requires
+    add-end
+    stopped-requires
+    returns-2
+    put16-requires
+    add-put8
+    code-number-requires
+    put8-requires
+    cast-ends
+    same-length
+    returns-3)

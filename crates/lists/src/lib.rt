@@ -1,0 +1,517 @@
+// The four lists as runs of records in the work area, each record in the plan's form. A record that its run has no room for means that the plan
+// is too long: `over` is set, and nothing changes any more.
+ghost use mathlib.Core.Path.{_≡_};
+ghost use mathlib.Core.Bool.{true, false};
+ghost use mathlib.Core.List.{List, [], _∷_, _++_};
+ghost use mathlib.Core.Option.{Option·getD, some};
+ghost use Prim.Native.Nat.{ℕ, _+_, _*_, _≤_, _<_};
+ghost use lib.Dec.{ltb, leb};
+ghost use lib.ListN.{length, getD, take};
+ghost use Rattle.rules.specs.Base.{both};
+ghost use Rattle.rules.specs.Limits.{depthLimit};
+ghost use Rattle.rules.specs.File.{depth};
+ghost use Rattle.rules.specs.Checks.{noneOr, isType, isPredicate, isNode, slotIn, slotFits};
+ghost use Rattle.rules.specs.Constant as Constant;
+ghost use Rattle.rules.specs.Events.{codeNumber};
+ghost use Rattle.rules.specs.Plan as Plan;
+ghost use Rattle.state.specs.State.{Level, Target, bindingsIn, made};
+ghost use Rattle.state.specs.Ops as Ops;
+ghost use Rattle.state.specs.Ops.{fitting, ops};
+ghost use Rattle.file.specs.Steps.{word};
+ghost use Rattle.file.specs.Tables.{tablesOf};
+ghost use Rattle.paths.specs.Paths.{pathOf};
+ghost use Rattle.views.specs.Views as Views;
+ghost use Rattle.views.specs.Views.{sizeOf, orNone, predicateOption, pathAt, PathInside, SlotInside};
+ghost use Rattle.ready.specs.Ready.{Ready};
+ghost use Rattle.lookups.specs.Lookups.{SeenSlot};
+ghost use Rattle.slots.specs.Slots.{slotOf, slotOption};
+ghost use Rattle.records.specs.Records.{put, reach};
+ghost use Rattle.lists.specs.Lists.{stateWith, overrun, codeOf, fitsTables, isBound, later, slotFrom, Readable, SeenAt, SeenView, ShortSlot};
+use file::DEPTHS;
+use file::Step;
+use file::binding_end;
+use file::wide;
+use file::wide16;
+use file::word_at;
+use lookup::path_at;
+use lookups::Found;
+use paths::Address;
+use paths::FieldPath;
+use paths::PredicateId;
+use records::path_size;
+use records::put_path;
+use records::put8;
+use records::put16;
+use records::put32;
+use records::wide32;
+use slots::MaybeSlot;
+use slots::Slot;
+use slots::SlotKind;
+use slots::just;
+use slots::nothing;
+use views::MaybePredicate;
+use views::SlotView;
+use views::count_of;
+
+// Where each list ends in the work area, and how many records the two have whose records differ in length.
+pub struct Ends {
+    pub bindings: u32,
+    pub binding_count: u32,
+    pub constrained: u32,
+    pub selects: u32,
+    pub select_count: u32,
+    pub diagnostics: u32,
+}
+
+pub struct Lists {
+    pub over: bool,
+    pub ends: Ends,
+}
+
+pub enum Code {
+    NyiDisjunction,
+    NyiFactField,
+    NyiNever,
+    NyiRepeatedVariable,
+    NyiValueField,
+    NyiValueMatch,
+    NyiWholeKey,
+    RejectTypeMismatch,
+    RejectUnionArity,
+    RejectUnknownAlternative,
+    RejectUnresolvedAccess,
+}
+
+// Where the runs end: a run has as many bytes as a plan may have.
+const BINDINGS_END: usize = 16384;
+
+const CONSTRAINED_END: usize = 32768;
+
+const SELECTS_END: usize = 49152;
+
+const DIAGNOSTICS_END: usize = 65536;
+
+// How deep a type may be; a path's steps and its type's depth are no more.
+const DEPTH_LIMIT: usize = 16;
+
+// How many records a count's two bytes hold.
+const COUNT_LIMIT: u32 = 65535;
+
+fn stopped(l: Lists) -> Lists
+    ensures { λ r. ⌜ r ≡ overrun l ⌝ }
+{
+    let mut r = l;
+    r.over = true;
+    r
+}
+
+fn code_number(code: Code) -> u8
+    ensures { λ r. ⌜ r ≡ codeNumber (codeOf code) ⌝ }
+{
+    match code {
+        Code::NyiDisjunction => 1,
+        Code::NyiFactField => 2,
+        Code::NyiNever => 3,
+        Code::NyiRepeatedVariable => 4,
+        Code::NyiValueField => 5,
+        Code::NyiValueMatch => 6,
+        Code::NyiWholeKey => 7,
+        Code::RejectTypeMismatch => 8,
+        Code::RejectUnionArity => 9,
+        Code::RejectUnknownAlternative => 10,
+        Code::RejectUnresolvedAccess => 11,
+    }
+}
+
+// A diagnostic more.
+pub fn report(work: &mut [u8], l: Lists, node: usize, code: Code) -> Lists
+    ensures { λ r. ⌜ ((lv : Level) (tg : Target) (p : List ℕ) → stateWith r lv tg (now (work .exit)) p ≡ Ops.report node (codeOf code) (stateWith l lv tg (now (work .entry)) p)) ⌝ }
+{
+    if l.over {
+        return l;
+    }
+    let mut ends = l.ends;
+    let at = wide32(ends.diagnostics);
+    let end = at + 3;
+    if end > DIAGNOSTICS_END {
+        return stopped(l);
+    }
+    put16(work, at, node);
+    put8(work, at + 2, code_number(code));
+    ends.diagnostics = end as u32;
+    let mut r = l;
+    r.ends = ends;
+    r
+}
+
+// A constrained name more.
+pub fn constrained(work: &mut [u8], l: Lists, name: usize) -> Lists
+    ensures { λ r. ⌜ ((lv : Level) (tg : Target) (p : List ℕ) → stateWith r lv tg (now (work .exit)) p ≡ Ops.constrained name (stateWith l lv tg (now (work .entry)) p)) ⌝ }
+{
+    if l.over {
+        return l;
+    }
+    let mut ends = l.ends;
+    let at = wide32(ends.constrained);
+    let end = at + 2;
+    if end > CONSTRAINED_END {
+        return stopped(l);
+    }
+    put16(work, at, name);
+    ends.constrained = end as u32;
+    let mut r = l;
+    r.ends = ends;
+    r
+}
+
+// A select more.
+pub fn select(work: &mut [u8], l: Lists, address: Address, path: FieldPath, disc: u32) -> Lists
+    ensures { λ r. ⌜ ((lv : Level) (tg : Target) (p : List ℕ) → stateWith r lv tg (now (work .exit)) p ≡ Ops.select (address .0) (pathOf path) disc (stateWith l lv tg (now (work .entry)) p)) ⌝ }
+{
+    if l.over {
+        return l;
+    }
+    let mut ends = l.ends;
+    let count = ends.select_count;
+    if count >= COUNT_LIMIT {
+        return stopped(l);
+    }
+    let at = wide32(ends.selects);
+    let end = at + path_size(path) + 6;
+    if end > SELECTS_END {
+        return stopped(l);
+    }
+    put16(work, at, wide16(address.0));
+    let q = put_path(work, at + 2, path);
+    put32(work, q, disc);
+    ends.selects = end as u32;
+    ends.select_count = count + 1;
+    let mut r = l;
+    r.ends = ends;
+    r
+}
+
+// A predicate's number, or FFFF for none.
+fn predicate_number(p: MaybePredicate) -> usize
+    ensures { λ r. ⌜ r ≡ Option·getD (predicateOption p) 65535 ⌝ }
+{
+    match p {
+        MaybePredicate::Nothing => 65535,
+        MaybePredicate::Just(id) => wide16(id.0),
+    }
+}
+
+fn slot_size(slot: Slot) -> usize
+    ensures { λ r. ⌜ (r ≡ length (Plan.slot (slotOf slot))) × (r ≤ 68) ⌝ }
+{
+    let kind = slot.kind;
+    match kind {
+        SlotKind::Row(_, _) => 5,
+        SlotKind::Key(_, _) => 5,
+        SlotKind::Derived(_) => 3,
+        SlotKind::Field(_, _) => 5 + path_size(slot.path),
+        SlotKind::Value(_, _) => 5,
+        SlotKind::Const(_) => 3,
+    }
+}
+
+// A kind, and one number or two.
+fn put_one(work: &mut [u8], at: usize, kind: u8, a: usize)
+    requires { ⌜ at ≤ 2 * reach ⌝ }
+    ensures { λ _. ⌜ now (work .exit) ≡ put (now (work .entry)) at (kind ∷ Plan.u16 a) ⌝ }
+{
+    put8(work, at, kind);
+    put16(work, at + 1, a);
+}
+
+fn put_two(work: &mut [u8], at: usize, kind: u8, a: usize, b: usize)
+    requires { ⌜ at ≤ reach ⌝ }
+    ensures { λ _. ⌜ now (work .exit) ≡ put (now (work .entry)) at (kind ∷ Plan.u16 a ++ Plan.u16 b) ⌝ }
+{
+    put_one(work, at, kind, a);
+    put16(work, at + 3, b);
+}
+
+fn put_field(work: &mut [u8], at: usize, address: Address, path: FieldPath, ty: usize)
+    requires { ⌜ at ≤ reach ⌝ }
+    ensures { λ _. ⌜ now (work .exit) ≡ put (now (work .entry)) at (3 ∷ Plan.u16 (address .0) ++ Plan.path (pathOf path) ++ Plan.u16 ty) ⌝ }
+{
+    put_one(work, at, 3, wide16(address.0));
+    let q = put_path(work, at + 3, path);
+    put16(work, q, ty);
+}
+
+fn put_slot(work: &mut [u8], at: usize, slot: Slot)
+    requires { ⌜ at ≤ reach ⌝ }
+    ensures { λ _. ⌜ now (work .exit) ≡ put (now (work .entry)) at (Plan.slot (slotOf slot)) ⌝ }
+{
+    let kind = slot.kind;
+    match kind {
+        SlotKind::Row(a, p) => put_two(work, at, 0, wide16(a.0), predicate_number(p)),
+        SlotKind::Key(a, t) => put_two(work, at, 1, wide16(a.0), t),
+        SlotKind::Derived(a) => put_one(work, at, 2, wide16(a.0)),
+        SlotKind::Field(a, t) => put_field(work, at, a, slot.path, t),
+        SlotKind::Value(a, t) => put_two(work, at, 4, wide16(a.0), t),
+        SlotKind::Const(n) => put_one(work, at, 5, n),
+    }
+}
+
+// A binding more.
+pub fn bind(work: &mut [u8], l: Lists, name: usize, slot: Slot) -> Lists
+    ensures { λ r. ⌜ ((lv : Level) (tg : Target) (p : List ℕ) → stateWith r lv tg (now (work .exit)) p ≡ Ops.bind name (slotOf slot) (stateWith l lv tg (now (work .entry)) p)) ⌝ }
+{
+    if l.over {
+        return l;
+    }
+    let mut ends = l.ends;
+    let count = ends.binding_count;
+    if count >= COUNT_LIMIT {
+        return stopped(l);
+    }
+    let at = wide32(ends.bindings);
+    let end = at + 2 + slot_size(slot);
+    if end > BINDINGS_END {
+        return stopped(l);
+    }
+    put16(work, at, name);
+    put_slot(work, at + 2, slot);
+    ends.bindings = end as u32;
+    ends.binding_count = count + 1;
+    let mut r = l;
+    r.ends = ends;
+    r
+}
+
+// The binding at p if it has the name, else what was found before it.
+fn later(bytes: &[u8], p: usize, name: usize, found: Found) -> Found
+    requires { ⌜ p + 2 ≤ length (now bytes) ⌝ }
+    ensures { λ r. ⌜ r ≡ later (now (bytes .entry)) p name found ⌝ }
+{
+    if word_at(bytes, p) == name {
+        Found::At(p)
+    } else {
+        found
+    }
+}
+
+// The last binding of a name among records one after another, up to the first that is none.
+fn find(bytes: &[u8], name: usize) -> Found
+    ensures { λ r. ⌜ SeenAt (now (bytes .entry)) (Constant.lookup (bindingsIn (length (now (bytes .entry))) (now (bytes .entry))) name) r ⌝ }
+{
+    let mut found = Found::Nothing;
+    let mut p: usize = 0;
+    while p < bytes.len() {
+        match binding_end(bytes, p) {
+            Step::Next(q) => {
+                found = later(bytes, p, name, found);
+                p = q;
+            }
+            Step::Refused(x) => {
+                return found;
+            }
+        }
+    }
+    found
+}
+
+fn register_at(bytes: &[u8], p: usize) -> Address
+    requires { ⌜ p + 2 ≤ length (now bytes) ⌝ }
+    ensures { λ r. ⌜ r .0 ≡ word (now (bytes .entry)) p ⌝ }
+{
+    Address(word_at(bytes, p) as u16)
+}
+
+fn predicate_from(bytes: &[u8], p: usize) -> MaybePredicate
+    requires { ⌜ p + 2 ≤ length (now bytes) ⌝ }
+    ensures { λ r. ⌜ predicateOption r ≡ orNone (word (now (bytes .entry)) p) ⌝ }
+{
+    let n = word_at(bytes, p);
+    if n == 65535 {
+        MaybePredicate::Nothing
+    } else {
+        MaybePredicate::Just(PredicateId(n as u16))
+    }
+}
+
+// The type after a path.
+fn past_path(bytes: &[u8], at: usize) -> usize
+    requires { ⌜ at + 3 + 4 * getD (now bytes) (at + 2) 0 + 2 ≤ length (now bytes) ⌝ }
+    ensures { λ r. ⌜ r ≡ word (now (bytes .entry)) (at + 3 + 4 * getD (now (bytes .entry)) (at + 2) 0) ⌝ }
+{
+    word_at(bytes, at + 3 + 4 * wide(bytes[at + 2]))
+}
+
+// The slot of the binding that stands at at.
+fn slot_at(bytes: &[u8], at: usize) -> SlotView
+    requires { ⌜ Readable (now bytes) at ⌝ }
+    ensures { λ r. ⌜ SeenView (now (bytes .entry)) (slotFrom (now (bytes .entry)) at) r ⌝ }
+{
+    let q = at + 2;
+    let p = q + 1;
+    match bytes[q] {
+        0 => SlotView::Row(register_at(bytes, p), predicate_from(bytes, p + 2)),
+        1 => SlotView::Key(register_at(bytes, p), word_at(bytes, p + 2)),
+        2 => SlotView::Derived(register_at(bytes, p)),
+        3 => SlotView::Field(register_at(bytes, p), p + 2, past_path(bytes, p + 2)),
+        4 => SlotView::Value(register_at(bytes, p), word_at(bytes, p + 2)),
+        _ => SlotView::Const(word_at(bytes, p)),
+    }
+}
+
+// The slot of a name's last entry among them.
+fn made_slot(bytes: &[u8], name: usize) -> lookups::MaybeSlot
+    ensures { λ r. ⌜ SeenSlot (now (bytes .entry)) (Constant.lookup (bindingsIn (length (now (bytes .entry))) (now (bytes .entry))) name) r ⌝ }
+{
+    if let Found::At(p) = find(bytes, name) {
+        lookups::MaybeSlot::Just(slot_at(bytes, p))
+    } else {
+        lookups::MaybeSlot::Nothing
+    }
+}
+
+// Whether n is a number of section s.
+fn numbered(file: &[u8], index: &[u16], s: usize, n: usize) -> bool
+    requires { ⌜ Ready (now file) (now index) ⌝ }
+    requires { ⌜ s < 10 ⌝ }
+    ensures { λ r. ⌜ r ≡ ltb n (sizeOf (tablesOf (now (file .entry))) s) ⌝ }
+{
+    if n < count_of(file, index, s) {
+        return true;
+    }
+    false
+}
+
+fn predicate_in(file: &[u8], index: &[u16], p: MaybePredicate) -> bool
+    requires { ⌜ Ready (now file) (now index) ⌝ }
+    ensures { λ r. ⌜ r ≡ noneOr (isPredicate (tablesOf (now (file .entry)))) (predicateOption p) ⌝ }
+{
+    match p {
+        MaybePredicate::Nothing => true,
+        MaybePredicate::Just(id) => numbered(file, index, 2, wide16(id.0)),
+    }
+}
+
+// Whether the path at at has room for the steps below a type.
+fn path_fits(file: &[u8], index: &[u16], bytes: &[u8], at: usize, t: usize) -> bool
+    requires { ⌜ Ready (now file) (now index) ⌝ }
+    requires { ⌜ PathInside (now bytes) at ⌝ }
+    ensures { λ r. ⌜ r ≡ both (isType (tablesOf (now (file .entry))) t) (leb (length (pathAt (now (bytes .entry)) at .steps) + depth (tablesOf (now (file .entry))) t) depthLimit) ⌝ }
+{
+    if !numbered(file, index, 1, t) {
+        return false;
+    }
+    let n = wide(bytes[at + 2]);
+    if n + wide16(index[DEPTHS + t]) <= DEPTH_LIMIT {
+        return true;
+    }
+    false
+}
+
+// Whether a slot's numbers are the file's, and its path has room.
+fn slot_fits(file: &[u8], index: &[u16], bytes: &[u8], v: SlotView) -> bool
+    requires { ⌜ Ready (now file) (now index) ⌝ }
+    requires { ⌜ SlotInside (now bytes) v ⌝ }
+    ensures { λ r. ⌜ r ≡ fitsTables (tablesOf (now (file .entry))) (Views.slotOf (now (bytes .entry)) v) ⌝ }
+{
+    match v {
+        SlotView::Row(_, p) => predicate_in(file, index, p),
+        SlotView::Key(_, t) => numbered(file, index, 1, t),
+        SlotView::Derived(_) => true,
+        SlotView::Field(_, at, t) => path_fits(file, index, bytes, at, t),
+        SlotView::Value(_, _) => true,
+        SlotView::Const(_) => true,
+    }
+}
+
+// The slot of a view, by value.
+fn slot_of(bytes: &[u8], v: SlotView) -> Slot
+    requires { ⌜ SlotInside (now bytes) v ⌝ }
+    requires { ⌜ ShortSlot (now bytes) v ⌝ }
+    ensures { λ r. ⌜ slotOf r ≡ Views.slotOf (now (bytes .entry)) v ⌝ }
+{
+    match v {
+        SlotView::Row(a, p) => Slot::plain(SlotKind::Row(a, p)),
+        SlotView::Key(a, t) => Slot::plain(SlotKind::Key(a, t)),
+        SlotView::Derived(a) => Slot::plain(SlotKind::Derived(a)),
+        SlotView::Field(a, at, t) => Slot::field(a, path_at(bytes, at), t),
+        SlotView::Value(a, t) => Slot::plain(SlotKind::Value(a, t)),
+        SlotView::Const(n) => Slot::plain(SlotKind::Const(n)),
+    }
+}
+
+// The slot of a view, if it fits.
+fn fitted(file: &[u8], index: &[u16], bytes: &[u8], v: SlotView) -> MaybeSlot
+    requires { ⌜ Ready (now file) (now index) ⌝ }
+    requires { ⌜ SlotInside (now bytes) v ⌝ }
+    ensures { λ r. ⌜ slotOption r ≡ fitting (tablesOf (now (file .entry))) (some (Views.slotOf (now (bytes .entry)) v)) ⌝ }
+{
+    if slot_fits(file, index, bytes, v) {
+        just(slot_of(bytes, v))
+    } else {
+        nothing()
+    }
+}
+
+// The file's own slot of a name.
+fn own_slot(file: &[u8], index: &[u16], name: usize) -> MaybeSlot
+    requires { ⌜ Ready (now file) (now index) ⌝ }
+    ensures { λ r. ⌜ slotOption r ≡ fitting (tablesOf (now (file .entry))) (Constant.lookup (tablesOf (now (file .entry)) .bindings) name) ⌝ }
+{
+    if let lookups::MaybeSlot::Just(v) = lookups::lookup(file, index, name) {
+        fitted(file, index, file, v)
+    } else {
+        nothing()
+    }
+}
+
+// Whether there is one.
+fn own_bound(file: &[u8], index: &[u16], name: usize) -> bool
+    requires { ⌜ Ready (now file) (now index) ⌝ }
+    ensures { λ r. ⌜ r ≡ isBound (fitting (tablesOf (now (file .entry))) (Constant.lookup (tablesOf (now (file .entry)) .bindings) name)) ⌝ }
+{
+    if let lookups::MaybeSlot::Just(v) = lookups::lookup(file, index, name) {
+        slot_fits(file, index, file, v)
+    } else {
+        false
+    }
+}
+
+// Where the bindings end, within the work area.
+fn made_end(work: &[u8], l: Lists) -> usize
+    ensures { λ r. ⌜ (take r (now (work .entry)) ≡ take (l .ends .bindings) (now (work .entry))) × (r ≤ length (now (work .entry))) ⌝ }
+{
+    let ends = l.ends;
+    let end = wide32(ends.bindings);
+    if end <= work.len() {
+        return end;
+    }
+    work.len()
+}
+
+// The slot of a name's last entry: of those that the walks have made, else of the file's own.
+pub fn lookup(file: &[u8], index: &[u16], work: &[u8], l: Lists, name: usize) -> MaybeSlot
+    requires { ⌜ Ready (now file) (now index) ⌝ }
+    ensures { λ r. ⌜ ((lv : Level) (tg : Target) (p : List ℕ) → slotOption r ≡ ops (tablesOf (now (file .entry))) .lookup (stateWith l lv tg (now (work .entry)) p) name) ⌝ }
+{
+    let end = made_end(work, l);
+    let bytes = &work[..end];
+    if let lookups::MaybeSlot::Just(v) = made_slot(bytes, name) {
+        fitted(file, index, bytes, v)
+    } else {
+        own_slot(file, index, name)
+    }
+}
+
+// Whether a name has one, without a copy of its path.
+pub fn is_bound(file: &[u8], index: &[u16], work: &[u8], l: Lists, name: usize) -> bool
+    requires { ⌜ Ready (now file) (now index) ⌝ }
+    ensures { λ r. ⌜ ((lv : Level) (tg : Target) (p : List ℕ) → r ≡ isBound (ops (tablesOf (now (file .entry))) .lookup (stateWith l lv tg (now (work .entry)) p) name)) ⌝ }
+{
+    let end = made_end(work, l);
+    let bytes = &work[..end];
+    if let lookups::MaybeSlot::Just(v) = made_slot(bytes, name) {
+        slot_fits(file, index, bytes, v)
+    } else {
+        own_bound(file, index, name)
+    }
+}

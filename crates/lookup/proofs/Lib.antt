@@ -1,0 +1,3 @@
+pub mod Searches
+pub mod PathsAt
+pub mod Slots

@@ -1,0 +1,2 @@
+pub mod Consts
+pub mod Folds

@@ -1,0 +1,258 @@
+// Records of the plan's form, written at a place of a lent buffer and read back. A place outside the buffer takes nothing, so no caller
+// has to show that there is room.
+ghost use mathlib.Core.Path.{_≡_};
+ghost use mathlib.Core.Bool.{Bool, true, false};
+ghost use mathlib.Core.List.{List, [], _∷_, _++_};
+ghost use Prim.Native.Nat.{ℕ, _+_, _*_, _≤_, _<_};
+ghost use lib.ListN.{length};
+ghost use Rattle.rules.specs.Limits.{stepLimit};
+ghost use Rattle.rules.specs.Constant.{unionTag, term};
+ghost use Rattle.rules.specs.Events.{Narrowing};
+ghost use Rattle.rules.specs.Placement.{SeekKeyPart};
+ghost use Rattle.rules.specs.Plan as Plan;
+ghost use Rattle.paths.specs.Paths.{pathOf};
+ghost use Rattle.views.specs.Views.{anchorOf};
+ghost use Rattle.records.specs.Records.{put, reach, written, formOf};
+use file::wide16;
+use paths::Address;
+use paths::FieldPath;
+use views::Anchor;
+
+// Where bytes go in the plan, and whether they do. A part that is joined has no frame.
+pub struct Place {
+    pub write: bool,
+    pub joined: bool,
+    pub at: usize,
+}
+
+pub fn wide32(x: u32) -> usize
+    ensures { λ r. ⌜ (r ≡ x) × (r < 4294967296) ⌝ }
+{
+    x as usize
+}
+
+pub fn put8(buf: &mut [u8], at: usize, b: u8)
+    ensures { λ _. ⌜ now (buf .exit) ≡ put (now (buf .entry)) at (b ∷ []) ⌝ }
+{
+    if buf.len() <= at {
+        return;
+    }
+    buf[at] = b;
+}
+
+pub fn put16(buf: &mut [u8], at: usize, v: usize)
+    requires { ⌜ at ≤ 4 * reach ⌝ }
+    ensures { λ _. ⌜ now (buf .exit) ≡ put (now (buf .entry)) at (Plan.u16 v) ⌝ }
+{
+    put8(buf, at, (v % 256) as u8);
+    put8(buf, at + 1, (v / 256 % 256) as u8);
+}
+
+pub fn put32(buf: &mut [u8], at: usize, v: u32)
+    requires { ⌜ at ≤ 4 * reach ⌝ }
+    ensures { λ _. ⌜ now (buf .exit) ≡ put (now (buf .entry)) at (Plan.u32 v) ⌝ }
+{
+    put8(buf, at, (v % 256) as u8);
+    put8(buf, at + 1, (v / 256 % 256) as u8);
+    put8(buf, at + 2, (v / 65536 % 256) as u8);
+    put8(buf, at + 3, (v / 16777216 % 256) as u8);
+}
+
+// A tag's five bytes, the number's highest first.
+pub fn put_tag(buf: &mut [u8], at: usize, disc: u32)
+    requires { ⌜ at ≤ 4 * reach ⌝ }
+    ensures { λ _. ⌜ now (buf .exit) ≡ put (now (buf .entry)) at (unionTag disc) ⌝ }
+{
+    put8(buf, at, 5);
+    put8(buf, at + 1, (disc / 16777216 % 256) as u8);
+    put8(buf, at + 2, (disc / 65536 % 256) as u8);
+    put8(buf, at + 3, (disc / 256 % 256) as u8);
+    put8(buf, at + 4, (disc % 256) as u8);
+}
+
+// The same path, its count no more than its steps.
+pub fn within(p: FieldPath) -> FieldPath
+    ensures { λ r. ⌜ (pathOf r ≡ pathOf p) × (r .count ≤ stepLimit) ⌝ }
+{
+    if p.count <= FieldPath::STEP_LIMIT {
+        return p;
+    }
+    let mut q = p;
+    q.count = FieldPath::STEP_LIMIT;
+    q
+}
+
+pub fn path_size(p: FieldPath) -> usize
+    ensures { λ r. ⌜ (r ≡ length (Plan.path (pathOf p))) × (r ≤ 63) ⌝ }
+{
+    let q = within(p);
+    3 + 4 * q.count
+}
+
+// A path; the place after it is handed back.
+pub fn put_path(buf: &mut [u8], at: usize, p: FieldPath) -> usize
+    requires { ⌜ at ≤ 2 * reach ⌝ }
+    ensures { λ r. ⌜ (r ≡ at + length (Plan.path (pathOf p))) × (r ≤ at + 63) × (now (buf .exit) ≡ put (now (buf .entry)) at (Plan.path (pathOf p))) ⌝ }
+{
+    let q = within(p);
+    let n = q.count;
+    let steps = q.steps;
+    put16(buf, at, wide16(q.field));
+    put8(buf, at + 2, n as u8);
+    let mut i: usize = 0;
+    while i < n {
+        put32(buf, at + 3 + 4 * i, steps[i]);
+        i += 1;
+    }
+    at + 3 + 4 * n
+}
+
+// The frame of a part of `len` bytes; then where the bytes go.
+pub fn put_head(plan: &mut [u8], place: Place, len: usize) -> Place
+    requires { ⌜ place .at ≤ reach ⌝ }
+    ensures { λ r. ⌜ ((bytes : List ℕ) → (place .write ≡ true → length bytes ≡ len) → written r bytes (now (plan .exit)) ≡ written place (formOf (place .joined) (SeekKeyPart.Bytes bytes)) (now (plan .entry))) × (r .at ≤ place .at + 3) × (r .write ≡ place .write) ⌝ }
+{
+    if place.joined {
+        return place;
+    }
+    if !place.write {
+        return place;
+    }
+    let at = place.at;
+    put8(plan, at, 0);
+    put16(plan, at + 1, len);
+    Place {
+        write: true,
+        joined: false,
+        at: at + 3,
+    }
+}
+
+// A residual's path; then where its op goes.
+pub fn put_path_at(plan: &mut [u8], place: Place, path: FieldPath) -> Place
+    requires { ⌜ place .at ≤ reach ⌝ }
+    ensures { λ r. ⌜ ((bytes : List ℕ) → written r bytes (now (plan .exit)) ≡ written place (Plan.path (pathOf path) ++ bytes) (now (plan .entry))) × (r .at ≤ place .at + 63) × (r .write ≡ place .write) ⌝ }
+{
+    if !place.write {
+        return place;
+    }
+    let at = put_path(plan, place.at, path);
+    Place {
+        write: true,
+        joined: place.joined,
+        at,
+    }
+}
+
+// A residual's text op of `len` bytes; then where the bytes go.
+pub fn put_text_at(plan: &mut [u8], place: Place, kind: u8, len: usize) -> Place
+    requires { ⌜ place .at ≤ 2 * reach ⌝ }
+    ensures { λ r. ⌜ ((bytes : List ℕ) → (place .write ≡ true → length bytes ≡ len) → written r bytes (now (plan .exit)) ≡ written place (kind ∷ Plan.text bytes) (now (plan .entry))) × (r .at ≤ place .at + 3) × (r .write ≡ place .write) ⌝ }
+{
+    if !place.write {
+        return place;
+    }
+    let at = place.at;
+    put8(plan, at, kind);
+    put16(plan, at + 1, len);
+    Place {
+        write: true,
+        joined: place.joined,
+        at: at + 3,
+    }
+}
+
+pub fn put_tag_at(plan: &mut [u8], place: Place, disc: u32)
+    requires { ⌜ place .at ≤ 2 * reach ⌝ }
+    ensures { λ _. ⌜ now (plan .exit) ≡ written place (unionTag disc) (now (plan .entry)) ⌝ }
+{
+    if !place.write {
+        return;
+    }
+    put_tag(plan, place.at, disc);
+}
+
+pub fn put_byte_at(plan: &mut [u8], place: Place, b: u8)
+    ensures { λ _. ⌜ now (plan .exit) ≡ written place (b ∷ []) (now (plan .entry)) ⌝ }
+{
+    if !place.write {
+        return;
+    }
+    put8(plan, place.at, b);
+}
+
+// A residual's ops.
+pub fn put_tag_op(plan: &mut [u8], place: Place, disc: u32)
+    requires { ⌜ place .at ≤ 2 * reach ⌝ }
+    ensures { λ _. ⌜ now (plan .exit) ≡ written place (Plan.op (Narrowing.Tag disc)) (now (plan .entry)) ⌝ }
+{
+    if !place.write {
+        return;
+    }
+    let at = place.at;
+    put8(plan, at, 4);
+    put32(plan, at + 1, disc);
+}
+
+pub fn anchor_byte(anchor: Anchor) -> u8
+    ensures { λ r. ⌜ r ≡ Plan.anchor (anchorOf anchor) ⌝ }
+{
+    match anchor {
+        Anchor::Prefix => 0,
+        Anchor::Whole => 1,
+    }
+}
+
+pub fn put_fuzzy(plan: &mut [u8], place: Place, name: usize, distance: u8, anchor: Anchor)
+    requires { ⌜ place .at ≤ 2 * reach ⌝ }
+    ensures { λ _. ⌜ now (plan .exit) ≡ written place (Plan.op (Narrowing.Fuzzy name distance (anchorOf anchor))) (now (plan .entry)) ⌝ }
+{
+    if !place.write {
+        return;
+    }
+    let at = place.at;
+    put8(plan, at, 5);
+    put16(plan, at + 1, name);
+    put8(plan, at + 3, distance);
+    put8(plan, at + 4, anchor_byte(anchor));
+}
+
+// What parts and residuals share: a kind and a register, with a path or without.
+pub fn put_register(plan: &mut [u8], place: Place, kind: u8, address: Address, path: FieldPath)
+    requires { ⌜ place .at ≤ reach ⌝ }
+    ensures { λ _. ⌜ now (plan .exit) ≡ written place (kind ∷ Plan.u16 (address .0) ++ Plan.path (pathOf path)) (now (plan .entry)) ⌝ }
+{
+    if !place.write {
+        return;
+    }
+    let at = place.at;
+    put8(plan, at, kind);
+    put16(plan, at + 1, wide16(address.0));
+    put_path(plan, at + 3, path);
+}
+
+pub fn put_fact(plan: &mut [u8], place: Place, kind: u8, address: Address)
+    requires { ⌜ place .at ≤ 2 * reach ⌝ }
+    ensures { λ _. ⌜ now (plan .exit) ≡ written place (kind ∷ Plan.u16 (address .0)) (now (plan .entry)) ⌝ }
+{
+    if !place.write {
+        return;
+    }
+    let at = place.at;
+    put8(plan, at, kind);
+    put16(plan, at + 1, wide16(address.0));
+}
+
+// The place of a part that is no bytes: joined to the others it leaves nothing.
+pub fn apart(place: Place) -> Place
+    ensures { λ r. ⌜ ((bytes plan : List ℕ) → written r bytes plan ≡ written place (elim (place .joined) [ true ↦ [] | false ↦ bytes ]) plan) × (r .at ≡ place .at) ⌝ }
+{
+    if place.joined {
+        return Place {
+            write: false,
+            joined: true,
+            at: place.at,
+        };
+    }
+    place
+}

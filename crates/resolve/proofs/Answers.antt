@@ -1,0 +1,310 @@
+-- An answer of the code is what the written rules give: for each form of a read, from what its parts give.
+use Prim.Native.Nat.{ℕ, _≤_, _<_}
+use mathlib.Core.Path.{_≡_, refl, sym, ap, _∙_, subst}
+use mathlib.Core.Bool.{Bool, true, false}
+use mathlib.Core.List.{List, []}
+use mathlib.Core.Option.{Option, none, some}
+use native.Mathlib.Omega.{arith}
+use mathlib.Core.Logic.{⊎-elim}
+use lib.Dec.{eqb}
+use lib.ListN.{length, List·getD-eq-default}
+use Rattle.rules.specs.Limits.{stepLimit}
+use Rattle.rules.specs.Base.{Each, more, first, _>>=_ as _>>_}
+use Rattle.rules.specs.File as File
+use Rattle.rules.specs.File.{Tables, Node, Alternative, Hoisted, typeAt, nodeAt, childNodes, constants, isConstant, factTy, unionTy, then, payload}
+use Rattle.rules.specs.Constant.{alternativeOf}
+use Rattle.rules.specs.Lookup.{fieldOf, slotAt, fetchedRegister, hoistedSlot}
+use Rattle.rules.specs.Events.{Code}
+use Rattle.rules.specs.Resolve as Rules
+use Rattle.rules.specs.Resolve.{Resolver, follow, _>>=_, give, declined, fetchedRow, dereference, fieldOfRow, fieldSlot, valueSlot, selected, selectSlot, resolveNode, resolve}
+use Rattle.rules.proofs.Cases.{true≢false}
+use Rattle.state.specs.State.{Level, Target, State, newLevel, measuring}
+use Rattle.state.specs.Ops as Ops
+use Rattle.state.specs.Ops.{ops}
+use Rattle.slots.specs.Slots.{maybe, slotWith, slotOf, Roomy}
+use Rattle.slots.specs.declared.Slot.{Slot}
+use Rattle.slots.specs.declared.SlotKind.{SlotKind}
+use Rattle.paths.specs.Paths.{pathOf}
+use Rattle.paths.specs.declared.FieldPath.{FieldPath}
+use Rattle.file.proofs.Readers.{lt-or-le}
+use Rattle.views.specs.Views.{nodeOf, SeenNode}
+use Rattle.views.specs.declared.NodeView.{NodeView}
+use Rattle.lookup.specs.Found.{hoistedName}
+use Rattle.lookups.specs.Lookups.{SeenRun}
+use Rattle.lookups.specs.declared.Run.{Run}
+use Rattle.lookup.proofs.Slots.{counts}
+use Rattle.lists.specs.Lists.{stateWith}
+use Rattle.lists.specs.declared.Lists.{Lists}
+use Rattle.resolve.specs.Resolved.{given, Answers, Follows, Rooms, baseOf, readSlot, readPast, leafSlot, leafAt}
+use Rattle.resolve.specs.declared.Answer.{Answer}
+use Rattle.resolve.specs.declared.Read.{Read}
+use Rattle.resolve.specs.declared.Base.{Base}
+use Rattle.resolve.specs.declared.Base.the-variants as Bs
+use Rattle.resolve.proofs.Steps.{Lower, constants-length, resolve-step}
+
+-- a slot of a known kind
+pub kind-is : (s : Slot) (k : SlotKind) → s .kind ≡ k → slotOf s ≡ slotWith k (s .path)
+kind-is s k e = ap (λ (k : SlotKind). slotWith k (s .path)) e
+
+pub seen-run : {A : Type 0} {f : List ℕ} {at : ℕ → A} {w : ℕ} {o : Option (List A)} {r r′ : Run} → r ≡ r′ → SeenRun f at w o r → SeenRun f at w o r′
+seen-run {A} {f} {at} {w} {o} {r} {r′} e s = subst (SeenRun f at w o) e s
+
+-- a path that counts fewer steps than it may
+pub count-below : (q p : FieldPath) → pathOf q ≡ pathOf p → q .count ≤ stepLimit → length (q .steps) ≡ stepLimit → length (pathOf p .steps) < stepLimit → q .count < stepLimit
+count-below q p e h l g = omega (arith, counts stepLimit q h l, ap (λ (p : File.FieldPath). length (p .steps)) e, g)
+
+-- what the rules choose by a reference's predicate, by a union's alternatives, and by a node's constancy
+abbrev below : Tables → ℕ → ℕ → File.FieldPath → ℕ → ℕ → Option ℕ → Resolver State
+below T n a p t x o =
+    elim o [
+      | none ↦ give (slotAt a (then p) (fieldOf (typeAt T t) x))
+      | some q ↦ dereference (ops T) T n (File.Slot.Field a p t) >>= λ row. fieldOfRow (ops T) T x row
+    ]
+
+abbrev alternative : Tables → ℕ → ℕ → File.FieldPath → ℕ → Option (List Alternative) → Resolver State
+alternative T n a p x o = elim o [ none ↦ declined (ops T) T n Code.NyiFactField | some alts ↦ selected (ops T) T a p (alternativeOf alts x) ]
+
+abbrev chosen : Tables → ℕ → Bool → Resolver State
+chosen T n b = elim b [ true ↦ give (some (File.Slot.Const n)) | false ↦ resolveNode (ops T) T (resolve (ops T) T) n (nodeAt T n) ]
+
+module _ {l : Lists} {w : List ℕ} {r : Answer} {w′ : List ℕ} where
+  pub gives-is : {x y : Option File.Slot} → Answers (give x) l w r w′ → x ≡ y → Answers (give y) l w r w′
+  gives-is h e = subst (λ (x : Option File.Slot). Answers (give x) l w r w′) e h
+
+  -- nothing, and a diagnostic
+  pub declined-is : (T : Tables) (n : ℕ) (code : Code) {f : Option File.Slot} {m : Lists}
+      → ((level : Level) (target : Target) (plan : List ℕ) → stateWith m level target w′ plan ≡ Ops.report n code (stateWith l level target w plan)) → f ≡ none → Answers (give f) m w′ r w′ → Answers (declined (ops T) T n code) l w r w′
+  unfolding declined give
+  declined-is T n code e f h = record { is = λ level target plan. gives-is′ f h .is level target plan ∙ ap (λ (s : State). record { slot = none; walk = s }) (e level target plan) }
+    where
+      gives-is′ : {x : Option File.Slot} {m : Lists} → x ≡ none → Answers (give x) m w′ r w′ → Answers (give none) m w′ r w′
+      gives-is′ {x} {m} e h = subst (λ (x : Option File.Slot). Answers (give x) m w′ r w′) e h
+
+  -- a select, and its payload
+  pub selected-is : (T : Tables) (a : ℕ) (p q : File.FieldPath) (alt : Alternative) {o : Option Alternative} {f : Option File.Slot} {s : File.Slot} {m : Lists}
+      → ((level : Level) (target : Target) (plan : List ℕ) → stateWith m level target w′ plan ≡ Ops.select a p (alt .disc) (stateWith l level target w plan)) → f ≡ some s → s ≡ File.Slot.Field a q (alt .type) → q ≡ payload p (alt .disc) → o ≡ some alt
+      → Answers (give f) m w′ r w′ → Answers (selected (ops T) T a p o) l w r w′
+  unfolding selected give
+  selected-is T a p q alt {o} {f} {s} {m} e u v x y h =
+      subst (λ (o : Option Alternative). Answers (selected (ops T) T a p o) l w r w′) (sym y)
+      (record {
+        is = λ level target plan.
+            h .is level target plan ∙ ap (λ (o : Option File.Slot). record { slot = o; walk = stateWith m level target w′ plan }) (u ∙ ap some (v ∙ ap (λ (q : File.FieldPath). File.Slot.Field a q (alt .type)) x))
+            ∙ ap (λ (t : State). record { slot = some (File.Slot.Field a (payload p (alt .disc)) (alt .type)); walk = t }) (e level target plan);
+      })
+
+  pub none-selected : (T : Tables) (a : ℕ) (p : File.FieldPath) {o : Option Alternative} → o ≡ none → Answers (give none) l w r w′ → Answers (selected (ops T) T a p o) l w r w′
+  unfolding selected
+  none-selected T a p e h = subst (λ (o : Option Alternative). Answers (selected (ops T) T a p o) l w r w′) (sym e) h
+
+  pub fetched-at : (T : Tables) (n p : ℕ) {x y : Option ℕ} → x ≡ y → Answers (fetchedRow (ops T) T n p y) l w r w′ → Answers (fetchedRow (ops T) T n p x) l w r w′
+  fetched-at T n p e h = subst (λ (x : Option ℕ). Answers (fetchedRow (ops T) T n p x) l w r w′) (sym e) h
+
+  module _ (T : Tables) (n : ℕ) where
+    -- a read of a slot whose kind is known
+    pub dereference-at : {x y : File.Slot} → x ≡ y → Answers (dereference (ops T) T n y) l w r w′ → Answers (dereference (ops T) T n x) l w r w′
+    dereference-at e h = subst (λ (x : File.Slot). Answers (dereference (ops T) T n x) l w r w′) (sym e) h
+
+    pub field-at : (name : ℕ) {x y : File.Slot} → x ≡ y → Answers (fieldSlot (ops T) T n y name) l w r w′ → Answers (fieldSlot (ops T) T n x name) l w r w′
+    field-at name e h = subst (λ (x : File.Slot). Answers (fieldSlot (ops T) T n x name) l w r w′) (sym e) h
+
+    pub select-at : (name : ℕ) {x y : File.Slot} → x ≡ y → Answers (selectSlot (ops T) T n y name) l w r w′ → Answers (selectSlot (ops T) T n x name) l w r w′
+    select-at name e h = subst (λ (x : File.Slot). Answers (selectSlot (ops T) T n x name) l w r w′) (sym e) h
+
+    -- a Field or a Value of a type that is a reference or none
+    pub plain-field : (a : ℕ) (p : File.FieldPath) (t : ℕ) → factTy (typeAt T t) ≡ none → Answers (give (some (File.Slot.Field a p t))) l w r w′ → Answers (dereference (ops T) T n (File.Slot.Field a p t)) l w r w′
+    unfolding dereference
+    plain-field a p t e h =
+        subst (λ (o : Option ℕ). Answers (elim o [ none ↦ give (some (File.Slot.Field a p t)) | some q ↦ fetchedRow (ops T) T n q (fetchedRegister T a p) ]) l w r w′) (sym e) h
+
+    pub fact-field : (a : ℕ) (p : File.FieldPath) (t q : ℕ) → factTy (typeAt T t) ≡ some q → Answers (fetchedRow (ops T) T n q (fetchedRegister T a p)) l w r w′ → Answers (dereference (ops T) T n (File.Slot.Field a p t)) l w r w′
+    unfolding dereference
+    fact-field a p t q e h =
+        subst (λ (o : Option ℕ). Answers (elim o [ none ↦ give (some (File.Slot.Field a p t)) | some q ↦ fetchedRow (ops T) T n q (fetchedRegister T a p) ]) l w r w′) (sym e) h
+
+    pub plain-value : (a t : ℕ) → factTy (typeAt T t) ≡ none → Answers (give (some (File.Slot.Value a t))) l w r w′ → Answers (dereference (ops T) T n (File.Slot.Value a t)) l w r w′
+    unfolding dereference
+    plain-value a t e h =
+        subst (λ (o : Option ℕ). Answers (elim o [ none ↦ give (some (File.Slot.Value a t)) | some q ↦ declined (ops T) T n Code.NyiFactField ]) l w r w′) (sym e) h
+
+    pub fact-value : (a t q : ℕ) → factTy (typeAt T t) ≡ some q → Answers (declined (ops T) T n Code.NyiFactField) l w r w′ → Answers (dereference (ops T) T n (File.Slot.Value a t)) l w r w′
+    unfolding dereference
+    fact-value a t q e h =
+        subst (λ (o : Option ℕ). Answers (elim o [ none ↦ give (some (File.Slot.Value a t)) | some q ↦ declined (ops T) T n Code.NyiFactField ]) l w r w′) (sym e) h
+
+    pub plain-below : (a : ℕ) (p : File.FieldPath) (t x : ℕ) → factTy (typeAt T t) ≡ none → Answers (give (slotAt a (then p) (fieldOf (typeAt T t) x))) l w r w′ → Answers (fieldSlot (ops T) T n (File.Slot.Field a p t) x) l w r w′
+    unfolding fieldSlot
+    plain-below a p t x e h = subst (λ (o : Option ℕ). Answers (below T n a p t x o) l w r w′) (sym e) h
+
+    pub fact-below : (a : ℕ) (p : File.FieldPath) (t x q : ℕ) → factTy (typeAt T t) ≡ some q → Answers (dereference (ops T) T n (File.Slot.Field a p t) >>= fieldOfRow (ops T) T x) l w r w′ → Answers (fieldSlot (ops T) T n (File.Slot.Field a p t) x) l w r w′
+    unfolding fieldSlot
+    fact-below a p t x q e h = subst (λ (o : Option ℕ). Answers (below T n a p t x o) l w r w′) (sym e) h
+
+    pub no-union : (a : ℕ) (p : File.FieldPath) (t x : ℕ) → none ≡ unionTy (typeAt T t) → Answers (declined (ops T) T n Code.NyiFactField) l w r w′ → Answers (selectSlot (ops T) T n (File.Slot.Field a p t) x) l w r w′
+    unfolding selectSlot
+    no-union a p t x e h = subst (λ (o : Option (List Alternative)). Answers (alternative T n a p x o) l w r w′) e h
+
+    pub of-union : (a : ℕ) (p : File.FieldPath) (t x : ℕ) (alts : List Alternative) {o : Option Alternative} → some alts ≡ unionTy (typeAt T t) → o ≡ alternativeOf alts x → Answers (selected (ops T) T a p o) l w r w′
+        → Answers (selectSlot (ops T) T n (File.Slot.Field a p t) x) l w r w′
+    unfolding selectSlot
+    of-union a p t x alts e g h =
+        subst (λ (o : Option (List Alternative)). Answers (alternative T n a p x o) l w r w′) e (subst (λ (o : Option Alternative). Answers (selected (ops T) T a p o) l w r w′) g h)
+
+  pub row-at : (T : Tables) (name : ℕ) {x y : File.Slot} → x ≡ y → Answers (fieldOfRow (ops T) T name y) l w r w′ → Answers (fieldOfRow (ops T) T name x) l w r w′
+  row-at T name e h = subst (λ (x : File.Slot). Answers (fieldOfRow (ops T) T name x) l w r w′) (sym e) h
+
+  pub value-at : (T : Tables) {x y : File.Slot} → x ≡ y → Answers (valueSlot (ops T) T y) l w r w′ → Answers (valueSlot (ops T) T x) l w r w′
+  value-at T e h = subst (λ (x : File.Slot). Answers (valueSlot (ops T) T x) l w r w′) (sym e) h
+
+  -- one read after another
+  pub next-is : {g : Resolver State} {h : File.Slot → Resolver State} (a : Answer) {v : List ℕ} → Answers g l w a v → Follows h a v r w′ → Answers (g >>= h) l w r w′
+  unfolding _>>=_
+  next-is {g} {h} a e k = record { is = λ level target plan. k .is level target plan ∙ ap (λ (a : Rules.Answer State). follow a h) (e .is level target plan) }
+
+-- a node that reads of no other
+pub leaf-is : {l : Lists} {w : List ℕ} {r : Answer} (T : Tables) (n : ℕ) (node : Node) {f : Option File.Slot} → ((level : Level) (target : Target) (plan : List ℕ) → f ≡ leafSlot T (ops T .lookup (stateWith l level target w plan)) n node) → Answers (give f) l w r w
+    → Answers (λ s. record { slot = leafSlot T (ops T .lookup s) n node; walk = s }) l w r w
+unfolding give
+leaf-is {l} {w} {r} T n node e h =
+    record { is = λ level target plan. h .is level target plan ∙ ap (λ (o : Option File.Slot). record { slot = o; walk = stateWith l level target w plan }) (e level target plan) }
+
+-- a read that goes on from an answer
+module _ {g : File.Slot → Resolver State} {a : Answer} {w : List ℕ} where
+  pub follows-none : a .some ≡ false → Follows g a w a w
+  unfolding follow
+  follows-none e = record { is = λ level target plan. go level target plan (a .some) e }
+    where
+      go : (level : Level) (target : Target) (plan : List ℕ) (b : Bool) → b ≡ false
+          → _≡_ {A = Rules.Answer State} (record { slot = maybe b (slotOf (a .slot)); walk = stateWith (a .lists) level target w plan }) (follow (record { slot = maybe b (slotOf (a .slot)); walk = stateWith (a .lists) level target w plan }) g)
+      go level target plan true e = absurd (true≢false e)
+      go level target plan false e = refl
+
+  pub follows-some : {r : Answer} {w′ : List ℕ} → a .some ≡ true → Answers (g (slotOf (a .slot))) (a .lists) w r w′ → Follows g a w r w′
+  unfolding follow
+  follows-some {r} {w′} e h =
+      record {
+        is = λ level target plan.
+            h .is level target plan
+            ∙ ap (λ (b : Bool). follow (record { slot = maybe b (slotOf (a .slot)); walk = stateWith (a .lists) level target w plan }) g) (sym e);
+      }
+
+-- what an answer gave fits
+pub rooms-of : (T : Tables) (a : Answer) → a .some ≡ true → Rooms T (given a) → Roomy T (slotOf (a .slot))
+rooms-of T a e h = h (slotOf (a .slot)) (ap (λ (b : Bool). maybe b (slotOf (a .slot))) e)
+
+-- a node by what it reads of
+abbrev stepBy : Tables → (ℕ → Resolver State) → ℕ → Node → Base → Resolver State
+stepBy T f n node Bs.Nothing = λ s. record { slot = leafSlot T (ops T .lookup s) n node; walk = s }
+stepBy T f n node (Bs.Of read b) = f b >>= readPast T n read
+
+by-base : (T : Tables) (f : ℕ → Resolver State) (n : ℕ) (node : Node) (s : State) → stepBy T f n node (baseOf node) s ≡ resolveNode (ops T) T f n node s
+unfolding baseOf leafSlot resolveNode give _>>=_
+by-base T f n (Node.Int bytes) s = refl
+by-base T f n (Node.Str x) s = refl
+by-base T f n (Node.Bytes bytes) s = refl
+by-base T f n (Node.Var x) s = refl
+by-base T f n Node.Wildcard s = refl
+by-base T f n Node.Never s = refl
+by-base T f n (Node.Prefix x) s = refl
+by-base T f n (Node.Fuzzy x d a) s = refl
+by-base T f n (Node.Record fs) s = refl
+by-base T f n (Node.Access x b) s = refl
+by-base T f n (Node.Value b) s = refl
+by-base T f n (Node.Select x b) s = refl
+by-base T f n Node.Disjunction s = refl
+by-base T f n Node.Subquery s = refl
+by-base T f n (Node.Fact p b) s = refl
+by-base T f n Node.Arith s = refl
+by-base T f n Node.Error s = refl
+
+module _ (T : Tables) (lower : Lower T) (n : ℕ) {l : Lists} {w : List ℕ} {r : Answer} {w′ : List ℕ} where
+  pub constant-is : isConstant T n ≡ true → Answers (give (some (File.Slot.Const n))) l w r w′ → Answers (resolve (ops T) T n) l w r w′
+  constant-is e h =
+      record { is = λ level target plan. h .is level target plan ∙ ap (λ (b : Bool). chosen T n b (stateWith l level target w plan)) (sym e) ∙ sym (resolve-step (ops T) T lower n (stateWith l level target w plan)) }
+
+  pub node-is : (b : Base) → isConstant T n ≡ false → b ≡ baseOf (nodeAt T n) → Answers (stepBy T (resolve (ops T) T) n (nodeAt T n) b) l w r w′ → Answers (resolve (ops T) T n) l w r w′
+  node-is b e g h =
+      record {
+        is = λ level target plan.
+            h .is level target plan ∙ ap (λ (b : Base). stepBy T (resolve (ops T) T) n (nodeAt T n) b (stateWith l level target w plan)) g
+            ∙ by-base T (resolve (ops T) T) n (nodeAt T n) (stateWith l level target w plan)
+            ∙ ap (λ (b : Bool). chosen T n b (stateWith l level target w plan)) (sym e) ∙ sym (resolve-step (ops T) T lower n (stateWith l level target w plan));
+      }
+
+-- a node that was seen as a view
+module _ {f : List ℕ} {node : Node} {v : NodeView} (w : NodeView) where
+  pub base-seen : SeenNode f node v → v ≡ w → baseOf (nodeOf f w) ≡ baseOf node
+  base-seen s e = ap (λ (w : NodeView). baseOf (nodeOf f w)) (sym e) ∙ ap baseOf (s .is)
+
+  pub leaf-seen : (T : Tables) (lookup : ℕ → Option File.Slot) (n : ℕ) → SeenNode f node v → v ≡ w → leafSlot T lookup n (nodeOf f w) ≡ leafSlot T lookup n node
+  leaf-seen T lookup n s e = ap (λ (w : NodeView). leafSlot T lookup n (nodeOf f w)) (sym e) ∙ ap (leafSlot T lookup n) (s .is)
+
+-- the row of a hoisted node, by the name that was found
+pub hoisted-by : (T : Tables) (lookup : ℕ → Option File.Slot) (n : ℕ) (o : Option ℕ) → o ≡ hoistedName T n → (o >> lookup) ≡ hoistedSlot T lookup n
+unfolding hoistedName hoistedSlot _>>_
+hoisted-by T lookup n o e = ap (λ (o : Option ℕ). o >> lookup) e ∙ go (first (λ h. eqb (h .node) n) (T .hoisted))
+  where
+    go : (x : Option Hoisted) → ((x >> λ h. some (h .name)) >> lookup) ≡ (x >> λ h. lookup (h .name))
+    go none = refl
+    go (some h) = refl
+
+pub past-constant : (T : Tables) (n : ℕ) → length (T .nodes) ≤ n → false ≡ isConstant T n
+unfolding isConstant
+past-constant T n h = let g : length (constants T) ≤ n = omega (arith, constants-length T) in sym (List·getD-eq-default (constants T) false g)
+
+-- a read of a known form
+pub read-at : (T : Tables) (n : ℕ) (s : File.Slot) {x y : Read} {l : Lists} {w : List ℕ} {r : Answer} {w′ : List ℕ} → x ≡ y → Answers (readSlot T n y s) l w r w′ → Answers (readSlot T n x s) l w r w′
+read-at T n s {x} {y} {l} {w} {r} {w′} e h = subst (λ (x : Read). Answers (readSlot T n x s) l w r w′) (sym e) h
+
+-- what is shown of every slot that the rules give is shown of an answer's
+pub rooms-from : (T : Tables) {g : Resolver State} {l : Lists} {w : List ℕ} {r : Answer} {w′ : List ℕ} → Answers g l w r w′ → ((s : State) → Rooms T (g s .slot)) → Rooms T (given r)
+rooms-from T {g} {l} {w} {r} {w′} h k s e = k (stateWith l newLevel measuring w []) s (sym (ap (λ (a : Rules.Answer State). a .slot) (h .is newLevel measuring [])) ∙ e)
+
+no-base : {read : Read} {b : ℕ} → Bs.Of read b ≡ Bs.Nothing → ⊥
+no-base e = let z : _≡_ {A = ℕ} 0 1 = cc in omega arith
+
+same-base : {read read′ : Read} {b c : ℕ} → Bs.Of read b ≡ Bs.Of read′ c → b ≡ c
+same-base e = cc
+
+-- a base is lower than its access
+lower-base : (n : ℕ) (node : Node) (read : Read) (b : ℕ) → Each (λ c. c < n) (childNodes node) → Bs.Of read b ≡ baseOf node → b < n
+unfolding baseOf childNodes
+lower-base n (Node.Int bytes) read b h e = absurd (no-base e)
+lower-base n (Node.Str x) read b h e = absurd (no-base e)
+lower-base n (Node.Bytes bytes) read b h e = absurd (no-base e)
+lower-base n (Node.Var x) read b h e = absurd (no-base e)
+lower-base n Node.Wildcard read b h e = absurd (no-base e)
+lower-base n Node.Never read b h e = absurd (no-base e)
+lower-base n (Node.Prefix x) read b h e = absurd (no-base e)
+lower-base n (Node.Fuzzy x d a) read b h e = absurd (no-base e)
+lower-base n (Node.Record fs) read b h e = absurd (no-base e)
+lower-base n (Node.Access x c) read b (more l h) e = rw (same-base e) l
+lower-base n (Node.Value c) read b (more l h) e = rw (same-base e) l
+lower-base n (Node.Select x c) read b (more l h) e = rw (same-base e) l
+lower-base n Node.Disjunction read b h e = absurd (no-base e)
+lower-base n Node.Subquery read b h e = absurd (no-base e)
+lower-base n (Node.Fact p c) read b h e = absurd (no-base e)
+lower-base n Node.Arith read b h e = absurd (no-base e)
+lower-base n Node.Error read b h e = absurd (no-base e)
+
+pub base-lower : (T : Tables) → Lower T → (n : ℕ) (read : Read) (b : ℕ) → Bs.Of read b ≡ baseOf (nodeAt T n) → b < n
+unfolding nodeAt baseOf
+base-lower T lower n read b e =
+    ⊎-elim (λ h. lower-base n (nodeAt T n) read b (lower n h) e)
+    (λ h. absurd (no-base (e ∙ ap baseOf (List·getD-eq-default (T .nodes) Node.Error h)))) (lt-or-le n (length (T .nodes)))
+
+pub answers-as : {g h : Resolver State} {l : Lists} {w : List ℕ} {r : Answer} {w′ : List ℕ} → ((s : State) → g s ≡ h s) → Answers g l w r w′ → Answers h l w r w′
+answers-as {g} {h} {l} {w} k a = record { is = λ level target plan. a .is level target plan ∙ k (stateWith l level target w plan) }
+
+-- a leaf by its constancy
+module _ (T : Tables) (n : ℕ) where
+  leafBy : Bool → State → Rules.Answer State
+  leafBy b s = record { slot = elim b [ true ↦ some (File.Slot.Const n) | false ↦ leafSlot T (ops T .lookup s) n (nodeAt T n) ]; walk = s }
+
+  pub constant-leaf : isConstant T n ≡ true → (s : State) → leafAt T n s ≡ give (some (File.Slot.Const n)) s
+  unfolding leafAt leafBy give
+  constant-leaf e s = ap (λ (b : Bool). leafBy b s) e
+
+  pub other-leaf : isConstant T n ≡ false → (s : State) → leafAt T n s ≡ record { slot = leafSlot T (ops T .lookup s) n (nodeAt T n); walk = s }
+  unfolding leafAt leafBy
+  other-leaf e s = ap (λ (b : Bool). leafBy b s) e

@@ -1,0 +1,29 @@
+use borrow.Author.Tests.{not-true, not-false}
+use Rattle.rules.proofs.Sound.{sound, passed-all}
+use Rattle.state.specs.Ops.{ops}
+use Rattle.resolve.proofs.Rooms.{dereference-room}
+use Rattle.resolve.proofs.Answers.{follows-none, follows-some, next-is, rooms-of, rooms-from}
+use borrow.Author.Needs.{needs}
+use Rattle.resolve.proofs.read_past.Statement.{statement}
+use Rattle.resolve.proofs.read_past.Tie as tie
+
+returns : tie.Need-returns
+returns c = follows-none (not-true _ (c .if1 .taken))
+
+dereference-requires : tie.Need-dereference-requires
+dereference-requires c κs = search needs
+
+read-slot-requires : tie.Need-read-slot-requires
+read-slot-requires c κs =
+    let s = c .before .before .before .before .before .before .before .before .before .before .before .before in
+    (s .pre .0, rooms-from _ (c .before .before .before .dereference .ensures) (λ w. dereference-room (sound _ (passed-all _ (s .pre .0 .accepted))) (ops _) _ _ w (rooms-of _ (s .args .base) (not-false _ (c .before .before .before .before .before .before .before .if1 .left)) (s .pre .1))))
+
+same-length : tie.Need-same-length
+same-length c = search needs
+
+returns-2 : tie.Need-returns-2
+returns-2 c = follows-some (not-false _ (c .before .before .before .before .before .before .before .before .before .before .if1 .left)) (next-is _ (c .before .before .before .before .before .before .dereference .ensures) (c .before .before .read-slot .ensures))
+
+pub read-past-spec : {M : Type 1} → statement M
+read-past-spec =
+    tie.close (tie.spec returns dereference-requires read-slot-requires same-length returns-2)

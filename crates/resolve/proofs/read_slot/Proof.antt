@@ -1,0 +1,58 @@
+use borrow.Author.Tests.{not-true, not-false}
+use Rattle.resolve.proofs.Answers.{follows-none, follows-some, read-at, rooms-of}
+use borrow.Author.Needs.{needs}
+use Rattle.resolve.proofs.read_slot.Statement.{statement}
+use Rattle.resolve.proofs.read_slot.Tie as tie
+
+returns : tie.Need-returns
+returns c = follows-none (not-true _ (c .if1 .taken))
+
+enum-known-read : tie.Need-enum-known-read
+enum-known-read c = search needs
+
+field-slot-requires : tie.Need-field-slot-requires
+field-slot-requires c κs = (c .before .before .before .before .before .before .before .before .before .before .before .pre .0, rooms-of _ (c .before .before .before .before .before .before .before .before .before .before .before .args .place) (not-false _ (c .before .before .before .before .before .before .if1 .left)) (c .before .before .before .before .before .before .before .before .before .before .before .pre .1))
+
+enum-told : tie.Need-enum-told
+enum-told c = search needs
+
+value-slot-requires : tie.Need-value-slot-requires
+value-slot-requires c κs = search needs
+
+enum-known-read-2 : tie.Need-enum-known-read-2
+enum-known-read-2 c = search needs
+
+select-slot-requires : tie.Need-select-slot-requires
+select-slot-requires c κs = (c .before .before .before .before .before .before .before .before .before .before .before .pre .0, rooms-of _ (c .before .before .before .before .before .before .before .before .before .before .before .args .place) (not-false _ (c .before .before .before .before .before .before .if1 .left)) (c .before .before .before .before .before .before .before .before .before .before .before .pre .1))
+
+same-length : tie.Need-same-length
+same-length c = search needs
+
+returns-2 : tie.Need-returns-2
+returns-2 c = follows-some (not-false _ (c .before .before .before .before .before .before .before .before .before .if1 .left)) (read-at _ _ _ (c .before .before .before .before .before .read .given .1) (c .before .before .field-slot .ensures))
+
+returns-3 : tie.Need-returns-3
+returns-3 c = follows-some (not-false _ (c .before .before .before .before .before .if1 .left)) (read-at _ _ _ (c .before .enum-told .given .1) (c .value-slot .ensures _))
+
+same-length-2 : tie.Need-same-length-2
+same-length-2 c = search needs
+
+returns-4 : tie.Need-returns-4
+returns-4 c = follows-some (not-false _ (c .before .before .before .before .before .before .before .before .before .if1 .left)) (read-at _ _ _ (c .before .before .before .before .before .read2 .given .1) (c .before .before .select-slot .ensures))
+
+pub read-slot-spec : {M : Type 1} → statement M
+read-slot-spec =
+    tie.close
+    (tie.spec
+    returns
+    enum-known-read
+    field-slot-requires
+    enum-told
+    value-slot-requires
+    enum-known-read-2
+    select-slot-requires
+    same-length
+    returns-2
+    returns-3
+    same-length-2
+    returns-4)

@@ -1,0 +1,498 @@
+// Where a pattern's value lives: its slot, with the selects and diagnostics that the read adds.
+ghost use mathlib.Core.Path.{_≡_};
+ghost use mathlib.Core.List.{List};
+ghost use mathlib.Core.Option.{some};
+ghost use Prim.Native.Nat.{ℕ, _<_};
+ghost use lib.ListN.{length};
+ghost use Rattle.rules.specs.Limits.{stepLimit};
+ghost use Rattle.rules.specs.File as File;
+ghost use Rattle.rules.specs.File.{Tables, nodeAt, isConstant};
+ghost use Rattle.rules.specs.Lookup.{hoistedSlot};
+ghost use Rattle.rules.specs.Resolve as Rules;
+ghost use Rattle.rules.specs.Resolve.{give};
+ghost use Rattle.file.specs.Tables.{Indexed, tablesOf};
+ghost use Rattle.paths.specs.Paths.{pathOf};
+ghost use Rattle.state.specs.State.{Level, Target};
+ghost use Rattle.state.specs.Ops.{ops};
+ghost use Rattle.ready.specs.Ready.{Ready};
+ghost use Rattle.slots.specs.Slots.{slotOf, slotOption, Room, Roomy};
+ghost use Rattle.lists.specs.Lists.{codeOf, stateWith};
+ghost use Rattle.lookup.specs.Found.{addressOption};
+ghost use Rattle.lookups.specs.Lookups.{alternativeOption};
+ghost use Rattle.resolve.specs.Resolved.{given, Answers, Follows, Rooms, baseOf, readSlot, readPast, leafSlot, leafAt};
+use entries::node_of;
+use lists::Code;
+use lists::Lists;
+use lists::lookup;
+use lists::report;
+use lists::select;
+use lookup::MaybeAddress;
+use lookup::MaybeName;
+use lookup::fact_ty;
+use lookup::fetched_register;
+use lookup::folded_slot;
+use lookup::hoisted_name;
+use lookup::key_field;
+use lookup::path_field;
+use lookup::row_field;
+use lookup::row_value;
+use lookups::MaybeAlternative;
+use lookups::Run;
+use lookups::alternative_of;
+use lookups::is_constant;
+use lookups::union_ty;
+use paths::Address;
+use paths::FieldPath;
+use paths::PredicateId;
+use records::within;
+use slots::MaybeSlot;
+use slots::Slot;
+use slots::SlotKind;
+use slots::just;
+use slots::nothing;
+use views::MaybePredicate;
+use views::NodeView;
+use views::count_of;
+
+// A slot, if the read gives one, and the lists with what it added.
+pub struct Answer {
+    pub some: bool,
+    pub slot: Slot,
+    pub lists: Lists,
+}
+
+// What is read of a base: a field of its key by name, its value side, or a union's alternative by name.
+pub enum Read {
+    Key(usize),
+    Value,
+    Select(usize),
+}
+
+pub enum Base {
+    Nothing,
+    Of(Read, usize),
+}
+
+// A read that adds nothing.
+pub fn gives(found: MaybeSlot, lists: Lists) -> Answer
+    ensures { λ r. ⌜ ((w : List ℕ) → Answers (give (slotOption found)) lists w r w) ⌝ }
+{
+    let slot = found.slot;
+    Answer {
+        some: found.some,
+        slot,
+        lists,
+    }
+}
+
+// A read that gives nothing and says why.
+pub fn declined(work: &mut [u8], node: usize, code: Code, lists: Lists) -> Answer
+    ensures { λ r. ⌜ ((T : Tables) → Answers (Rules.declined (ops T) T node (codeOf code)) lists (now (work .entry)) r (now (work .exit))) ⌝ }
+{
+    let l = report(work, lists, node, code);
+    gives(nothing(), l)
+}
+
+// A reference that was followed, as the row it names.
+fn fetched_row(
+    work: &mut [u8],
+    node: usize,
+    predicate: PredicateId,
+    register: MaybeAddress,
+    lists: Lists,
+) -> Answer
+    ensures { λ r. ⌜ ((T : Tables) → Answers (Rules.fetchedRow (ops T) T node (predicate .0) (addressOption register)) lists (now (work .entry)) r (now (work .exit))) ⌝ }
+{
+    match register {
+        MaybeAddress::Nothing => declined(work, node, Code::NyiFactField, lists),
+        MaybeAddress::Just(a) => gives(
+            just(Slot::plain(SlotKind::Row(a, MaybePredicate::Just(predicate)))),
+            lists,
+        ),
+    }
+}
+
+fn dereference_field(
+    file: &[u8],
+    index: &[u16],
+    work: &mut [u8],
+    node: usize,
+    address: Address,
+    path: FieldPath,
+    ty: usize,
+    lists: Lists,
+) -> Answer
+    requires { ⌜ Indexed (now file) (now index) ⌝ }
+    ensures { λ r. ⌜ Answers (Rules.dereference (ops (tablesOf (now (file .entry)))) (tablesOf (now (file .entry))) node (File.Slot.Field (address .0) (pathOf path) ty)) lists (now (work .entry)) r (now (work .exit)) ⌝ }
+{
+    match fact_ty(file, index, ty) {
+        MaybePredicate::Nothing => gives(just(Slot::field(address, path, ty)), lists),
+        MaybePredicate::Just(p) => fetched_row(
+            work,
+            node,
+            p,
+            fetched_register(file, index, address, within(path)),
+            lists,
+        ),
+    }
+}
+
+fn dereference_value(
+    file: &[u8],
+    index: &[u16],
+    work: &mut [u8],
+    node: usize,
+    address: Address,
+    ty: usize,
+    lists: Lists,
+) -> Answer
+    requires { ⌜ Indexed (now file) (now index) ⌝ }
+    ensures { λ r. ⌜ Answers (Rules.dereference (ops (tablesOf (now (file .entry)))) (tablesOf (now (file .entry))) node (File.Slot.Value (address .0) ty)) lists (now (work .entry)) r (now (work .exit)) ⌝ }
+{
+    match fact_ty(file, index, ty) {
+        MaybePredicate::Nothing => gives(just(Slot::plain(SlotKind::Value(address, ty))), lists),
+        MaybePredicate::Just(p) => declined(work, node, Code::NyiFactField, lists),
+    }
+}
+
+// A reference as the row it names; any other slot as it is.
+pub fn dereference(
+    file: &[u8],
+    index: &[u16],
+    work: &mut [u8],
+    node: usize,
+    slot: Slot,
+    lists: Lists,
+) -> Answer
+    requires { ⌜ Indexed (now file) (now index) ⌝ }
+    ensures { λ r. ⌜ Answers (Rules.dereference (ops (tablesOf (now (file .entry)))) (tablesOf (now (file .entry))) node (slotOf slot)) lists (now (work .entry)) r (now (work .exit)) ⌝ }
+{
+    let kind = slot.kind;
+    match kind {
+        SlotKind::Row(a, p) => gives(just(slot), lists),
+        SlotKind::Key(a, t) => gives(just(slot), lists),
+        SlotKind::Derived(a) => gives(just(slot), lists),
+        SlotKind::Field(a, t) => dereference_field(file, index, work, node, a, slot.path, t, lists),
+        SlotKind::Value(a, t) => dereference_value(file, index, work, node, a, t, lists),
+        SlotKind::Const(n) => gives(just(slot), lists),
+    }
+}
+
+// A field of a row that a reference names: of anything else there is none.
+fn field_of_row(file: &[u8], index: &[u16], name: usize, row: Answer) -> Answer
+    requires { ⌜ Indexed (now file) (now index) ⌝ }
+    ensures { λ r. ⌜ ((w : List ℕ) → Follows (Rules.fieldOfRow (ops (tablesOf (now (file .entry)))) (tablesOf (now (file .entry))) name) row w r w) ⌝ }
+{
+    let lists = row.lists;
+    if !row.some {
+        return row;
+    }
+    let slot = row.slot;
+    let kind = slot.kind;
+    match kind {
+        SlotKind::Row(a, p) => gives(row_field(file, index, a, p, name), lists),
+        SlotKind::Key(a, t) => gives(nothing(), lists),
+        SlotKind::Derived(a) => gives(nothing(), lists),
+        SlotKind::Field(a, t) => gives(nothing(), lists),
+        SlotKind::Value(a, t) => gives(nothing(), lists),
+        SlotKind::Const(n) => gives(nothing(), lists),
+    }
+}
+
+fn field_below(
+    file: &[u8],
+    index: &[u16],
+    work: &mut [u8],
+    node: usize,
+    address: Address,
+    path: FieldPath,
+    ty: usize,
+    name: usize,
+    lists: Lists,
+) -> Answer
+    requires { ⌜ Ready (now file) (now index) ⌝ }
+    requires { ⌜ Room (tablesOf (now file)) (pathOf path) ty ⌝ }
+    ensures { λ r. ⌜ Answers (Rules.fieldSlot (ops (tablesOf (now (file .entry)))) (tablesOf (now (file .entry))) node (File.Slot.Field (address .0) (pathOf path) ty) name) lists (now (work .entry)) r (now (work .exit)) ⌝ }
+{
+    match fact_ty(file, index, ty) {
+        MaybePredicate::Nothing => gives(path_field(file, index, address, path, ty, name), lists),
+        MaybePredicate::Just(p) => field_of_row(
+            file,
+            index,
+            name,
+            dereference_field(file, index, work, node, address, path, ty, lists),
+        ),
+    }
+}
+
+// The slot of one field inside another slot.
+pub fn field_slot(
+    file: &[u8],
+    index: &[u16],
+    work: &mut [u8],
+    node: usize,
+    slot: Slot,
+    name: usize,
+    lists: Lists,
+) -> Answer
+    requires { ⌜ Ready (now file) (now index) ⌝ }
+    requires { ⌜ Roomy (tablesOf (now file)) (slotOf slot) ⌝ }
+    ensures { λ r. ⌜ Answers (Rules.fieldSlot (ops (tablesOf (now (file .entry)))) (tablesOf (now (file .entry))) node (slotOf slot) name) lists (now (work .entry)) r (now (work .exit)) ⌝ }
+{
+    let kind = slot.kind;
+    match kind {
+        SlotKind::Row(a, p) => gives(row_field(file, index, a, p, name), lists),
+        SlotKind::Key(a, t) => gives(key_field(file, index, a, t, name), lists),
+        SlotKind::Derived(a) => gives(nothing(), lists),
+        SlotKind::Field(a, t) => field_below(file, index, work, node, a, slot.path, t, name, lists),
+        SlotKind::Value(a, t) => declined(work, node, Code::NyiValueField, lists),
+        SlotKind::Const(n) => gives(folded_slot(file, index, n, name), lists),
+    }
+}
+
+// The value side of a row, and of nothing else.
+pub fn value_slot(file: &[u8], index: &[u16], slot: Slot, lists: Lists) -> Answer
+    requires { ⌜ Indexed (now file) (now index) ⌝ }
+    ensures { λ r. ⌜ ((w : List ℕ) → Answers (Rules.valueSlot (ops (tablesOf (now (file .entry)))) (tablesOf (now (file .entry))) (slotOf slot)) lists w r w) ⌝ }
+{
+    let kind = slot.kind;
+    match kind {
+        SlotKind::Row(a, p) => gives(row_value(file, index, a, p), lists),
+        SlotKind::Key(a, t) => gives(nothing(), lists),
+        SlotKind::Derived(a) => gives(nothing(), lists),
+        SlotKind::Field(a, t) => gives(nothing(), lists),
+        SlotKind::Value(a, t) => gives(nothing(), lists),
+        SlotKind::Const(n) => gives(nothing(), lists),
+    }
+}
+
+// A select's payload. The select records the union's own path, not the payload's.
+fn selected(
+    work: &mut [u8],
+    address: Address,
+    path: FieldPath,
+    found: MaybeAlternative,
+    lists: Lists,
+) -> Answer
+    requires { ⌜ ((a : File.Alternative) → alternativeOption found ≡ some a → length (pathOf path .steps) < stepLimit) ⌝ }
+    ensures { λ r. ⌜ ((T : Tables) → Answers (Rules.selected (ops T) T (address .0) (pathOf path) (alternativeOption found)) lists (now (work .entry)) r (now (work .exit))) ⌝ }
+{
+    match found {
+        MaybeAlternative::Nothing => gives(nothing(), lists),
+        MaybeAlternative::Just(alt) => {
+            let payload = within(path).payload(alt.disc);
+            let l = select(work, lists, address, path, alt.disc);
+            gives(just(Slot::field(address, payload, alt.ty)), l)
+        }
+    }
+}
+
+fn select_field(
+    file: &[u8],
+    index: &[u16],
+    work: &mut [u8],
+    node: usize,
+    address: Address,
+    path: FieldPath,
+    ty: usize,
+    name: usize,
+    lists: Lists,
+) -> Answer
+    requires { ⌜ Ready (now file) (now index) ⌝ }
+    requires { ⌜ Room (tablesOf (now file)) (pathOf path) ty ⌝ }
+    ensures { λ r. ⌜ Answers (Rules.selectSlot (ops (tablesOf (now (file .entry)))) (tablesOf (now (file .entry))) node (File.Slot.Field (address .0) (pathOf path) ty) name) lists (now (work .entry)) r (now (work .exit)) ⌝ }
+{
+    match union_ty(file, index, ty) {
+        Run::Nothing => declined(work, node, Code::NyiFactField, lists),
+        Run::Of(n, at) => selected(
+            work,
+            address,
+            path,
+            alternative_of(file, at, n, name),
+            lists,
+        ),
+    }
+}
+
+// The payload of one alternative: only of a union held in a key field.
+pub fn select_slot(
+    file: &[u8],
+    index: &[u16],
+    work: &mut [u8],
+    node: usize,
+    slot: Slot,
+    name: usize,
+    lists: Lists,
+) -> Answer
+    requires { ⌜ Ready (now file) (now index) ⌝ }
+    requires { ⌜ Roomy (tablesOf (now file)) (slotOf slot) ⌝ }
+    ensures { λ r. ⌜ Answers (Rules.selectSlot (ops (tablesOf (now (file .entry)))) (tablesOf (now (file .entry))) node (slotOf slot) name) lists (now (work .entry)) r (now (work .exit)) ⌝ }
+{
+    let kind = slot.kind;
+    match kind {
+        SlotKind::Row(a, p) => declined(work, node, Code::NyiFactField, lists),
+        SlotKind::Key(a, t) => declined(work, node, Code::NyiFactField, lists),
+        SlotKind::Derived(a) => declined(work, node, Code::NyiFactField, lists),
+        SlotKind::Field(a, t) => select_field(
+            file,
+            index,
+            work,
+            node,
+            a,
+            slot.path,
+            t,
+            name,
+            lists,
+        ),
+        SlotKind::Value(a, t) => declined(work, node, Code::NyiFactField, lists),
+        SlotKind::Const(n) => declined(work, node, Code::NyiFactField, lists),
+    }
+}
+
+// The slot of the row that a node was hoisted to.
+pub fn hoisted_slot(file: &[u8], index: &[u16], work: &[u8], node: usize, lists: Lists) -> MaybeSlot
+    requires { ⌜ Ready (now file) (now index) ⌝ }
+    ensures { λ r. ⌜ ((lv : Level) (tg : Target) (p : List ℕ) → slotOption r ≡ hoistedSlot (tablesOf (now (file .entry))) (ops (tablesOf (now (file .entry))) .lookup (stateWith lists lv tg (now (work .entry)) p)) node) ⌝ }
+{
+    match hoisted_name(file, index, node) {
+        MaybeName::Nothing => nothing(),
+        MaybeName::Just(x) => lookup(file, index, work, lists, x),
+    }
+}
+
+// A node's slot, if it reads of no other node.
+fn leaf(file: &[u8], index: &[u16], work: &[u8], node: usize, lists: Lists) -> MaybeSlot
+    requires { ⌜ Ready (now file) (now index) ⌝ }
+    ensures { λ r. ⌜ ((lv : Level) (tg : Target) (p : List ℕ) → slotOption r ≡ leafSlot (tablesOf (now (file .entry))) (ops (tablesOf (now (file .entry))) .lookup (stateWith lists lv tg (now (work .entry)) p)) node (nodeAt (tablesOf (now (file .entry))) node)) ⌝ }
+{
+    match node_of(file, index, node) {
+        NodeView::Int(at) => nothing(),
+        NodeView::Str(x) => nothing(),
+        NodeView::Bytes(n, at) => nothing(),
+        NodeView::Var(x) => lookup(file, index, work, lists, x),
+        NodeView::Wildcard => nothing(),
+        NodeView::Never => nothing(),
+        NodeView::Prefix(x) => nothing(),
+        NodeView::Fuzzy(x, d, a) => nothing(),
+        NodeView::Record(n, at) => nothing(),
+        NodeView::Access(x, n) => nothing(),
+        NodeView::Value(n) => nothing(),
+        NodeView::Select(x, n) => nothing(),
+        NodeView::Disjunction => nothing(),
+        NodeView::Subquery => nothing(),
+        NodeView::Fact(p, n) => hoisted_slot(file, index, work, node, lists),
+        NodeView::Arith => nothing(),
+        NodeView::Error => nothing(),
+    }
+}
+
+// What a node reads of which node below it.
+fn base_of(file: &[u8], index: &[u16], node: usize) -> Base
+    requires { ⌜ Indexed (now file) (now index) ⌝ }
+    ensures { λ r. ⌜ r ≡ baseOf (nodeAt (tablesOf (now (file .entry))) node) ⌝ }
+{
+    match node_of(file, index, node) {
+        NodeView::Int(at) => Base::Nothing,
+        NodeView::Str(x) => Base::Nothing,
+        NodeView::Bytes(n, at) => Base::Nothing,
+        NodeView::Var(x) => Base::Nothing,
+        NodeView::Wildcard => Base::Nothing,
+        NodeView::Never => Base::Nothing,
+        NodeView::Prefix(x) => Base::Nothing,
+        NodeView::Fuzzy(x, d, a) => Base::Nothing,
+        NodeView::Record(n, at) => Base::Nothing,
+        NodeView::Access(x, n) => Base::Of(Read::Key(x), n),
+        NodeView::Value(n) => Base::Of(Read::Value, n),
+        NodeView::Select(x, n) => Base::Of(Read::Select(x), n),
+        NodeView::Disjunction => Base::Nothing,
+        NodeView::Subquery => Base::Nothing,
+        NodeView::Fact(p, n) => Base::Nothing,
+        NodeView::Arith => Base::Nothing,
+        NodeView::Error => Base::Nothing,
+    }
+}
+
+fn read_slot(
+    file: &[u8],
+    index: &[u16],
+    work: &mut [u8],
+    node: usize,
+    read: Read,
+    place: Answer,
+) -> Answer
+    requires { ⌜ Ready (now file) (now index) ⌝ }
+    requires { ⌜ Rooms (tablesOf (now file)) (given place) ⌝ }
+    ensures { λ r. ⌜ Follows (readSlot (tablesOf (now (file .entry))) node read) place (now (work .entry)) r (now (work .exit)) ⌝ }
+{
+    if !place.some {
+        return place;
+    }
+    let slot = place.slot;
+    let lists = place.lists;
+    match read {
+        Read::Key(x) => field_slot(file, index, work, node, slot, x, lists),
+        Read::Value => value_slot(file, index, slot, lists),
+        Read::Select(x) => select_slot(file, index, work, node, slot, x, lists),
+    }
+}
+
+// A read of a base's answer, past a reference.
+fn read_past(
+    file: &[u8],
+    index: &[u16],
+    work: &mut [u8],
+    node: usize,
+    read: Read,
+    base: Answer,
+) -> Answer
+    requires { ⌜ Ready (now file) (now index) ⌝ }
+    requires { ⌜ Rooms (tablesOf (now file)) (given base) ⌝ }
+    ensures { λ r. ⌜ Follows (readPast (tablesOf (now (file .entry))) node read) base (now (work .entry)) r (now (work .exit)) ⌝ }
+{
+    if !base.some {
+        return base;
+    }
+    let slot = base.slot;
+    let lists = base.lists;
+    let place = dereference(file, index, work, node, slot, lists);
+    read_slot(file, index, work, node, read, place)
+}
+
+fn constant_node(file: &[u8], index: &[u16], node: usize) -> bool
+    requires { ⌜ Ready (now file) (now index) ⌝ }
+    ensures { λ r. ⌜ r ≡ isConstant (tablesOf (now (file .entry))) node ⌝ }
+{
+    if node < count_of(file, index, 3) {
+        is_constant(file, index, node)
+    } else {
+        false
+    }
+}
+
+// A node that reads of no other. A constant is a location like any other, the node itself, and is asked for first.
+fn leaf_answer(file: &[u8], index: &[u16], work: &mut [u8], node: usize, lists: Lists) -> Answer
+    requires { ⌜ Ready (now file) (now index) ⌝ }
+    ensures { λ r. ⌜ Answers (leafAt (tablesOf (now (file .entry))) node) lists (now (work .entry)) r (now (work .exit)) ⌝ }
+{
+    if constant_node(file, index, node) {
+        gives(just(Slot::plain(SlotKind::Const(node))), lists)
+    } else {
+        gives(leaf(file, index, work, node, lists), lists)
+    }
+}
+
+// A chain of accesses is as long as a file has nodes, so the frame is kept small: what is no call of itself stands in functions of its own, and the
+// one that is called twice is not drawn into this one.
+pub fn resolve(file: &[u8], index: &[u16], work: &mut [u8], node: usize, lists: Lists) -> Answer
+    requires { ⌜ Ready (now file) (now index) ⌝ }
+    ensures { λ r. ⌜ Answers (Rules.resolve (ops (tablesOf (now (file .entry)))) (tablesOf (now (file .entry))) node) lists (now (work .entry)) r (now (work .exit)) ⌝ }
+{
+    if constant_node(file, index, node) {
+        return leaf_answer(file, index, work, node, lists);
+    }
+    let Base::Of(read, base) = base_of(file, index, node) else {
+        return leaf_answer(file, index, work, node, lists);
+    };
+    let below = resolve(file, index, work, base, lists);
+    read_past(file, index, work, node, read, below)
+}

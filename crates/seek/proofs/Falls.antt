@@ -1,0 +1,204 @@
+-- Building falls: what a level keeps of range and guide, and what it gains.
+use mathlib.Core.Path.{_≡_, refl, sym, ap, _∙_}
+use mathlib.Core.Bool.{Bool, true, false}
+use mathlib.Core.List.{List, [], _∷_}
+use mathlib.Core.Option.{Option, none, some}
+use Prim.Native.Nat.{ℕ}
+use lib.Dec.{eqb}
+use lib.Seq.{sets}
+use Rattle.rules.specs.File as File
+use Rattle.rules.specs.File.{Tables, nameAt}
+use Rattle.rules.specs.Constant.{encodePrefix}
+use Rattle.rules.specs.Lookup.{samePath, sameSteps}
+use Rattle.rules.specs.Placement.{Guide, Range, rangeAt}
+use Rattle.rules.proofs.Cases.{both-left, both-right, eqb-eq, true≢false}
+use Rattle.state.specs.State as Kept
+use Rattle.state.specs.State.{Ends, Level, State, state, stop}
+use Rattle.state.specs.Ops.{grow, fall, relevel, skip, narrowed, attachable, withGuide, withRange}
+use Rattle.paths.specs.Paths.{pathOf}
+use Rattle.paths.specs.declared.FieldPath.{FieldPath}
+use Rattle.views.specs.Views.{anchorOf}
+use Rattle.views.specs.declared.Anchor.{Anchor}
+use Rattle.seek.specs.Seek.{sumsOf, summed, countsOf, setIn, guideOf, rangeOf, edgesOf, levelOf, targetOf, stateOf, fitting, narrowSums, kept, fell}
+use Rattle.seek.specs.declared.Counts.{Counts}
+use Rattle.seek.specs.declared.Sums.{Sums}
+use Rattle.seek.specs.declared.SeekBuilder.{SeekBuilder}
+use Rattle.seek.proofs.Grows.{grow-yes, grow-no}
+use Rattle.seek.proofs.Narrows.{goes}
+
+-- a level that grows by nothing written
+grow-bare : (l : Level) (s : State) → fitting (l .plain) (l .counts) ≡ true → state (s .over) (s .ends) l (s .target) (s .work) (s .plan) ≡ grow l 0 [] s
+grow-bare l s h = sym (grow-yes l 0 [] s h ∙ ap (state (s .over) (s .ends) l (s .target) (s .work)) (nothing (s .target .writing)))
+  where
+    nothing : (t : Bool) → (elim t [ true ↦ sets (s .plan) 0 [] | false ↦ s .plan ]) ≡ s .plan
+    nothing true = refl
+    nothing false = refl
+
+module _ {A : Type 0} where
+  set-kept : (building set : Bool) (x : A) → setIn false (kept building set) x ≡ setIn building set x
+  unfolding setIn kept
+  set-kept true set x = refl
+  set-kept false set x = refl
+
+  not-kept : (building set set′ : Bool) (x y : A) → building ≡ true → setIn false (kept building set) x ≡ setIn building set′ y
+  unfolding setIn kept
+  not-kept true set set′ x y e = refl
+  not-kept false set set′ x y e = absurd (true≢false (sym e))
+
+pub falls : (T : Tables) (b : SeekBuilder) → levelOf T (fell b) ≡ fall (levelOf T b)
+unfolding levelOf fell guideOf rangeOf edgesOf fall
+falls T b =
+    let made : Option Guide → Option Range → Level = λ g r. record { building = false; plain = b .plain; counts = countsOf (b .counts); guide = g; range = r; edges = edgesOf T b } in
+    ap (λ g. made g (rangeOf T (fell b))) (set-kept (b .building) (b .guide .set) _) ∙ ap (made (guideOf b)) (set-kept (b .building) (b .range .set) _)
+
+pub skips : (b r : SeekBuilder) (T : Tables) (e : Ends) (w p : List ℕ) → b .over ≡ false → r ≡ fell b → stateOf T r e w p ≡ skip (stateOf T b e w p)
+unfolding skip stateOf relevel fell
+skips b r T e w p h er =
+    ap (λ x. stateOf T x e w p) er ∙ ap (λ l. state (b .over) e l (targetOf (b .target)) w p) (falls T b) ∙ goes b T e w p (relevel fall) h
+
+abbrev fellAs : SeekBuilder → Bool → Bool → SeekBuilder
+fellAs b x y =
+    record {
+      over = b .over;
+      building = false;
+      plain = b .plain;
+      counts = b .counts;
+      path = b .path;
+      range = record { set = x; name = b .range .name };
+      guide = record { set = y; distance = b .guide .distance; anchor = b .guide .anchor; term = b .guide .term };
+      lo = b .lo;
+      hi = b .hi;
+      folded = b .folded;
+      target = b .target;
+    }
+
+pub fell-is : (b : SeekBuilder) (x y : Bool) → x ≡ kept (b .building) (b .range .set) → y ≡ kept (b .building) (b .guide .set) → fellAs b x y ≡ fell b
+unfolding fell
+fell-is b x y ex ey = ap (λ t. fellAs b t y) ex ∙ ap (fellAs b (kept (b .building) (b .range .set))) ey
+
+-- equal paths are the same
+same-steps : (xs ys : List ℕ) → sameSteps xs ys ≡ true → xs ≡ ys
+unfolding sameSteps
+same-steps [] [] h = refl
+same-steps [] (y ∷ ys) h = absurd (true≢false (sym h))
+same-steps (x ∷ xs) [] h = absurd (true≢false (sym h))
+same-steps (x ∷ xs) (y ∷ ys) h =
+    let e : x ≡ y = eqb-eq x y (both-left (eqb x y) (sameSteps xs ys) h) in
+    let f : xs ≡ ys = same-steps xs ys (both-right (eqb x y) (sameSteps xs ys) h) in
+    cc
+
+same-path : (p q : File.FieldPath) → samePath p q ≡ true → p ≡ q
+unfolding samePath
+same-path p q h =
+    let e : p .field ≡ q .field = eqb-eq _ _ (both-left (eqb (p .field) (q .field)) (sameSteps (p .steps) (q .steps)) h) in
+    let f : p .steps ≡ q .steps = same-steps _ _ (both-right (eqb (p .field) (q .field)) (sameSteps (p .steps) (q .steps)) h) in
+    ap (λ (n : ℕ). record { field = n; steps = p .steps }) e ∙ ap (λ (l : List ℕ). record { field = q .field; steps = l }) f
+
+-- who may attach, by what is set
+abbrev attaches : Option Guide → Bool → Option Range → File.FieldPath → Bool
+attaches guide building range path = elim guide [ some g ↦ false | none ↦ elim building [ true ↦ true | false ↦ rangeAt range path ] ]
+
+module _ (b : SeekBuilder) (path : FieldPath) (T : Tables) where
+  abbrev told : Bool → Bool → Bool → Bool
+  told building guided ranged =
+      attaches (setIn building guided (record { path = pathOf (b .path); term = b .guide .term; distance = b .guide .distance; anchor = anchorOf (b .guide .anchor) })) building
+      (setIn building ranged (record { path = pathOf (b .path); prefix = encodePrefix (nameAt T (b .range .name)) })) (pathOf path)
+
+  pub attach-builds : b .building ≡ true → true ≡ attachable (levelOf T b) (pathOf path)
+  unfolding attachable levelOf guideOf rangeOf setIn
+  attach-builds h = ap (λ t. told t (b .guide .set) (b .range .set)) (sym h)
+
+  pub attach-guided : b .building ≡ false → b .guide .set ≡ true → false ≡ attachable (levelOf T b) (pathOf path)
+  unfolding attachable levelOf guideOf rangeOf setIn
+  attach-guided h g = ap (λ t. told false t (b .range .set)) (sym g) ∙ ap (λ t. told t (b .guide .set) (b .range .set)) (sym h)
+
+  pub attach-bare : b .building ≡ false → b .guide .set ≡ false → b .range .set ≡ false → false ≡ attachable (levelOf T b) (pathOf path)
+  unfolding attachable levelOf guideOf rangeOf setIn rangeAt
+  attach-bare h g r = ap (told false false) (sym r) ∙ ap (λ t. told false t (b .range .set)) (sym g) ∙ ap (λ t. told t (b .guide .set) (b .range .set)) (sym h)
+
+  pub attach-ranged : (x : Bool) (p q : FieldPath) → b .building ≡ false → b .guide .set ≡ false → b .range .set ≡ true → x ≡ samePath (pathOf p) (pathOf q) → pathOf p ≡ pathOf (b .path) → pathOf q ≡ pathOf path
+      → x ≡ attachable (levelOf T b) (pathOf path)
+  unfolding attachable levelOf guideOf rangeOf setIn rangeAt
+  attach-ranged x p q h g r e ep eq =
+      e ∙ ap (λ t. samePath t (pathOf q)) ep ∙ ap (samePath (pathOf (b .path))) eq
+      ∙ ap (told false false) (sym r) ∙ ap (λ t. told false t (b .range .set)) (sym g) ∙ ap (λ t. told t (b .guide .set) (b .range .set)) (sym h)
+
+range-stays : (building guided ranged : Bool) (g : Guide) (path at : File.FieldPath) (prefix : List ℕ)
+    → attaches (setIn building guided g) building (setIn building ranged (record { path = at; prefix = prefix })) path ≡ true
+    → setIn {A = Range} false (kept building ranged) (record { path = path; prefix = prefix }) ≡ setIn building ranged (record { path = at; prefix = prefix })
+unfolding setIn kept rangeAt
+range-stays true guided ranged g path at prefix h = refl
+range-stays false true ranged g path at prefix h = absurd (true≢false (sym h))
+range-stays false false false g path at prefix h = refl
+range-stays false false true g path at prefix h = ap (λ q. some (record { path = q; prefix = prefix })) (sym (same-path at path h))
+
+abbrev guidedAt : SeekBuilder → Counts → FieldPath → ℕ → ℕ → Anchor → SeekBuilder
+guidedAt l k path name distance anchor =
+    record {
+      over = l .over;
+      building = l .building;
+      plain = l .plain;
+      counts = k;
+      path = path;
+      range = l .range;
+      guide = record { set = true; distance = distance; anchor = anchor; term = name };
+      lo = l .lo;
+      hi = l .hi;
+      folded = l .folded;
+      target = l .target;
+    }
+
+abbrev rangedAt : SeekBuilder → Counts → FieldPath → ℕ → SeekBuilder
+rangedAt l k path name =
+    record {
+      over = l .over;
+      building = l .building;
+      plain = l .plain;
+      counts = k;
+      path = path;
+      range = record { set = true; name = name };
+      guide = l .guide;
+      lo = l .lo;
+      hi = l .hi;
+      folded = l .folded;
+      target = l .target;
+    }
+
+module _ (b l : SeekBuilder) (s s0 : Sums) (T : Tables) (e : Ends) (w p : List ℕ) (el : l ≡ fell b) (es : s ≡ narrowSums s0) (e0 : s0 ≡ summed (b .counts)) where
+  counted : sumsOf s ≡ narrowed (countsOf (b .counts))
+  unfolding narrowed countsOf sumsOf narrowSums
+  counted = ap sumsOf (es ∙ ap narrowSums e0)
+
+  counts-are : (k : Counts) → summed k ≡ s → countsOf k ≡ narrowed (countsOf (b .counts))
+  unfolding countsOf
+  counts-are k ek = ap sumsOf ek ∙ counted
+
+  pub guides : (k : Counts) (path : FieldPath) (name distance : ℕ) (anchor : Anchor) → summed k ≡ s → fitting (b .plain) (sumsOf s) ≡ true → attachable (levelOf T b) (pathOf path) ≡ true
+      → stateOf T (guidedAt l k path name distance anchor) e w p
+      ≡ grow (withGuide (record { path = pathOf path; term = name; distance = distance; anchor = anchorOf anchor }) (levelOf T b)) 0 [] (stateOf T b e w p)
+  unfolding stateOf levelOf guideOf rangeOf edgesOf fell setIn withGuide attachable
+  guides k path name distance anchor ek h a =
+      let g : Guide = record { path = pathOf path; term = name; distance = distance; anchor = anchorOf anchor } in
+      let made : Kept.Counts → Option Range → State =
+      λ c r. state (b .over) e (record { building = false; plain = b .plain; counts = c; guide = some g; range = r; edges = edgesOf T b }) (targetOf (b .target)) w p in
+      ap (λ x. stateOf T (guidedAt x k path name distance anchor) e w p) el
+      ∙ ap (λ c. made c (rangeOf T (guidedAt (fell b) k path name distance anchor))) (counts-are k ek)
+      ∙ ap (made (narrowed (countsOf (b .counts)))) (range-stays (b .building) (b .guide .set) (b .range .set) _ (pathOf path) (pathOf (b .path)) (encodePrefix (nameAt T (b .range .name))) a)
+      ∙ grow-bare (withGuide g (levelOf T b)) (stateOf T b e w p) (ap (fitting (b .plain)) (sym counted) ∙ h)
+
+  pub ranges : (k : Counts) (path : FieldPath) (name : ℕ) → summed k ≡ s → fitting (b .plain) (sumsOf s) ≡ true → b .building ≡ true
+      → stateOf T (rangedAt l k path name) e w p ≡ grow (withRange (pathOf path) (encodePrefix (nameAt T name)) (levelOf T b)) 0 [] (stateOf T b e w p)
+  unfolding stateOf levelOf guideOf rangeOf edgesOf fell setIn withRange
+  ranges k path name ek h on =
+      let r : Range = record { path = pathOf path; prefix = encodePrefix (nameAt T name) } in
+      let made : Kept.Counts → Option Guide → State =
+      λ c g. state (b .over) e (record { building = false; plain = b .plain; counts = c; guide = g; range = some r; edges = edgesOf T b }) (targetOf (b .target)) w p in
+      ap (λ x. stateOf T (rangedAt x k path name) e w p) el
+      ∙ ap (λ c. made c (guideOf (rangedAt (fell b) k path name))) (counts-are k ek)
+      ∙ ap (made (narrowed (countsOf (b .counts)))) (not-kept (b .building) (b .guide .set) (b .guide .set) _ _ on)
+      ∙ grow-bare (withRange (pathOf path) (encodePrefix (nameAt T name)) (levelOf T b)) (stateOf T b e w p) (ap (fitting (b .plain)) (sym counted) ∙ h)
+
+  -- what does not fit stops the level, whatever it was to become
+  pub stops : (l′ : Level) (r : State) → l′ .plain ≡ b .plain → l′ .counts ≡ narrowed (countsOf (b .counts)) → r ≡ stop (stateOf T b e w p) → fitting (b .plain) (sumsOf s) ≡ false → r ≡ grow l′ 0 [] (stateOf T b e w p)
+  stops l′ r ep ec er h =
+      er ∙ sym (grow-no l′ 0 [] (stateOf T b e w p) (ap (λ t. fitting t (l′ .counts)) ep ∙ ap (fitting (b .plain)) (ec ∙ sym counted) ∙ h))

@@ -1,0 +1,121 @@
+-- A narrowing, by whether the plan is too long and whether the level builds.
+use mathlib.Core.Path.{_≡_, sym, ap, _∙_}
+use mathlib.Core.Bool.{Bool, true, false}
+use mathlib.Core.List.{List, [], _∷_, _++_}
+use Prim.Native.Nat.{ℕ, _+_, _≤_}
+use native.Mathlib.Omega.{arith}
+use lib.ListN.{length, length-append}
+use Rattle.rules.specs.Base.{both}
+use Rattle.rules.specs.File.{Tables, FieldPath, Anchor}
+use Rattle.rules.specs.Constant.{term}
+use Rattle.rules.specs.Events.{Narrowing}
+use Rattle.rules.specs.Placement.{SeekKeyPart}
+use Rattle.rules.specs.Plan as Plan
+use Rattle.state.specs.State.{Ends, State, unless}
+use Rattle.state.specs.Ops.{grow, narrowed, closed, putPart, putResidual, narrowPart, withRange, narrowPrefix, attachable, withGuide, narrowFuzzy, narrowing, narrow, close, closer}
+use Rattle.records.specs.Records.{written}
+use Rattle.records.specs.declared.Place.{Place}
+use Rattle.records.proofs.Places as Places
+use Rattle.seek.specs.Seek.{Alike, countsOf, levelOf, stateOf}
+use Rattle.seek.specs.declared.SeekBuilder.{SeekBuilder}
+use Rattle.seek.proofs.Grows.{pick-true, pick-false, unless-over, unless-not}
+
+module _ (b : SeekBuilder) (T : Tables) (e : Ends) (w p : List ℕ) where
+  pub stays : (f : State → State) → b .over ≡ true → stateOf T b e w p ≡ unless f (stateOf T b e w p)
+  unfolding stateOf
+  stays f h = unless-over f (stateOf T b e w p) h
+
+  pub goes : (f : State → State) → b .over ≡ false → f (stateOf T b e w p) ≡ unless f (stateOf T b e w p)
+  unfolding stateOf
+  goes f h = unless-not f (stateOf T b e w p) h
+
+  module _ (path : FieldPath) (part : SeekKeyPart) (x : Narrowing) (r : State) (kind : (s : State) → narrowPart part path x s ≡ narrowing path x s) (live : b .over ≡ false) where
+    pub as-part : b .building ≡ true → r ≡ putPart part (narrowed (countsOf (b .counts))) (stateOf T b e w p) → r ≡ narrow path x (stateOf T b e w p)
+    unfolding narrow narrowPart stateOf levelOf
+    as-part h g = g ∙ sym (pick-true (b .building) _ _ h) ∙ kind (stateOf T b e w p) ∙ goes (narrowing path x) live
+
+    pub as-rest : b .building ≡ false → r ≡ putResidual path x (stateOf T b e w p) → r ≡ narrow path x (stateOf T b e w p)
+    unfolding narrow narrowPart stateOf levelOf
+    as-rest h g = g ∙ sym (pick-false (b .building) _ _ h) ∙ kind (stateOf T b e w p) ∙ goes (narrowing path x) live
+
+pub still : (b : SeekBuilder) (T : Tables) (e : Ends) (w p : List ℕ) (path : FieldPath) (x : Narrowing) → b .over ≡ true → stateOf T b e w p ≡ narrow path x (stateOf T b e w p)
+unfolding narrow
+still b T e w p path x h = stays b T e w p (narrowing path x) h
+
+-- a residual is its path, then its op
+pub residual-size : (path : FieldPath) (op : Narrowing) (m n : ℕ) → m ≡ length (Plan.path path) → n ≡ length (Plan.op op) → length (Plan.residual (record { path = path; op = op })) ≡ m + n
+unfolding Plan.residual
+residual-size path op m n e f = length-append (Plan.path path) (Plan.op op) ∙ (let g : length (Plan.path path) + length (Plan.op op) ≡ m + n = omega arith in g)
+
+pub residual-put : (path : FieldPath) (op : Narrowing) (at place : Place) (q p1 p0 : List ℕ) → q ≡ written at (Plan.op op) p1 → written at (Plan.op op) p1 ≡ written place (Plan.path path ++ Plan.op op) p0
+    → q ≡ written place (Plan.residual (record { path = path; op = op })) p0
+unfolding Plan.residual
+residual-put path op at place q p1 p0 e f = e ∙ f
+
+-- the op is a kind and a text
+pub residual-text : (path : FieldPath) (op : Narrowing) (form : List ℕ) (at place : Place) (q p1 p0 : List ℕ) → Plan.op op ≡ form → q ≡ written at form p1
+    → ((bytes : List ℕ) → written at bytes p1 ≡ written place (Plan.path path ++ bytes) p0) → q ≡ written place (Plan.residual (record { path = path; op = op })) p0
+residual-text path op form at place q p1 p0 eo e f = residual-put path op at place q p1 p0 (e ∙ ap (λ x. written at x p1) (sym eo)) (f (Plan.op op))
+
+pub register-size : (a : ℕ) (at : FieldPath) (n : ℕ) → n ≡ length (Plan.path at) → length (Plan.part (SeekKeyPart.RegisterField a at)) ≡ 0 + (3 + n)
+unfolding Plan.part Plan.u16
+register-size a at n e = omega arith
+
+pub register-op : (a : ℕ) (at : FieldPath) (n : ℕ) → n ≡ length (Plan.path at) → 3 + n ≡ length (Plan.op (Narrowing.RegisterField a at))
+unfolding Plan.op Plan.u16
+register-op a at n e = omega arith
+
+pub text-size : (bytes : List ℕ) → length (Plan.part (SeekKeyPart.Bytes bytes)) ≡ length bytes + 3
+unfolding Plan.part Plan.text Plan.u16
+text-size bytes = omega arith
+
+-- a text's length counts only where it is written
+pub exact : (m n : ℕ) → Alike m n → n ≤ 16384 → m ≡ n
+exact m n e h = omega arith
+
+pub text-residual : (path : FieldPath) (op : Narrowing) (bytes : List ℕ) (kind len m : ℕ) → Plan.op op ≡ kind ∷ Plan.text bytes → m ≡ length (Plan.path path) → Alike (length bytes) len
+    → Alike (length (Plan.residual (record { path = path; op = op }))) (m + 3 + len)
+unfolding Plan.residual Plan.text Plan.u16
+text-residual path op bytes kind len m eo em e =
+    let g : length (Plan.op op) ≡ 3 + length bytes = ap length eo ∙ (let f : length (kind ∷ Plan.text bytes) ≡ 3 + length bytes = omega arith in f) in
+    omega (arith, length-append (Plan.path path) (Plan.op op))
+
+module _ (b : SeekBuilder) (T : Tables) (e : Ends) (w p : List ℕ) where
+  -- the level as it was, and nothing to write
+  pub unplaced-is : (l : SeekBuilder) (place : Place) (bytes : List ℕ) (r : State) → l ≡ b → place .write ≡ false → stateOf T b e w p ≡ r → stateOf T l e w (written place bytes p) ≡ r
+  unplaced-is l place bytes r el off h = ap (stateOf T l e w) (sym (Places.off place bytes p off)) ∙ ap (λ x. stateOf T x e w p) el ∙ h
+
+  module _ (path : FieldPath) (r : State) (live : b .over ≡ false) where
+    -- fuzzy, by whether it can guide
+    module _ (x distance : ℕ) (anchor : Anchor) where
+      pub as-guide : attachable (levelOf T b) path ≡ true
+          → r ≡ grow (withGuide (record { path = path; term = x; distance = distance; anchor = anchor }) (levelOf T b)) 0 [] (stateOf T b e w p) → r ≡ narrow path (Narrowing.Fuzzy x distance anchor) (stateOf T b e w p)
+      unfolding narrow narrowing narrowFuzzy stateOf
+      as-guide h g = g ∙ sym (pick-true (attachable (levelOf T b) path) _ _ h) ∙ goes b T e w p (narrowing path (Narrowing.Fuzzy x distance anchor)) live
+
+      pub as-fuzzy : attachable (levelOf T b) path ≡ false → r ≡ putResidual path (Narrowing.Fuzzy x distance anchor) (stateOf T b e w p) → r ≡ narrow path (Narrowing.Fuzzy x distance anchor) (stateOf T b e w p)
+      unfolding narrow narrowing narrowFuzzy stateOf
+      as-fuzzy h g = g ∙ sym (pick-false (attachable (levelOf T b) path) _ _ h) ∙ goes b T e w p (narrowing path (Narrowing.Fuzzy x distance anchor)) live
+
+    pub as-range : (prefix : List ℕ) → b .building ≡ true → r ≡ grow (withRange path prefix (levelOf T b)) 0 [] (stateOf T b e w p) → r ≡ narrow path (Narrowing.Prefix prefix) (stateOf T b e w p)
+    unfolding narrow narrowing narrowPrefix stateOf levelOf
+    as-range prefix h g = g ∙ sym (pick-true (b .building) _ _ h) ∙ goes b T e w p (narrowing path (Narrowing.Prefix prefix)) live
+
+    pub as-prefix : (prefix : List ℕ) → b .building ≡ false → r ≡ putResidual path (Narrowing.Prefix prefix) (stateOf T b e w p) → r ≡ narrow path (Narrowing.Prefix prefix) (stateOf T b e w p)
+    unfolding narrow narrowing narrowPrefix stateOf levelOf
+    as-prefix prefix h g = g ∙ sym (pick-false (b .building) _ _ h) ∙ goes b T e w p (narrowing path (Narrowing.Prefix prefix)) live
+
+  -- a closer, by what held before its tag
+  module _ (before : State) (held : Bool) (eh : before .level .building ≡ held) where
+    pub close-over : b .over ≡ true → stateOf T b e w p ≡ closer before (stateOf T b e w p)
+    unfolding closer
+    close-over h = stays b T e w p (close (before .level .building)) h
+
+    module _ (live : b .over ≡ false) where
+      pub close-none : both held (b .building) ≡ false → stateOf T b e w p ≡ closer before (stateOf T b e w p)
+      unfolding closer close stateOf levelOf
+      close-none h = sym (pick-false (both (before .level .building) (b .building)) _ _ (ap (λ t. both t (b .building)) eh ∙ h)) ∙ goes b T e w p (close (before .level .building)) live
+
+      pub close-part : (r : State) → both held (b .building) ≡ true → r ≡ putPart (SeekKeyPart.Bytes term) (closed (countsOf (b .counts))) (stateOf T b e w p) → r ≡ closer before (stateOf T b e w p)
+      unfolding closer close stateOf levelOf
+      close-part r h g = g ∙ sym (pick-true (both (before .level .building) (b .building)) _ _ (ap (λ t. both t (b .building)) eh ∙ h)) ∙ goes b T e w p (close (before .level .building)) live

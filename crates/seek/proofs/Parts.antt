@@ -1,0 +1,160 @@
+-- One part or one residual more, and where it is written.
+use mathlib.Core.Path.{_≡_, refl, sym, ap, _∙_}
+use mathlib.Core.Bool.{Bool, true, false}
+use mathlib.Core.List.{List}
+use Prim.Native.Nat.{ℕ, _+_, _<_, _≤_}
+use native.Mathlib.Omega.{arith}
+use lib.ListN.{length}
+use lib.Dec.{leb}
+use borrow.Author.Tests.{leb-true, leb-false}
+use Rattle.rules.proofs.Cases.{true≢false}
+use Rattle.rules.specs.Base.{both}
+use Rattle.rules.specs.File.{Tables, FieldPath}
+use Rattle.rules.specs.Events.{Narrowing}
+use Rattle.rules.specs.Placement.{SeekKeyPart}
+use Rattle.rules.specs.Plan as Plan
+use Rattle.state.specs.State as Kept
+use Rattle.state.specs.State.{Ends, Level, State, counts}
+use Rattle.state.specs.Ops.{grow, narrowed, closed, recount, isBytes, partText, withPart, partAt, partForm, putPart, putResidual}
+use Rattle.records.specs.Records.{formOf}
+use Rattle.seek.specs.Seek.{Alike, partsSize, fitting, sumsOf, summed, countsOf, levelOf, stateOf, resummed, partSums, restSums, counting}
+use Rattle.seek.specs.declared.Counts.{Counts}
+use Rattle.seek.specs.declared.Sums.{Sums}
+use Rattle.seek.specs.declared.SeekBuilder.{SeekBuilder}
+use Rattle.seek.proofs.Fits.{too-long}
+use Rattle.seek.proofs.Grows.{pick-true, pick-false, grow-no}
+
+pub sums-same : (c : Counts) (n l o r j f x : ℕ) → n ≡ c .narrowings → l ≡ c .closers → o ≡ c .others → r ≡ c .residuals → j ≡ c .joined → f ≡ c .framed → x ≡ c .rest
+    → record { narrowings = n; closers = l; others = o; residuals = r; joined = j; framed = f; rest = x } ≡ summed c
+sums-same c n l o r j f x e1 e2 e3 e4 e5 e6 e7 = cc
+
+pub sums-closer : (closer : Bool) (text frame : ℕ) (s : Sums) → closer ≡ true
+    → record { narrowings = s .narrowings; closers = s .closers + 1; others = s .others; residuals = s .residuals; joined = s .joined + text; framed = s .framed + frame; rest = s .rest } ≡ partSums closer text frame s
+unfolding partSums
+sums-closer closer text frame s e = ap (λ t. partSums t text frame s) (sym e)
+
+pub sums-other : (closer : Bool) (text frame : ℕ) (s : Sums) → closer ≡ false
+    → record { narrowings = s .narrowings + 1; closers = s .closers; others = s .others + 1; residuals = s .residuals; joined = s .joined + text; framed = s .framed + frame; rest = s .rest } ≡ partSums closer text frame s
+unfolding partSums
+sums-other closer text frame s e = ap (λ t. partSums t text frame s) (sym e)
+
+-- the counts of the written state
+more-counts : (closer : Bool) (c : Counts) (text frame : ℕ) (k : Kept.Counts) → k ≡ counting closer (countsOf c)
+    → sumsOf (partSums closer text frame (summed c)) ≡ counts (k .narrowings) (k .closers) (k .parts + 1) (k .residuals) (k .joined + text) (k .parted + (text + frame)) (k .rest)
+unfolding sumsOf partSums countsOf narrowed closed
+more-counts true c text frame k e =
+    let n : ℕ = c .closers + c .others in
+    let e1 : c .closers + 1 + c .others ≡ c .closers + c .others + 1 = omega arith in
+    let e2 : c .joined + text + (c .framed + frame) ≡ c .joined + c .framed + (text + frame) = omega arith in
+    ap (λ (i : ℕ). counts (c .narrowings) (c .closers + 1) i (c .residuals) (c .joined + text) (c .joined + text + (c .framed + frame)) (c .rest)) e1
+    ∙ ap (λ (i : ℕ). counts (c .narrowings) (c .closers + 1) (n + 1) (c .residuals) (c .joined + text) i (c .rest)) e2
+    ∙ ap (λ (x : Kept.Counts). counts (x .narrowings) (x .closers) (x .parts + 1) (x .residuals) (x .joined + text) (x .parted + (text + frame)) (x .rest)) (sym e)
+more-counts false c text frame k e =
+    let n : ℕ = c .closers + c .others in
+    let e1 : c .closers + (c .others + 1) ≡ c .closers + c .others + 1 = omega arith in
+    let e2 : c .joined + text + (c .framed + frame) ≡ c .joined + c .framed + (text + frame) = omega arith in
+    ap (λ (i : ℕ). counts (c .narrowings + 1) (c .closers) i (c .residuals) (c .joined + text) (c .joined + text + (c .framed + frame)) (c .rest)) e1
+    ∙ ap (λ (i : ℕ). counts (c .narrowings + 1) (c .closers) (n + 1) (c .residuals) (c .joined + text) i (c .rest)) e2
+    ∙ ap (λ (x : Kept.Counts). counts (x .narrowings) (x .closers) (x .parts + 1) (x .residuals) (x .joined + text) (x .parted + (text + frame)) (x .rest)) (sym e)
+
+more-level : (closer bytes : Bool) (c : Counts) (text frame : ℕ) (part : SeekKeyPart) (l : Level) → isBytes part ≡ bytes → length (partText part) ≡ text → length (Plan.part part) ≡ text + frame
+    → resummed (both (l .plain) bytes) (partSums closer text frame (summed c)) l ≡ withPart part (counting closer (countsOf c)) l
+unfolding resummed withPart
+more-level closer bytes c text frame part l eb et ef =
+    let k : Kept.Counts = counting closer (countsOf c) in
+    let made : Bool → Kept.Counts → Level = λ p n. record { building = l .building; plain = both (l .plain) p; counts = n; guide = l .guide; range = l .range; edges = l .edges } in
+    ap (λ p. made p (sumsOf (partSums closer text frame (summed c)))) (sym eb)
+    ∙ ap (made (isBytes part)) (more-counts closer c text frame k refl
+    ∙ ap (λ (i : ℕ). counts (k .narrowings) (k .closers) (k .parts + 1) (k .residuals) (k .joined + i) (k .parted + (text + frame)) (k .rest)) (sym et)
+    ∙ ap (λ (i : ℕ). counts (k .narrowings) (k .closers) (k .parts + 1) (k .residuals) (k .joined + length (partText part)) (k .parted + i) (k .rest)) (sym ef))
+
+under : (n : ℕ) → (16384 < n → ⊥) → n ≤ 16384
+under n f = go (leb n 16384) refl
+  where
+    go : (t : Bool) → leb n 16384 ≡ t → n ≤ 16384
+    go true h = leb-true n 16384 h
+    go false h = absurd (f (leb-false n 16384 h))
+
+-- what is longer than a plan does not fit one
+big-part : (plain closer : Bool) (n frame : ℕ) (s : Sums) → 16384 < n → false ≡ fitting plain (sumsOf (partSums closer n frame s))
+unfolding partSums partsSize
+big-part plain closer n frame s h = too-long plain (partSums closer n frame s) _ refl (long plain closer)
+  where
+    long : (p c : Bool) → 16384 < partsSize p (partSums c n frame s) + partSums c n frame s .rest
+    long true true = omega arith
+    long true false = omega arith
+    long false true = omega arith
+    long false false = omega arith
+
+big-residual : (plain : Bool) (n : ℕ) (s : Sums) → 16384 < n → false ≡ fitting plain (sumsOf (restSums n s))
+unfolding restSums
+big-residual plain n s h = too-long plain (restSums n s) _ refl (omega arith)
+
+module _ (plain : Bool) (s : Sums) where
+  pub part-fits : (closer : Bool) (n frame : ℕ) (s0 : Sums) → s ≡ partSums closer n frame s0 → fitting plain (sumsOf s) ≡ true → n ≤ 16384
+  part-fits closer n frame s0 e h =
+      under n (λ g. true≢false (sym h ∙ ap (λ x. fitting plain (sumsOf x)) e ∙ sym (big-part plain closer n frame s0 g)))
+
+  pub residual-fits : (n : ℕ) (s0 : Sums) → s ≡ restSums n s0 → fitting plain (sumsOf s) ≡ true → n ≤ 16384
+  residual-fits n s0 e h = under n (λ g. true≢false (sym h ∙ ap (λ x. fitting plain (sumsOf x)) e ∙ sym (big-residual plain n s0 g)))
+
+-- a level by a size: where two sizes are alike it grows alike
+alike-grow : (l : ℕ → Level) (at : ℕ) (bytes : List ℕ) (s : State) (m n : ℕ) → ((k : ℕ) → 16384 < k → fitting (l k .plain) (l k .counts) ≡ false) → Alike m n → grow (l m) at bytes s ≡ grow (l n) at bytes s
+alike-grow l at bytes s m n big e = go (leb m 16384) refl
+  where
+    go : (t : Bool) → leb m 16384 ≡ t → grow (l m) at bytes s ≡ grow (l n) at bytes s
+    go true h =
+        let g : m ≤ 16384 = leb-true m 16384 h in
+        let f : m ≡ n = omega arith in
+        ap (λ (k : ℕ). grow (l k) at bytes s) f
+    go false h =
+        let g : 16384 < m = leb-false m 16384 h in
+        let f : 16384 < n = omega arith in
+        grow-no (l m) at bytes s (big m g) ∙ sym (grow-no (l n) at bytes s (big n f))
+
+module _ (b : SeekBuilder) (T : Tables) (e : Ends) (w p : List ℕ) where
+  pub at-joined : (x y : ℕ) → b .target .joining ≡ true → x ≡ b .target .parts → y ≡ b .counts .joined → x + y ≡ partAt (stateOf T b e w p)
+  unfolding partAt stateOf levelOf countsOf sumsOf
+  at-joined x y j ex ey =
+      let f : x + y ≡ b .target .parts + b .counts .joined = omega arith in
+      f ∙ ap (λ (i : ℕ). b .target .parts + i) (sym (pick-true (b .target .joining) (b .counts .joined) (b .counts .joined + b .counts .framed) j))
+
+  pub at-parted : (x y z : ℕ) → b .target .joining ≡ false → x ≡ b .target .parts → y ≡ b .counts .joined → z ≡ b .counts .framed → x + y + z ≡ partAt (stateOf T b e w p)
+  unfolding partAt stateOf levelOf countsOf sumsOf
+  at-parted x y z j ex ey ez =
+      let f : x + y + z ≡ b .target .parts + (b .counts .joined + b .counts .framed) = omega arith in
+      f ∙ ap (λ (i : ℕ). b .target .parts + i) (sym (pick-false (b .target .joining) (b .counts .joined) (b .counts .joined + b .counts .framed) j))
+
+  pub part-placed : (closer bytes plain joined : Bool) (text frame at : ℕ) (s s0 : Sums) (part : SeekKeyPart) (r : State)
+      → plain ≡ both (b .plain) bytes → s ≡ partSums closer text frame s0 → s0 ≡ summed (b .counts) → at ≡ partAt (stateOf T b e w p) → joined ≡ b .target .joining
+      → isBytes part ≡ bytes → Alike (length (partText part)) text → length (Plan.part part) ≡ length (partText part) + frame
+      → r ≡ grow (resummed plain s (levelOf T b)) at (formOf joined part) (stateOf T b e w p)
+      → r ≡ putPart part (counting closer (countsOf (b .counts))) (stateOf T b e w p)
+  unfolding putPart stateOf levelOf partForm formOf resummed
+  part-placed closer bytes plain joined text frame at s s0 part r ep es e0 ea ej eb et ef h =
+      let st : State = stateOf T b e w p in
+      let n : ℕ = length (partText part) in
+      let c : Sums = summed (b .counts) in
+      let plain′ : Bool = both (b .plain) bytes in
+      h
+      ∙ ap (λ t. grow (resummed t s (levelOf T b)) at (formOf joined part) st) ep
+      ∙ ap (λ t. grow (resummed plain′ t (levelOf T b)) at (formOf joined part) st) (es ∙ ap (partSums closer text frame) e0)
+      ∙ alike-grow (λ k. resummed plain′ (partSums closer k frame c) (levelOf T b)) at (formOf joined part) st text n (λ k g. sym (big-part plain′ closer k frame c g)) (sym et)
+      ∙ ap (λ (i : ℕ). grow (resummed plain′ (partSums closer n frame c) (levelOf T b)) i (formOf joined part) st) ea
+      ∙ ap (λ t. grow (resummed plain′ (partSums closer n frame c) (levelOf T b)) (partAt st) (formOf t part) st) ej
+      ∙ ap (λ l. grow l (partAt st) (partForm st part) st) (more-level closer bytes (b .counts) n frame part (levelOf T b) eb refl ef)
+
+  pub residual-placed : (size at x y : ℕ) (s s0 : Sums) (path : FieldPath) (op : Narrowing) (r : State)
+      → s ≡ restSums size s0 → s0 ≡ summed (b .counts) → x ≡ b .target .rest → y ≡ b .counts .rest → at ≡ x + y → Alike (length (Plan.residual (record { path = path; op = op }))) size
+      → r ≡ grow (resummed (b .plain) s (levelOf T b)) at (Plan.residual (record { path = path; op = op })) (stateOf T b e w p)
+      → r ≡ putResidual path op (stateOf T b e w p)
+  unfolding putResidual stateOf levelOf recount resummed restSums countsOf sumsOf
+  residual-placed size at x y s s0 path op r es e0 ex ey ea el h =
+      let st : State = stateOf T b e w p in
+      let form : List ℕ = Plan.residual (record { path = path; op = op }) in
+      let c : Sums = summed (b .counts) in
+      let a : at ≡ b .target .rest + b .counts .rest = omega arith in
+      h
+      ∙ ap (λ t. grow (resummed (b .plain) t (levelOf T b)) at form st) (es ∙ ap (restSums size) e0)
+      ∙ alike-grow (λ k. resummed (b .plain) (restSums k c) (levelOf T b)) at form st size (length form) (λ k g. sym (big-residual (b .plain) k c g)) (sym el)
+      ∙ ap (λ (i : ℕ). grow (resummed (b .plain) (restSums (length form) c) (levelOf T b)) i form st) a

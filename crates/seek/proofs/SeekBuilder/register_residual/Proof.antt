@@ -1,0 +1,59 @@
+use mathlib.Core.Path.{sym, ap, _∙_}
+use Rattle.rules.specs.Plan as Plan
+use Rattle.rules.specs.Events.{Narrowing}
+use Rattle.paths.specs.Paths.{pathOf}
+use Rattle.seek.specs.Seek.{stateOf}
+use Rattle.seek.proofs.Narrows.{residual-size, residual-put, register-op}
+use Prim.Native.Nat.{min}
+use native.Mathlib.Nat.{add-assoc}
+use borrow.Author.Needs.{needs}
+use Rattle.seek.proofs.SeekBuilder.register_residual.Statement.{statement}
+use Rattle.seek.proofs.SeekBuilder.register_residual.Tie as tie
+
+path-size-requires : tie.Need-path-size-requires
+path-size-requires c κs = search needs
+
+add-residual : tie.Need-add-residual
+add-residual c = search needs
+
+path-size-requires-2 : tie.Need-path-size-requires-2
+path-size-requires-2 c κs = search needs
+
+add-residual-2 : tie.Need-add-residual-2
+add-residual-2 c = search needs
+
+residual-requires : tie.Need-residual-requires
+residual-requires c κs = search needs
+
+put-path-at-requires : tie.Need-put-path-at-requires
+put-path-at-requires c κs = search needs
+
+put-register-requires : tie.Need-put-register-requires
+put-register-requires c κs = search needs
+
+same-length : tie.Need-same-length
+same-length c = search needs
+
+returns : tie.Need-returns
+unfolding Plan.op Plan.u16
+returns c =
+    λ T e w.
+    let p = c .before .before .before .before .before .before .before .before .before .before .residual in
+    let args = c .before .before .before .before .before .before .before .before .before .before .before .before .before .before .args in
+    let x : Narrowing = Narrowing.RegisterField (args .address .0) (pathOf (args .at)) in
+    ap (stateOf T (p .result .level) e w) (residual-put (pathOf (args .path)) x _ _ _ _ _ (c .before .before .before .put-register .ensures) (c .before .before .before .before .before .before .before .put-path-at .ensures .0 (Plan.op x)))
+    ∙ p .ensures .0 T e w _ (pathOf (args .path)) x (ap (min 16385) (residual-size (pathOf (args .path)) x _ _ (c .before .before .before .before .before .before .before .before .before .before .before .before .path-size .ensures .0) (register-op (args .address .0) (pathOf (args .at)) _ (c .before .before .before .before .before .before .before .before .before .before .before .path-size2 .ensures .0)) ∙ sym (add-assoc _ 3 _)))
+
+pub register-residual-spec : {M : Type 1} → statement M
+register-residual-spec =
+    tie.close
+    (tie.spec
+    path-size-requires
+    add-residual
+    path-size-requires-2
+    add-residual-2
+    residual-requires
+    put-path-at-requires
+    put-register-requires
+    same-length
+    returns)

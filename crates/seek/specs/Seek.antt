@@ -1,0 +1,140 @@
+-- What the code's level stands for in the state that the compiler keeps (crate state).
+use mathlib.Core.Path.{_≡_}
+use mathlib.Core.Bool.{Bool, true, false}
+use mathlib.Core.List.{List, [], _∷_}
+use mathlib.Core.Option.{Option, none, some, Option·getD}
+use Prim.Native.Nat.{ℕ, _+_, _<_, min}
+use Rattle.rules.specs.Base.{_>>=_}
+use Rattle.rules.specs.File.{Tables, nameAt}
+use Rattle.rules.specs.Constant.{constant, bytesOnly, encodePrefix}
+use Rattle.rules.specs.Placement as Placement
+use Rattle.rules.specs.Placement.{RangeEdge, Edges}
+use Rattle.state.specs.State as Kept
+use Rattle.state.specs.State.{Ends, Level, State, state, counts, fits}
+use Rattle.state.specs.Ops.{narrowed, closed}
+use Rattle.paths.specs.Paths.{pathOf}
+use Rattle.views.specs.Views.{anchorOf}
+use Rattle.seek.specs.declared.Counts.{Counts}
+use Rattle.seek.specs.declared.Sums.{Sums}
+use Rattle.seek.specs.declared.Edge.{Edge}
+use Rattle.seek.specs.declared.Folded.{Folded}
+use Rattle.seek.specs.declared.Target.{Target}
+use Rattle.seek.specs.declared.SeekBuilder.{SeekBuilder}
+
+-- Parts are closers and others; their plan form is what they join to and what frames it. So no sum needs a bound of its own.
+unfoldable pub sumsOf : Sums → Kept.Counts
+sumsOf c = counts (c .narrowings) (c .closers) (c .closers + c .others) (c .residuals) (c .joined) (c .joined + c .framed) (c .rest)
+
+abbrev pub summed : Counts → Sums
+summed c = record { narrowings = c .narrowings; closers = c .closers; others = c .others; residuals = c .residuals; joined = c .joined; framed = c .framed; rest = c .rest }
+
+unfoldable pub countsOf : Counts → Kept.Counts
+countsOf c = sumsOf (summed c)
+
+pub record Below (limit : ℕ) (c : Sums) : Type 0 where
+  pub narrowings : c .narrowings < limit
+  pub closers : c .closers < limit
+  pub others : c .others < limit
+  pub residuals : c .residuals < limit
+  pub joined : c .joined < limit
+  pub framed : c .framed < limit
+  pub rest : c .rest < limit
+
+-- A level that builds has neither range nor guide, whatever their fields hold.
+unfoldable pub setIn : {A : Type 0} → Bool → Bool → A → Option A
+setIn building set x = elim building [ true ↦ none | false ↦ elim set [ true ↦ some x | false ↦ none ] ]
+
+unfoldable pub guideOf : SeekBuilder → Option Placement.Guide
+guideOf b =
+    setIn (b .building) (b .guide .set) (record { path = pathOf (b .path); term = b .guide .term; distance = b .guide .distance; anchor = anchorOf (b .guide .anchor) })
+
+unfoldable pub rangeOf : Tables → SeekBuilder → Option Placement.Range
+rangeOf T b = setIn (b .building) (b .range .set) (record { path = pathOf (b .path); prefix = encodePrefix (nameAt T (b .range .name)) })
+
+-- A constant stays a position until it is written.
+unfoldable pub constantBytes : Tables → ℕ → ℕ → List ℕ
+constantBytes T n t = Option·getD (constant T n t >>= bytesOnly) []
+
+unfoldable pub edgeOf : Tables → Edge → Option RangeEdge
+edgeOf T e = elim (e .set) [ true ↦ some (record { value = constantBytes T (e .node) (e .ty); inclusive = e .inclusive }) | false ↦ none ]
+
+-- as many indices as edges, in the order in which they were taken
+unfoldable pub foldedOf : Bool → Bool → ℕ → ℕ → List ℕ
+foldedOf true true i j = i ∷ j ∷ []
+foldedOf true false i j = i ∷ []
+foldedOf false true i j = i ∷ []
+foldedOf false false i j = []
+
+unfoldable pub foldedThen : Bool → ℕ → Folded → Folded
+foldedThen true i f = record { first = f .first; second = i }
+foldedThen false i f = record { first = i; second = f .second }
+
+unfoldable pub edgesOf : Tables → SeekBuilder → Edges
+edgesOf T b = record { lo = edgeOf T (b .lo); hi = edgeOf T (b .hi); folded = foldedOf (b .lo .set) (b .hi .set) (b .folded .first) (b .folded .second) }
+
+unfoldable pub levelOf : Tables → SeekBuilder → Level
+levelOf T b = record { building = b .building; plain = b .plain; counts = countsOf (b .counts); guide = guideOf b; range = rangeOf T b; edges = edgesOf T b }
+
+abbrev pub targetOf : Target → Kept.Target
+targetOf t = record { writing = t .writing; joining = t .joining; partsAt = t .parts; restAt = t .rest }
+
+unfoldable pub stateOf : Tables → SeekBuilder → Ends → List ℕ → List ℕ → State
+stateOf T b e work plan = state (b .over) e (levelOf T b) (targetOf (b .target)) work plan
+
+unfoldable pub partsSize : Bool → Sums → ℕ
+partsSize plain c = elim plain [ true ↦ c .joined | false ↦ c .joined + c .framed ]
+
+-- whether a level with these counts fits a plan
+unfoldable pub fitting : Bool → Kept.Counts → Bool
+fitting plain c = fits (record { building = true; plain = plain; counts = c; guide = none; range = none; edges = record { lo = none; hi = none; folded = [] } })
+
+-- Equal sizes, or both too long for a plan: a constant's length is known up to a cap alone.
+abbrev pub Alike : ℕ → ℕ → Type 0
+Alike m n = min 16385 m ≡ min 16385 n
+
+-- the level with other counts
+unfoldable pub resummed : Bool → Sums → Level → Level
+resummed plain c l = record { building = l .building; plain = plain; counts = sumsOf c; guide = l .guide; range = l .range; edges = l .edges }
+
+-- one part more
+unfoldable pub partSums : Bool → ℕ → ℕ → Sums → Sums
+partSums true text frame c =
+    record { narrowings = c .narrowings; closers = c .closers + 1; others = c .others; residuals = c .residuals; joined = c .joined + text; framed = c .framed + frame; rest = c .rest }
+partSums false text frame c =
+    record { narrowings = c .narrowings + 1; closers = c .closers; others = c .others + 1; residuals = c .residuals; joined = c .joined + text; framed = c .framed + frame; rest = c .rest }
+
+-- one narrowing more that is neither part nor residual
+unfoldable pub narrowSums : Sums → Sums
+narrowSums c =
+    record { narrowings = c .narrowings + 1; closers = c .closers; others = c .others; residuals = c .residuals; joined = c .joined; framed = c .framed; rest = c .rest }
+
+-- what is set in a level that fell
+unfoldable pub kept : Bool → Bool → Bool
+kept building set = elim building [ true ↦ false | false ↦ set ]
+
+-- one residual more
+unfoldable pub restSums : ℕ → Sums → Sums
+restSums size c =
+    record { narrowings = c .narrowings + 1; closers = c .closers; others = c .others; residuals = c .residuals + 1; joined = c .joined; framed = c .framed; rest = c .rest + size }
+
+-- the level when building falls
+unfoldable pub fell : SeekBuilder → SeekBuilder
+fell b =
+    record {
+      over = b .over;
+      building = false;
+      plain = b .plain;
+      counts = b .counts;
+      path = b .path;
+      range = record { set = kept (b .building) (b .range .set); name = b .range .name };
+      guide = record { set = kept (b .building) (b .guide .set); distance = b .guide .distance; anchor = b .guide .anchor; term = b .guide .term };
+      lo = b .lo;
+      hi = b .hi;
+      folded = b .folded;
+      target = b .target;
+    }
+
+-- a closer counts as one, any other part as a narrowing
+abbrev pub counting : Bool → Kept.Counts → Kept.Counts
+counting true c = closed c
+counting false c = narrowed c
