@@ -1,0 +1,136 @@
+//! Time and stack of the exported function and of the Rust oracle; see
+//! docs/BENCH.md.
+
+mod clock;
+mod files;
+mod sides;
+mod stack;
+mod table;
+mod timing;
+
+use std::process::{Command, ExitCode, Stdio};
+
+use oracle::HAS_BODIES;
+
+use files::Case;
+use sides::Lent;
+use table::{number, ratio, row, time};
+
+const USAGE: &str = "usage:
+  bench times   everyday files
+  bench worst   files that keep the Rust busy for long; some minutes
+  bench stack   how much stack a call takes";
+
+fn main() -> ExitCode {
+    let arguments: Vec<String> = std::env::args().skip(1).collect();
+    let words: Vec<&str> = arguments.iter().map(String::as_str).collect();
+    if !HAS_BODIES {
+        eprintln!("built without the bodies: set FJORD_SRC to the source and build again");
+        return ExitCode::from(2);
+    }
+    match words.as_slice() {
+        ["times"] => oracle::on_large_stack(|| time_all(files::everyday())),
+        ["worst"] => oracle::on_large_stack(|| time_all(files::worst())),
+        ["stack"] => measure_stacks(),
+        // By `stack`, in a process of its own: a stack that is too small ends it.
+        ["thread", name, stack] => on_thread(name, stack),
+        _ => {
+            eprintln!("{USAGE}");
+            ExitCode::from(2)
+        }
+    }
+}
+
+fn time_all(cases: Vec<Case>) -> ExitCode {
+    let mut lent = Lent::new();
+    let head = [
+        "file",
+        "bytes",
+        "answer",
+        "exported",
+        "Rust",
+        "Rust / exported",
+    ];
+    let mut rows = vec![row(&head)];
+    for case in cases {
+        let Some((answers, first)) = sides::agreed(&case, &mut lent) else {
+            println!("{}: the answers differ", case.name);
+            return ExitCode::FAILURE;
+        };
+        let times = timing::times(&case, &mut lent, first);
+        let count = case.files.len();
+        let bytes: usize = case.files.iter().map(Vec::len).sum();
+        rows.push(vec![
+            String::from(case.name),
+            number(bytes / count),
+            told(&answers),
+            time(times.exported / count as u32),
+            time(times.rust / count as u32),
+            ratio(times.rust, times.exported),
+        ]);
+    }
+    table::print(&rows);
+    let zeroing = timing::zeroing(&mut lent);
+    println!("zeroing plan buffer and work area alone: {}", time(zeroing));
+    ExitCode::SUCCESS
+}
+
+/// What both sides answer to the files.
+fn told(answers: &[Result<Vec<u8>, u8>]) -> String {
+    match answers {
+        [Ok(plan)] => format!("plan of {}", number(plan.len())),
+        [Err(number)] => format!("refused {number}"),
+        _ => {
+            let accepted = answers.iter().filter(|answer| answer.is_ok()).count();
+            format!("{accepted} of {} accepted", number(answers.len()))
+        }
+    }
+}
+
+fn measure_stacks() -> ExitCode {
+    let head = ["files", "exported", "Rust", "thread", "enough"];
+    let mut rows = vec![row(&head)];
+    let mut all_enough = true;
+    for (case, stack) in files::stacked() {
+        let mut lent = Lent::new();
+        let exported = stack::depth(|| sides::exported(&case, &mut lent));
+        let rust = stack::depth(|| sides::rust(&case));
+        let enough = is_enough(case.name, stack);
+        all_enough &= enough;
+        rows.push(vec![
+            format!("{} ({})", case.name, number(case.files.len())),
+            number(exported),
+            number(rust),
+            format!("{} KiB", number(stack >> 10)),
+            String::from(if enough { "yes" } else { "NO" }),
+        ]);
+    }
+    table::print(&rows);
+    if all_enough {
+        ExitCode::SUCCESS
+    } else {
+        ExitCode::FAILURE
+    }
+}
+
+/// Whether the exported function gets through a case on a thread of that size.
+fn is_enough(name: &str, stack: usize) -> bool {
+    let this = std::env::current_exe().expect("a program knows itself");
+    Command::new(this)
+        .args(["thread", name, &stack.to_string()])
+        .stderr(Stdio::null())
+        .status()
+        .is_ok_and(|status| status.success())
+}
+
+fn on_thread(name: &str, stack: &str) -> ExitCode {
+    let found = files::stacked()
+        .into_iter()
+        .find(|(case, _)| case.name == name);
+    let (Some((case, _)), Ok(stack)) = (found, stack.parse()) else {
+        return ExitCode::from(2);
+    };
+    let mut lent = Lent::new();
+    stack::on_thread(stack, || sides::exported(&case, &mut lent));
+    ExitCode::SUCCESS
+}

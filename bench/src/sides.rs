@@ -1,0 +1,80 @@
+//! The two that are measured: the exported function, and the oracle.
+
+use std::hint::black_box;
+
+use sinalvento::{MAX_PLAN, MIN_WORK};
+
+use crate::clock::timed;
+use crate::files::{Case, Part};
+use crate::timing::Times;
+
+/// The memory that the exported function is lent, the same for all calls.
+pub struct Lent {
+    plan: Vec<u8>,
+    work: Vec<u8>,
+}
+
+impl Lent {
+    pub fn new() -> Self {
+        Self {
+            plan: vec![0; MAX_PLAN],
+            work: vec![0; MIN_WORK],
+        }
+    }
+
+    /// What every call does at least, by its contract.
+    pub fn zero(&mut self) {
+        black_box(&mut self.plan).fill(0);
+        black_box(&mut self.work).fill(0);
+    }
+}
+
+/// Each file once, by the exported function.
+pub fn exported(case: &Case, lent: &mut Lent) {
+    for file in &case.files {
+        black_box(sinalvento::call(
+            black_box(file),
+            &mut lent.plan,
+            &mut lent.work,
+        ));
+    }
+}
+
+/// Each file once, by the oracle: its whole path, or its front half.
+pub fn rust(case: &Case) {
+    for file in &case.files {
+        let file = black_box(file);
+        match case.part {
+            Part::Whole => drop(black_box(oracle::compile(file, MAX_PLAN, MIN_WORK))),
+            Part::Front => drop(black_box(oracle::front(file, MIN_WORK))),
+        }
+    }
+}
+
+/// A plan, or a refusal's number.
+type Answer = Result<Vec<u8>, u8>;
+
+/// The exported function's answer.
+fn given(file: &[u8], lent: &mut Lent) -> Answer {
+    sinalvento::compile_into(file, &mut lent.plan, &mut lent.work)
+        .map(<[u8]>::to_vec)
+        .map_err(|refusal| refusal.number())
+}
+
+/// The answers to a case's files and how long they took; none where the two
+/// sides differ.
+pub fn agreed(case: &Case, lent: &mut Lent) -> Option<(Vec<Answer>, Times)> {
+    let mut answers = vec![];
+    let mut times = Times::default();
+    for file in &case.files {
+        let (given, exported) = timed(|| given(file, lent));
+        let (expected, rust) = timed(|| oracle::compile(file, MAX_PLAN, MIN_WORK));
+        if given != expected {
+            return None;
+        }
+        answers.push(given);
+        times.exported += exported;
+        times.rust += rust;
+    }
+    Some((answers, times))
+}

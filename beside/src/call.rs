@@ -1,0 +1,196 @@
+//! One call, and what the format's paper says of it.
+
+use std::fmt;
+use std::hint::black_box;
+
+use oracle::compile::hex;
+use oracle::file::{MAX_FILE, MIN_WORK};
+use oracle::line;
+use oracle::rng::Rng;
+
+use crate::lent::Lent;
+
+/// The exported function's form.
+pub type Compile = fn(&[u8], &mut [u8], &mut [u8]) -> u64;
+
+/// A plan, or a refusal's number.
+pub type Answer = Result<Vec<u8>, u8>;
+
+/// How much memory a call is lent.
+#[derive(Clone, Copy)]
+pub struct Lengths {
+    pub plan: usize,
+    pub work: usize,
+}
+
+/// The answer with this much memory, from the one with enough of it.
+pub fn expected(file: &[u8], answer: &Answer, lengths: Lengths) -> Answer {
+    if file.len() > MAX_FILE {
+        return Err(1);
+    }
+    if lengths.work < MIN_WORK {
+        return Err(2);
+    }
+    match answer {
+        Ok(plan) if plan.len() > lengths.plan => Err(15),
+        _ => answer.clone(),
+    }
+}
+
+/// A call whose result, or whose bytes, are not what they should be.
+pub struct Difference {
+    lengths: Lengths,
+    expected: String,
+    given: String,
+    faults: Vec<&'static str>,
+}
+
+impl fmt::Display for Difference {
+    fn fmt(&self, f: &mut fmt::Formatter<'_>) -> fmt::Result {
+        let Lengths { plan, work } = self.lengths;
+        writeln!(f, "lent     plan buffer {plan}, work area {work} bytes")?;
+        writeln!(f, "expected {}", self.expected)?;
+        writeln!(f, "given    {}", self.given)?;
+        write!(f, "wrong    {}", self.faults.join(", "))
+    }
+}
+
+/// Calls `compile` on random memory and looks at every byte of it afterwards.
+pub fn difference(
+    compile: Compile,
+    file: &[u8],
+    expected: &Answer,
+    lengths: Lengths,
+    rng: &mut Rng,
+) -> Option<Difference> {
+    let mut lent_file = Lent::copy_of(rng, file);
+    let mut plan = Lent::random(rng, lengths.plan);
+    let mut work = Lent::random(rng, lengths.work);
+    let result = compile(lent_file.slice(), plan.slice_mut(), work.slice_mut());
+    // Rust may take the file and the guards as unchanged; they are to be looked at.
+    for lent in [&mut lent_file, &mut plan, &mut work] {
+        black_box(lent);
+    }
+
+    let written = expected.as_deref().unwrap_or_default();
+    let checks = [
+        ("result", result == result_of(expected)),
+        ("plan buffer", holds(plan.slice(), written)),
+        ("work area", holds(work.slice(), &[])),
+        ("file", lent_file.slice() == file),
+        ("bytes around the plan buffer", plan.guarded()),
+        ("bytes around the work area", work.guarded()),
+        ("bytes around the file", lent_file.guarded()),
+    ];
+    let wrong = checks.iter().filter(|(_, good)| !good);
+    let faults: Vec<&str> = wrong.map(|(what, _)| *what).collect();
+    (!faults.is_empty()).then(|| Difference {
+        lengths,
+        expected: line(expected),
+        given: told(result, plan.slice()),
+        faults,
+    })
+}
+
+fn result_of(answer: &Answer) -> u64 {
+    match answer {
+        Ok(plan) => plan.len() as u64,
+        Err(number) => u64::from(*number) << 16,
+    }
+}
+
+/// Whether the bytes are these, and zeros.
+fn holds(bytes: &[u8], start: &[u8]) -> bool {
+    let (front, rest) = bytes.split_at(start.len());
+    front == start && rest.iter().all(|&byte| byte == 0)
+}
+
+fn told(result: u64, plan: &[u8]) -> String {
+    let (number, length) = (result >> 16, (result & 0xFFFF) as usize);
+    match (number, plan.get(..length)) {
+        (0, Some(plan)) => hex(plan),
+        (0, None) => format!("a plan of {length} bytes"),
+        (_, _) if length == 0 => format!("refused {number}"),
+        (_, _) => format!("refused {number}, with length {length}"),
+    }
+}
+
+#[cfg(test)]
+mod tests {
+    use super::*;
+    use oracle::file::MAX_PLAN;
+    use oracle::fixed::door::d1;
+    use oracle::write::write;
+    use oracle::{HAS_BODIES, draw, on_large_stack};
+
+    const ENOUGH: Lengths = Lengths {
+        plan: MAX_PLAN,
+        work: MIN_WORK,
+    };
+
+    #[test]
+    fn what_is_expected_is_the_oracles_answer() {
+        if !HAS_BODIES {
+            return;
+        }
+        on_large_stack(|| {
+            let mut rng = Rng::new(31, 0);
+            for file in draw::files(31, 2_000) {
+                let answer = oracle::compile(&file, MAX_PLAN, MIN_WORK);
+                let plan = answer.as_ref().map_or(0, Vec::len);
+                let lengths = Lengths {
+                    plan: draw::plan_buffer(&mut rng, plan),
+                    work: rng.within(MIN_WORK - 1, MIN_WORK + 1),
+                };
+                let whole = oracle::compile(&file, lengths.plan, lengths.work);
+                assert_eq!(expected(&file, &answer, lengths), whole);
+            }
+        });
+    }
+
+    /// A compile of D1 that is right but for what `spoil` does.
+    fn faults(answer: Answer, compile: Compile) -> Vec<&'static str> {
+        let found = difference(compile, &write(&d1()), &answer, ENOUGH, &mut Rng::new(1, 1));
+        found.map_or(vec![], |found| found.faults)
+    }
+
+    #[test]
+    fn every_byte_is_looked_at() {
+        let good: Compile = |_, plan, work| {
+            plan.fill(0);
+            work.fill(0);
+            plan[..2].copy_from_slice(b"ab");
+            2
+        };
+        let plan = || Ok(b"ab".to_vec());
+        assert!(faults(plan(), good).is_empty());
+        assert_eq!(faults(Ok(b"ac".to_vec()), good), ["plan buffer"]);
+        assert_eq!(faults(Ok(b"a".to_vec()), good), ["result", "plan buffer"]);
+        assert_eq!(faults(Err(15), good), ["result", "plan buffer"]);
+
+        let work_left: Compile = |_, plan, work| {
+            plan.fill(0);
+            work[1..].fill(0);
+            work[0] = 1;
+            15 << 16
+        };
+        assert_eq!(faults(Err(15), work_left), ["work area"]);
+
+        let plan_left: Compile = |_, plan, work| {
+            plan.fill(0);
+            work.fill(0);
+            plan[MAX_PLAN - 1] = 1;
+            3 << 16
+        };
+        assert_eq!(faults(Err(3), plan_left), ["plan buffer"]);
+        assert_eq!(faults(Err(4), plan_left), ["result", "plan buffer"]);
+    }
+
+    #[test]
+    fn an_answer_is_told() {
+        assert_eq!(told(2, b"abc"), "6162");
+        assert_eq!(told(4, b"abc"), "a plan of 4 bytes");
+        assert_eq!(told(7 << 16, b"abc"), "refused 7");
+        assert_eq!(told((7 << 16) + 1, b"abc"), "refused 7, with length 1");
+    }
+}

@@ -1,0 +1,206 @@
+//! All files of a seed, each with memory of several lengths.
+
+use std::collections::BTreeMap;
+
+use oracle::compile::hex;
+use oracle::draw;
+use oracle::file::{MAX_PLAN, MIN_WORK};
+use oracle::rng::Rng;
+use oracle::run::answer;
+use oracle::shrink::shrink;
+
+use crate::call::{Answer, Compile, Difference, Lengths, difference, expected};
+
+/// How often a file that shows a difference is tried smaller.
+const TRIES: usize = 400;
+/// So many differences are shown; the others are counted.
+const SHOWN: usize = 20;
+/// Keeps the memory's draws apart from the file's.
+const MEMORY: u64 = 0x6D65_6D6F_7279;
+
+#[derive(Default)]
+pub struct Outcome {
+    pub compared: usize,
+    pub different: usize,
+    /// Files that the bodies take too long for.
+    pub left_out: usize,
+    /// Calls by what was lent and by what is expected.
+    pub calls: BTreeMap<String, usize>,
+}
+
+pub struct Run {
+    pub compile: Compile,
+    pub seed: u64,
+}
+
+impl Run {
+    pub fn files(&self, count: u64, mut report: impl FnMut(String)) -> Outcome {
+        let mut outcome = Outcome::default();
+        for index in 0..count {
+            let file = draw::file(self.seed, index);
+            let Some(answer) = answer(&file) else {
+                outcome.left_out += 1;
+                continue;
+            };
+            outcome.compared += 1;
+            let rng = self.memory(index);
+            count_calls(&mut outcome.calls, &file, &answer, &mut rng.clone());
+            if self.first_difference(&file, &answer, rng).is_some() {
+                outcome.different += 1;
+                if outcome.different <= SHOWN {
+                    report(self.shown(&file, index));
+                }
+            }
+        }
+        outcome
+    }
+
+    fn memory(&self, index: u64) -> Rng {
+        Rng::new(self.seed ^ MEMORY, index)
+    }
+
+    fn first_difference(&self, file: &[u8], answer: &Answer, mut rng: Rng) -> Option<Difference> {
+        lengths(answer, &mut rng).into_iter().find_map(|lengths| {
+            let expected = expected(file, answer, lengths);
+            difference(self.compile, file, &expected, lengths, &mut rng)
+        })
+    }
+
+    /// The difference on the file, and on the smallest file found.
+    fn shown(&self, file: &[u8], index: u64) -> String {
+        let on = |file: &[u8]| self.first_difference(file, &answer(file)?, self.memory(index));
+        let small = shrink(file, TRIES, |file| on(file).is_some());
+        let told = |what: &str, file: &[u8]| {
+            let found = on(file).map_or(String::new(), |found| found.to_string());
+            format!("{what} {}\n{found}", hex(file))
+        };
+        let mut text = told("file    ", file);
+        if small != file {
+            text.push_str(&told("\nsmaller ", &small));
+        }
+        text
+    }
+}
+
+/// What a file's calls are lent: just enough for every plan; a plan buffer
+/// around the plan's length; and a work area that is too short.
+fn lengths(answer: &Answer, rng: &mut Rng) -> [Lengths; 3] {
+    let plan = answer.as_ref().map_or(0, Vec::len);
+    let more = [0, 1, rng.below(MIN_WORK)][rng.below(3)];
+    let less = [1, rng.within(1, MIN_WORK), MIN_WORK][rng.weighted(&[80, 15, 5])];
+    [
+        Lengths {
+            plan: MAX_PLAN,
+            work: MIN_WORK,
+        },
+        Lengths {
+            plan: draw::plan_buffer(rng, plan),
+            work: MIN_WORK + more,
+        },
+        Lengths {
+            plan: draw::plan_buffer(rng, plan),
+            work: MIN_WORK - less,
+        },
+    ]
+}
+
+fn count_calls(calls: &mut BTreeMap<String, usize>, file: &[u8], answer: &Answer, rng: &mut Rng) {
+    for lengths in lengths(answer, rng) {
+        let outcome = match expected(file, answer, lengths) {
+            Ok(_) => String::from("accepted"),
+            Err(number) => format!("refused {number:02}"),
+        };
+        let mut add = |what: String| *calls.entry(what).or_default() += 1;
+        add(outcome);
+        add(format!("work area {}", work_kind(lengths.work)));
+        if let Ok(plan) = answer {
+            add(format!(
+                "plan buffer {}",
+                plan_kind(lengths.plan, plan.len())
+            ));
+        }
+    }
+}
+
+fn work_kind(work: usize) -> &'static str {
+    match work {
+        MIN_WORK => "of 65,536 bytes",
+        _ if work == MIN_WORK - 1 => "of 65,535 bytes",
+        _ if work < MIN_WORK => "of fewer",
+        _ => "of more",
+    }
+}
+
+fn plan_kind(buffer: usize, plan: usize) -> &'static str {
+    match buffer {
+        0 => "of 0 bytes",
+        _ if buffer == plan => "exact",
+        _ if buffer + 1 == plan => "one too short",
+        _ if buffer < plan => "shorter",
+        _ => "longer",
+    }
+}
+
+#[cfg(test)]
+mod tests {
+    use super::*;
+    use oracle::{HAS_BODIES, on_large_stack};
+
+    /// The bodies behind the exported function's form.
+    fn bodies(file: &[u8], plan: &mut [u8], work: &mut [u8]) -> u64 {
+        plan.fill(0);
+        work.fill(0);
+        match oracle::compile(file, plan.len(), work.len()) {
+            Ok(made) => {
+                plan[..made.len()].copy_from_slice(&made);
+                made.len() as u64
+            }
+            Err(number) => u64::from(number) << 16,
+        }
+    }
+
+    /// 15 with space to spare.
+    fn hasty(file: &[u8], plan: &mut [u8], work: &mut [u8]) -> u64 {
+        let result = bodies(file, plan, work);
+        if result == plan.len() as u64 {
+            plan.fill(0);
+            return 15 << 16;
+        }
+        result
+    }
+
+    fn run(compile: Compile) -> (Outcome, Vec<String>) {
+        on_large_stack(move || {
+            let mut shown = vec![];
+            let run = Run { compile, seed: 32 };
+            let outcome = run.files(400, |text| shown.push(text));
+            (outcome, shown)
+        })
+    }
+
+    #[test]
+    fn the_bodies_agree_with_themselves() {
+        if !HAS_BODIES {
+            return;
+        }
+        let (outcome, shown) = run(bodies);
+        assert_eq!((outcome.compared, outcome.different), (400, 0));
+        assert!(shown.is_empty());
+        for kind in ["exact", "one too short", "of 0 bytes", "longer"] {
+            assert!(outcome.calls[&format!("plan buffer {kind}")] > 20, "{kind}");
+        }
+    }
+
+    #[test]
+    fn a_difference_is_counted_and_shown() {
+        if !HAS_BODIES {
+            return;
+        }
+        let (outcome, shown) = run(hasty);
+        assert!(outcome.different > SHOWN);
+        assert_eq!(shown.len(), SHOWN);
+        for part in ["file ", "smaller ", "expected ", "given    refused 15"] {
+            assert!(shown[0].contains(part), "{part} in {}", shown[0]);
+        }
+    }
+}

@@ -1,0 +1,32 @@
+//! The program: its last line and its exit status.
+
+use std::process::{Command, Output};
+
+fn beside(arguments: &[&str]) -> Output {
+    Command::new(env!("CARGO_BIN_EXE_beside"))
+        .args(arguments)
+        .output()
+        .expect("the program was built")
+}
+
+#[test]
+fn drawn_files_agree() {
+    let output = beside(&["4", "1000"]);
+    if !oracle::HAS_BODIES {
+        assert_eq!(output.status.code(), Some(2));
+        return;
+    }
+    let printed = String::from_utf8_lossy(&output.stdout).into_owned();
+    assert_eq!(
+        printed.lines().last(),
+        Some("1000 compared, 0 different"),
+        "{printed}"
+    );
+    assert_eq!(output.status.code(), Some(0));
+}
+
+#[test]
+fn unknown_words_are_refused() {
+    assert_eq!(beside(&[]).status.code(), Some(2));
+    assert_eq!(beside(&["1", "many"]).status.code(), Some(2));
+}

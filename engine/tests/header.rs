@@ -1,0 +1,49 @@
+//! The C header: a C program that includes it, linked with the archive.
+
+mod files;
+
+use std::path::Path;
+use std::process::Command;
+
+fn compiler() -> String {
+    std::env::var("CC").unwrap_or_else(|_| String::from("cc"))
+}
+
+#[test]
+fn a_c_program_compiles_d1() {
+    let here = Path::new(env!("CARGO_MANIFEST_DIR"));
+    let program = Path::new(env!("CARGO_TARGET_TMPDIR")).join("d1");
+    let built = Command::new(compiler())
+        .args(["-std=c99", "-Wall", "-Wextra", "-Wpedantic", "-Werror"])
+        .arg("-I")
+        .arg(here.join("include"))
+        .arg(here.join("tests/c/d1.c"))
+        .arg(env!("SINALVENTO_ARCHIVE"))
+        .arg("-o")
+        .arg(&program)
+        .output()
+        .expect("a C compiler can be run");
+    let said = String::from_utf8_lossy(&built.stderr).into_owned();
+    assert!(built.status.success(), "{said}");
+
+    let run = Command::new(&program).output().expect("it was built");
+    assert_eq!(run.status.code(), Some(0));
+    let printed = String::from_utf8_lossy(&run.stdout).into_owned();
+    let (plan, refused) = printed.split_once('\n').expect("two lines");
+    assert_eq!(files::unhex(plan), files::d1_plan());
+    assert_eq!(refused, "refused 3\n");
+}
+
+/// The header repeats the refusals' words; they must be this crate's.
+#[test]
+fn the_header_has_every_refusal() {
+    let header = include_str!("../include/sinalvento.h");
+    let plain: Vec<&str> = header.split_whitespace().collect();
+    let plain = plain.join(" ");
+    for refusal in sinalvento::Refusal::ALL {
+        let (number, words) = (refusal.number(), refusal.words());
+        let comma = if number == 15 { "" } else { "," };
+        let line = format!("= {number}{comma} /* {words} */");
+        assert!(plain.contains(&line), "{line}");
+    }
+}
