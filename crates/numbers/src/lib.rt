@@ -164,6 +164,63 @@ fn binding_in(file: &[u8], index: &[u16], b: usize) -> bool
     }
 }
 
+fn hoisted_in(file: &[u8], index: &[u16], k: usize) -> bool
+    requires { ⌜ Indexed (now file) (now index) ⌝ }
+    requires { ⌜ k < length (tablesOf (now file) .hoisted) ⌝ }
+    ensures { λ r. ⌜ r ≡ hoistedIn (tablesOf (now (file .entry))) (hoistedAt (tablesOf (now (file .entry))) k) ⌝ }
+{
+    let h = hoisted_at(file, index, k);
+    both_below(
+        h.node,
+        count_of(file, index, 3),
+        h.name,
+        count_of(file, index, 0),
+    )
+}
+
+fn constraint_in(file: &[u8], index: &[u16], k: usize) -> bool
+    requires { ⌜ Indexed (now file) (now index) ⌝ }
+    requires { ⌜ k < length (tablesOf (now file) .constraints) ⌝ }
+    ensures { λ r. ⌜ r ≡ constraintIn (tablesOf (now (file .entry))) (constraintAt (tablesOf (now (file .entry))) k) ⌝ }
+{
+    let c = constraint_at(file, index, k);
+    both_below(
+        c.name,
+        count_of(file, index, 0),
+        c.node,
+        count_of(file, index, 3),
+    )
+}
+
+fn comparison_in(file: &[u8], index: &[u16], k: usize) -> bool
+    requires { ⌜ Indexed (now file) (now index) ⌝ }
+    requires { ⌜ k < length (tablesOf (now file) .comparisons) ⌝ }
+    ensures { λ r. ⌜ r ≡ comparisonIn (tablesOf (now (file .entry))) (comparisonAt (tablesOf (now (file .entry))) k) ⌝ }
+{
+    let c = comparison_at(file, index, k);
+    both_below(
+        c.left,
+        count_of(file, index, 3),
+        c.right,
+        count_of(file, index, 3),
+    )
+}
+
+fn level_in(file: &[u8], index: &[u16], k: usize) -> bool
+    requires { ⌜ Indexed (now file) (now index) ⌝ }
+    requires { ⌜ k < length (tablesOf (now file) .levels) ⌝ }
+    ensures { λ r. ⌜ r ≡ levelIn (tablesOf (now (file .entry))) (levelAt (tablesOf (now (file .entry))) k) ⌝ }
+{
+    let l = level_at(file, index, k);
+    let p = l.predicate;
+    both_below(
+        wide16(p.0),
+        count_of(file, index, 2),
+        l.node,
+        count_of(file, index, 3),
+    )
+}
+
 // A record of section s names only numbers that are below their sections' counts.
 fn record_in(file: &[u8], index: &[u16], s: usize, t: usize) -> bool
     requires { ⌜ Indexed (now file) (now index) ⌝ }
@@ -175,43 +232,10 @@ fn record_in(file: &[u8], index: &[u16], s: usize, t: usize) -> bool
         2 => predicate_in(file, index, t),
         3 => node_in(file, index, t),
         4 => binding_in(file, index, t),
-        5 => {
-            let h = hoisted_at(file, index, t);
-            both_below(
-                h.node,
-                count_of(file, index, 3),
-                h.name,
-                count_of(file, index, 0),
-            )
-        }
-        7 => {
-            let k = constraint_at(file, index, t);
-            both_below(
-                k.name,
-                count_of(file, index, 0),
-                k.node,
-                count_of(file, index, 3),
-            )
-        }
-        8 => {
-            let c = comparison_at(file, index, t);
-            both_below(
-                c.left,
-                count_of(file, index, 3),
-                c.right,
-                count_of(file, index, 3),
-            )
-        }
-        9 => {
-            let l = level_at(file, index, t);
-            let p = l.predicate;
-            both_below(
-                wide16(p.0),
-                count_of(file, index, 2),
-                l.node,
-                count_of(file, index, 3),
-            )
-        }
+        5 => hoisted_in(file, index, t),
+        7 => constraint_in(file, index, t),
+        8 => comparison_in(file, index, t),
+        9 => level_in(file, index, t),
         _ => true,
     }
 }

@@ -12,7 +12,7 @@ ghost use Rattle.rules.specs.Constant.{unionTag, term, encodePrefix};
 ghost use Rattle.rules.specs.Events.{Narrowing};
 ghost use Rattle.rules.specs.Placement.{SeekKeyPart, takeHi, takeLo, takeEdge, edge};
 ghost use Rattle.rules.specs.Plan as Plan;
-ghost use Rattle.state.specs.State.{Ends, State, newLevel, state, stop};
+ghost use Rattle.state.specs.State.{Ends, State, newLevel, counts, state, stop};
 ghost use Rattle.state.specs.Ops as Ops;
 ghost use Rattle.paths.specs.Paths.{pathOf};
 ghost use Rattle.views.specs.Views.{anchorOf, opOf};
@@ -127,6 +127,21 @@ fn kept(building: bool, set: bool) -> bool
 }
 
 impl Counts {
+    // Nothing counted yet.
+    fn none() -> Self
+        ensures { λ r. ⌜ countsOf r ≡ counts 0 0 0 0 0 0 0 ⌝ }
+    {
+        Counts {
+            narrowings: 0,
+            closers: 0,
+            others: 0,
+            residuals: 0,
+            joined: 0,
+            framed: 0,
+            rest: 0,
+        }
+    }
+
     fn sums(self) -> Sums
         ensures { λ r. ⌜ (r ≡ summed self) × Below 4294967296 r ⌝ }
     {
@@ -253,19 +268,17 @@ impl SeekBuilder {
     pub fn new(target: Target) -> Self
         ensures { λ r. ⌜ ((T : Tables) (e : Ends) (w p : List ℕ) → stateOf T r e w p ≡ state false e newLevel (targetOf target) w p) ⌝ }
     {
+        let edge = Edge {
+            set: false,
+            inclusive: false,
+            node: 0,
+            ty: 0,
+        };
         SeekBuilder {
             over: false,
             building: true,
             plain: true,
-            counts: Counts {
-                narrowings: 0,
-                closers: 0,
-                others: 0,
-                residuals: 0,
-                joined: 0,
-                framed: 0,
-                rest: 0,
-            },
+            counts: Counts::none(),
             path: FieldPath::field(0),
             range: Range {
                 set: false,
@@ -277,18 +290,8 @@ impl SeekBuilder {
                 anchor: Anchor::Prefix,
                 term: 0,
             },
-            lo: Edge {
-                set: false,
-                inclusive: false,
-                node: 0,
-                ty: 0,
-            },
-            hi: Edge {
-                set: false,
-                inclusive: false,
-                node: 0,
-                ty: 0,
-            },
+            lo: edge,
+            hi: edge,
             folded: Folded {
                 first: 0,
                 second: 0,

@@ -113,5 +113,18 @@ module _ (f : List ℕ) (p : ℕ) (b : File.Binding) (x : BindingRead f p b) whe
   unfolding fieldSlot
   field-here g = reached f Slot.Field (p + 2 + 1) (x .value) (x .rest) (slot-is 3 g)
 
+  -- every kind begins with two bytes: an address, or a Const's node
+  pub first-here : p + 2 + 1 + 2 ≤ length f
+  first-here = go (getD f (p + 2) 0) refl (x .kinded .known)
+    where
+      go : (k : ℕ) → getD f (p + 2) 0 ≡ k → k < 6 → p + 2 + 1 + 2 ≤ length f
+      go zero g h = omega (arith, row-here g .0)
+      go (suc zero) g h = omega (arith, key-here g .0)
+      go (suc (suc zero)) g h = derived-here g .0
+      go (suc (suc (suc zero))) g h = field-here g .first
+      go (suc (suc (suc (suc zero)))) g h = omega (arith, value-here g .0)
+      go (suc (suc (suc (suc (suc zero))))) g h = const-here g .0
+      go (suc (suc (suc (suc (suc (suc k)))))) g h = absurd (omega arith)
+
   pub field-is : (a t : ℕ) → getD f (p + 2) 0 ≡ 3 → a ≡ word f (p + 2 + 1) → t ≡ word f (p + 2 + 1 + 2 + 3 + 4 * getD f (p + 2 + 1 + 2 + 2) 0) → Slot.Field a (pathAt f (p + 2 + 1 + 2)) t ≡ x .value
   field-is a t g u v = rw (u, v) (field-here g .is)

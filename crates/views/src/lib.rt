@@ -323,33 +323,27 @@ pub fn binding_at(file: &[u8], index: &[u16], b: usize) -> BindingView
     let name = word_at(file, at);
     let q = at + 2;
     let p = q + 1;
+    let a = Address(half_at(file, p));
     match file[q] {
         0 => BindingView {
             name,
-            slot: SlotView::Row(
-                Address(half_at(file, p)),
-                maybe_predicate(half_at(file, p + 2)),
-            ),
+            slot: SlotView::Row(a, maybe_predicate(half_at(file, p + 2))),
         },
         1 => BindingView {
             name,
-            slot: SlotView::Key(Address(half_at(file, p)), word_at(file, p + 2)),
+            slot: SlotView::Key(a, word_at(file, p + 2)),
         },
         2 => BindingView {
             name,
-            slot: SlotView::Derived(Address(half_at(file, p))),
+            slot: SlotView::Derived(a),
         },
         3 => BindingView {
             name,
-            slot: SlotView::Field(
-                Address(half_at(file, p)),
-                p + 2,
-                word_at(file, past_path(file, p + 2)),
-            ),
+            slot: SlotView::Field(a, p + 2, word_at(file, past_path(file, p + 2))),
         },
         4 => BindingView {
             name,
-            slot: SlotView::Value(Address(half_at(file, p)), word_at(file, p + 2)),
+            slot: SlotView::Value(a, word_at(file, p + 2)),
         },
         _ => BindingView {
             name,

@@ -1,0 +1,44 @@
+use mathlib.Core.Path.{refl, ap, _∙_}
+use denote.Ref.{now}
+use Rattle.file.specs.Tables.{tablesOf}
+use Rattle.rules.specs.Checks.{constraintIn, isName, isNode}
+use Rattle.numbers.proofs.Seen.{below-as}
+use borrow.Author.Needs.{needs}
+use Rattle.numbers.proofs.constraint_in.Statement.{statement}
+use Rattle.numbers.proofs.constraint_in.Tie as tie
+use Rattle.numbers.proofs.constraint_in.Reads as reads
+use Rattle.numbers.proofs.constraint_in.Lts as lts
+use Rattle.numbers.proofs.both_below.Reads as both-below-reads
+use Rattle.views.proofs.constraint_at.Reads as constraint-at-reads
+use Rattle.views.proofs.count_of.Reads as count-of-reads
+
+-- src/lib.rt:181:9
+constraint-at-requires : tie.Need-constraint-at-requires
+constraint-at-requires c κs = search needs
+
+-- src/lib.rt:182:24
+count-of-requires : tie.Need-count-of-requires
+count-of-requires c κs = search needs
+
+-- src/lib.rt:182:58
+count-of-requires-2 : tie.Need-count-of-requires-2
+count-of-requires-2 c κs = search needs
+
+-- src/lib.rt:182:5
+both-below-requires : tie.Need-both-below-requires
+both-below-requires c κs = search needs
+
+-- src/lib.rt:176:1
+returns : tie.Need-returns
+unfolding constraintIn isName isNode
+returns c = c .both-below .ensures ∙ below-as refl (c .before .before .count-of .ensures) refl (c .before .count-of2 .ensures) ∙ ap (constraintIn (tablesOf (now (c .before .before .before .before .before .before .args .file)))) (c .before .before .before .constraint-at .ensures)
+
+pub constraint-in-spec : {M : Type 1} → statement M
+constraint-in-spec =
+    tie.close
+    (tie.spec
+    constraint-at-requires
+    count-of-requires
+    count-of-requires-2
+    both-below-requires
+    returns)
