@@ -1,0 +1,98 @@
+use Prim.Native.Nat.{_-_}
+use native.Mathlib.Omega.{arith}
+use borrow.Author.Needs.{needs}
+use Rattle.file.specs.Tables.{tablesOf}
+use Rattle.paths.specs.Paths.{pathOf}
+use Rattle.step.specs.Step.{walkState}
+use Rattle.constrain.proofs.Ranks.{Going, going-first, going-not, going-one, going-end}
+use Rattle.constrain.proofs.constrain_rank.Statement.{statement}
+use Rattle.constrain.proofs.constrain_rank.Tie as tie
+use Rattle.constrain.proofs.constrain_rank.Reads as reads
+use Rattle.constrain.proofs.constrain_rank.Lts as lts
+use Rattle.constrain.proofs.constrain_one.Reads as constrain-one-reads
+use Rattle.constrain.proofs.pattern_for.Reads as pattern-for-reads
+use Rattle.views.proofs.count_of.Reads as count-of-reads
+
+abbrev Inv-loop : tie.InvT-loop
+Inv-loop file index work₀ plan₀ name rank ty path n l₀ k₀ work plan l k = Going (tablesOf file) name rank ty (pathOf path) k (walkState (tablesOf file) l₀ work₀ plan₀) (walkState (tablesOf file) l work plan) work₀ plan₀ work plan
+
+abbrev μ-loop : tie.MeasureT-loop
+μ-loop file index work₀ plan₀ name rank ty path n l₀ k₀ work plan l k = n - k
+
+-- src/lib.rt:184:9
+count-of-requires : tie.Need-count-of-requires Inv-loop μ-loop
+count-of-requires c κs = (c .before .before .before .before .pre .0 .indexed, omega arith)
+
+-- src/lib.rt:187:5
+loop-holds : tie.Need-loop-holds Inv-loop μ-loop
+loop-holds c = going-first _ _ _ _ _ _ _ _
+
+-- src/lib.rt:188:13
+pattern-for-requires : tie.Need-pattern-for-requires Inv-loop μ-loop
+pattern-for-requires c κs = (c .before .before .before .before .before .before .before .pre .0 .indexed, omega (arith, c .loop-test .taken, c .before .before .count-of .ensures))
+
+-- src/lib.rt:189:9
+add-k : tie.Need-add-k Inv-loop μ-loop
+add-k c = omega (arith, c .before .loop-test .taken)
+
+-- src/lib.rt:190:26
+enum-known-found : tie.Need-enum-known-found Inv-loop μ-loop
+enum-known-found c = search needs
+
+-- src/lib.rt:191:13
+constrain-one-requires : tie.Need-constrain-one-requires Inv-loop μ-loop
+constrain-one-requires c κs = c .before .before .before .before .before .before .before .before .before .before .before .before .before .pre
+
+-- src/lib.rt:187:5
+loop-less : tie.Need-loop-less Inv-loop μ-loop
+loop-less c = omega (arith, c .before .before .before .before .before .before .before .before .before .before .before .loop-test .taken)
+
+-- src/lib.rt:187:5
+loop-again : tie.Need-loop-again Inv-loop μ-loop
+loop-again c =
+    going-one _ _ _ _ _ _ _ _ _ _ _ _ (c .before .before .before .before .before .before .before .before .before .before .before .before .loop .inv) (omega (arith, c .before .before .before .before .before .before .before .before .before .before .before .loop-test .taken, c .before .before .before .before .before .before .before .before .before .before .before .before .before .count-of .ensures)) _ (c .before .before .before .before .before .before .before .before .before .before .pattern-for .ensures) _ (c .before .before .before .before .before .before .before .before .found .given .1) _ (c .before .before .before .before .constrain-one .ensures) _ _
+    (c .before .before .before .before .constrain-one .kept .1 .1 .0) (c .before .before .before .before .constrain-one .kept .1 .1 .1 .0)
+
+enum-told : tie.Need-enum-told Inv-loop μ-loop
+enum-told c = search needs
+
+-- src/lib.rt:187:5
+loop-less-2 : tie.Need-loop-less-2 Inv-loop μ-loop
+loop-less-2 c = omega (arith, c .before .before .before .loop-test .taken)
+
+-- src/lib.rt:187:5
+loop-again-2 : tie.Need-loop-again-2 Inv-loop μ-loop
+loop-again-2 c = going-not _ _ _ _ _ _ _ _ _ _ _ _ (c .before .before .before .before .loop .inv) (omega (arith, c .before .before .before .loop-test .taken, c .before .before .before .before .before .count-of .ensures)) _ (c .before .before .pattern-for .ensures) (c .enum-told .given .1)
+
+-- src/lib.rt:169:1
+same-length : tie.Need-same-length Inv-loop μ-loop
+same-length c = c .before .loop .inv .work-long
+
+-- src/lib.rt:169:1
+same-length-2 : tie.Need-same-length-2 Inv-loop μ-loop
+same-length-2 c = c .before .loop .inv .plan-long
+
+-- src/lib.rt:169:1
+returns : tie.Need-returns Inv-loop μ-loop
+returns c = going-end _ _ _ _ _ _ _ _ _ _ _ _ (c .before .loop .inv) (omega (arith, c .loop-test .left, c .before .before .count-of .ensures))
+
+pub constrain-rank-spec : {M : Type 1} → statement M
+constrain-rank-spec =
+    tie.close
+    (tie.spec
+    Inv-loop
+    μ-loop
+    count-of-requires
+    loop-holds
+    pattern-for-requires
+    add-k
+    enum-known-found
+    constrain-one-requires
+    loop-less
+    loop-again
+    enum-told
+    loop-less-2
+    loop-again-2
+    same-length
+    same-length-2
+    returns)

@@ -1,0 +1,34 @@
+-- What narrows a walk: a pattern's constant, and the patterns that constrain a variable.
+use Prim.Native.Nat.{ℕ}
+use mathlib.Core.Path.{_≡_}
+use mathlib.Core.Bool.{Bool, true, false}
+use mathlib.Core.Option.{Option, none, some}
+use lib.Dec.{eqb}
+use Rattle.rules.specs.Base.{first}
+use Rattle.rules.specs.File as File
+use Rattle.rules.specs.File.{Tables, Constraint, nodeAt}
+use Rattle.rules.specs.Constant.{constant}
+use Rattle.rules.specs.Events.{Code}
+use Rattle.rules.specs.Walk.{narrowBy, rank}
+use Rattle.state.specs.State.{State}
+use Rattle.state.specs.Ops.{ops, report, skip}
+
+-- what is done where nothing narrowed the walk
+unfoldable pub orElse : Bool → (State → State) → State → State
+orElse true k s = s
+orElse false k s = k s
+
+-- s is s₀ narrowed by the constant of node n at type t; b says whether there is one
+pub record Narrows (T : Tables) (n t : ℕ) (path : File.FieldPath) (s₀ : State) (b : Bool) (s : State) : Type 0 where
+  pub is : (k : State → State) → orElse b k s ≡ elim (constant T n t) [ some c ↦ narrowBy (ops T) T c path s₀ | none ↦ k s₀ ]
+
+-- one constraint of a variable
+unfoldable pub constrainOne : Tables → ℕ → ℕ → File.FieldPath → State → State
+constrainOne T n t path s = elim (constant T n t) [ some c ↦ narrowBy (ops T) T c path s | none ↦ report n Code.RejectTypeMismatch (skip s) ]
+
+-- the pattern of a constraint, if it constrains name x and has rank r
+unfoldable pub patternFor : Tables → ℕ → ℕ → Constraint → Option ℕ
+patternFor T x r k = elim (eqb (k .name) x) [ true ↦ elim (eqb (rank (nodeAt T (k .node))) r) [ true ↦ some (k .node) | false ↦ none ] | false ↦ none ]
+
+unfoldable pub isConstrained : Tables → ℕ → Bool
+isConstrained T x = elim (first (λ k. eqb (k .name) x) (T .constraints)) [ none ↦ false | some k ↦ true ]

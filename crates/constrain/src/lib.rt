@@ -1,0 +1,239 @@
+// A walk narrowed by a pattern's constant, and by the patterns that constrain a variable.
+ghost use mathlib.Core.Path.{_≡_};
+ghost use mathlib.Core.List.{List};
+ghost use Prim.Native.Nat.{ℕ, _<_};
+ghost use lib.ListN.{length};
+ghost use Rattle.rules.specs.File.{nodeAt};
+ghost use Rattle.rules.specs.Walk as Rules;
+ghost use Rattle.rules.specs.Walk.{FieldWalk};
+ghost use Rattle.state.specs.State.{State};
+ghost use Rattle.state.specs.Ops as Ops;
+ghost use Rattle.state.specs.Ops.{ops};
+ghost use Rattle.file.specs.Tables.{Indexed, tablesOf};
+ghost use Rattle.paths.specs.Paths.{pathOf};
+ghost use Rattle.views.specs.Views.{anchorOf, constraintAt};
+ghost use Rattle.ready.specs.Ready.{Ready};
+ghost use Rattle.lookups.specs.Lookups.{foundOption};
+ghost use Rattle.step.specs.Step.{walkState};
+ghost use Rattle.constrain.specs.Constrain.{Narrows, constrainOne, patternFor, isConstrained};
+use constant::Const;
+use constant::constant;
+use entries::node_of;
+use lists::Code;
+use lookups::Found;
+use paths::FieldPath;
+use place::bound;
+use place::bytes;
+use place::prefix;
+use step::Walk;
+use views::Anchor;
+use views::NodeView;
+use views::constraint_at;
+use views::count_of;
+
+// Whether there was a constant that narrowed the walk.
+pub struct Narrowed {
+    pub some: bool,
+    pub walk: Walk,
+}
+
+// Narrowed by the constant of a node at a type, if it has one.
+pub fn narrow(
+    file: &[u8],
+    index: &[u16],
+    plan: &mut [u8],
+    node: usize,
+    ty: usize,
+    path: FieldPath,
+    w: Walk,
+) -> Narrowed
+    requires { ⌜ Ready (now file) (now index) ⌝ }
+    requires { ⌜ ty < length (tablesOf (now file) .types) ⌝ }
+    ensures { λ r. ⌜ ((work : List ℕ) → Narrows (tablesOf (now (file .entry))) node ty (pathOf path) (walkState (tablesOf (now (file .entry))) w work (now (plan .entry))) (r .some) (walkState (tablesOf (now (file .entry))) (r .walk) work (now (plan .exit)))) ⌝ }
+{
+    if node >= count_of(file, index, 3) {
+        return Narrowed {
+            some: false,
+            walk: w,
+        };
+    }
+    let level = w.builder();
+    match constant(file, index, node, ty) {
+        Const::Nothing => Narrowed {
+            some: false,
+            walk: w,
+        },
+        Const::Bytes(_, _, len) => {
+            let l = bytes(file, index, level, path, node, ty, len, plan);
+            let walk = w.placed(l);
+            Narrowed { some: true, walk }
+        }
+        Const::Prefix(x) => {
+            let l = prefix(file, index, level, path, x, plan);
+            let walk = w.placed(l);
+            Narrowed { some: true, walk }
+        }
+        Const::Fuzzy(x, d, a) => {
+            let l = level.fuzzy(path, x, d, a, plan);
+            let walk = w.placed(l);
+            Narrowed { some: true, walk }
+        }
+    }
+}
+
+// A Prefix or a Fuzzy at a field. Building stays where it is mistyped.
+pub fn ranged(
+    file: &[u8],
+    index: &[u16],
+    work: &mut [u8],
+    plan: &mut [u8],
+    node: usize,
+    ty: usize,
+    path: FieldPath,
+    w: Walk,
+) -> Walk
+    requires { ⌜ Ready (now file) (now index) ⌝ }
+    requires { ⌜ ty < length (tablesOf (now file) .types) ⌝ }
+    ensures { λ r. ⌜ ((address : ℕ) (below : FieldWalk State) → walkState (tablesOf (now (file .entry))) r (now (work .exit)) (now (plan .exit)) ≡ Rules.ranged (ops (tablesOf (now (file .entry)))) (tablesOf (now (file .entry))) address below node ty (pathOf path) (walkState (tablesOf (now (file .entry))) w (now (work .entry)) (now (plan .entry)))) ⌝ }
+{
+    let n = narrow(file, index, plan, node, ty, path, w);
+    let walk = n.walk;
+    if n.some {
+        return walk;
+    }
+    walk.report(work, node, Code::RejectTypeMismatch)
+}
+
+// One constraint of a variable. Where it is mistyped building falls.
+fn constrain_one(
+    file: &[u8],
+    index: &[u16],
+    work: &mut [u8],
+    plan: &mut [u8],
+    node: usize,
+    ty: usize,
+    path: FieldPath,
+    w: Walk,
+) -> Walk
+    requires { ⌜ Ready (now file) (now index) ⌝ }
+    requires { ⌜ ty < length (tablesOf (now file) .types) ⌝ }
+    ensures { λ r. ⌜ walkState (tablesOf (now (file .entry))) r (now (work .exit)) (now (plan .exit)) ≡ constrainOne (tablesOf (now (file .entry))) node ty (pathOf path) (walkState (tablesOf (now (file .entry))) w (now (work .entry)) (now (plan .entry))) ⌝ }
+{
+    let n = narrow(file, index, plan, node, ty, path, w);
+    let walk = n.walk;
+    if n.some {
+        return walk;
+    }
+    walk.decline(work, node, Code::RejectTypeMismatch)
+}
+
+fn anchor_rank(anchor: Anchor) -> usize
+    ensures { λ r. ⌜ r ≡ Rules.anchorRank (anchorOf anchor) ⌝ }
+{
+    match anchor {
+        Anchor::Prefix => 3,
+        Anchor::Whole => 2,
+    }
+}
+
+// In what order a pattern constrains: what extends the prefix first, then a range, then a guide.
+fn rank_of(file: &[u8], index: &[u16], node: usize) -> usize
+    requires { ⌜ Indexed (now file) (now index) ⌝ }
+    ensures { λ r. ⌜ r ≡ Rules.rank (nodeAt (tablesOf (now (file .entry))) node) ⌝ }
+{
+    match node_of(file, index, node) {
+        NodeView::Prefix(_) => 1,
+        NodeView::Fuzzy(_, _, a) => anchor_rank(a),
+        _ => 0,
+    }
+}
+
+// The pattern of constraint k, if it is of the name and the rank.
+fn pattern_for(file: &[u8], index: &[u16], name: usize, rank: usize, k: usize) -> Found
+    requires { ⌜ Indexed (now file) (now index) ⌝ }
+    requires { ⌜ k < length (tablesOf (now file) .constraints) ⌝ }
+    ensures { λ r. ⌜ foundOption r ≡ patternFor (tablesOf (now (file .entry))) name rank (constraintAt (tablesOf (now (file .entry))) k) ⌝ }
+{
+    let c = constraint_at(file, index, k);
+    if c.name != name {
+        return Found::Nothing;
+    }
+    if rank_of(file, index, c.node) == rank {
+        Found::At(c.node)
+    } else {
+        Found::Nothing
+    }
+}
+
+// The constraints of one rank, in file order.
+fn constrain_rank(
+    file: &[u8],
+    index: &[u16],
+    work: &mut [u8],
+    plan: &mut [u8],
+    name: usize,
+    rank: usize,
+    ty: usize,
+    path: FieldPath,
+    w: Walk,
+) -> Walk
+    requires { ⌜ Ready (now file) (now index) ⌝ }
+    requires { ⌜ ty < length (tablesOf (now file) .types) ⌝ }
+    ensures { λ r. ⌜ walkState (tablesOf (now (file .entry))) r (now (work .exit)) (now (plan .exit)) ≡ Rules.constrainEach (ops (tablesOf (now (file .entry)))) (tablesOf (now (file .entry))) (Rules.constraintsOf (tablesOf (now (file .entry))) name rank) ty (pathOf path) (walkState (tablesOf (now (file .entry))) w (now (work .entry)) (now (plan .entry))) ⌝ }
+{
+    let n = count_of(file, index, 7);
+    let mut l = w;
+    let mut k: usize = 0;
+    while k < n {
+        let found = pattern_for(file, index, name, rank, k);
+        k += 1;
+        if let Found::At(p) = found {
+            l = constrain_one(file, index, work, plan, p, ty, path, l);
+        }
+    }
+    l
+}
+
+// Whether any pattern constrains a name.
+fn is_constrained(file: &[u8], index: &[u16], name: usize) -> bool
+    requires { ⌜ Indexed (now file) (now index) ⌝ }
+    ensures { λ r. ⌜ r ≡ isConstrained (tablesOf (now (file .entry))) name ⌝ }
+{
+    let n = count_of(file, index, 7);
+    let mut k: usize = 0;
+    while k < n {
+        let c = constraint_at(file, index, k);
+        if c.name == name {
+            return true;
+        }
+        k += 1;
+    }
+    false
+}
+
+// The field that captures a variable, narrowed by every pattern that constrains it; without any, the comparisons bound the level.
+pub fn constrain(
+    file: &[u8],
+    index: &[u16],
+    work: &mut [u8],
+    plan: &mut [u8],
+    name: usize,
+    ty: usize,
+    path: FieldPath,
+    w: Walk,
+) -> Walk
+    requires { ⌜ Ready (now file) (now index) ⌝ }
+    requires { ⌜ ty < length (tablesOf (now file) .types) ⌝ }
+    ensures { λ r. ⌜ walkState (tablesOf (now (file .entry))) r (now (work .exit)) (now (plan .exit)) ≡ Rules.constrain (ops (tablesOf (now (file .entry)))) (tablesOf (now (file .entry))) name ty (pathOf path) (walkState (tablesOf (now (file .entry))) w (now (work .entry)) (now (plan .entry))) ⌝ }
+{
+    if is_constrained(file, index, name) {
+        let a = w.constrained(work, name);
+        let b = constrain_rank(file, index, work, plan, name, 0, ty, path, a);
+        let c = constrain_rank(file, index, work, plan, name, 1, ty, path, b);
+        let d = constrain_rank(file, index, work, plan, name, 2, ty, path, c);
+        return constrain_rank(file, index, work, plan, name, 3, ty, path, d);
+    }
+    let level = w.builder();
+    let l = bound(file, index, level, name, ty);
+    w.placed(l).skip()
+}
