@@ -27,7 +27,7 @@ use Rattle.constant.specs.Sizes.{viewOf, constView}
 use Rattle.constant.specs.declared.Const.{Const}
 use Rattle.constant.specs.declared.Const.the-variants as Co
 use Rattle.constant.proofs.Known.{AsBytes, known-bytes, known-nothing, AsPrefix, known-prefix, known-fuzzy}
-use Rattle.constrain.specs.Constrain.{orElse, Narrows, constrainOne}
+use Rattle.constrain.specs.Constrain.{orElse, Narrows, mistyped, narrowOr}
 
 -- a number past the nodes is no constant
 error-at : (T : Tables) (n : ℕ) → length (T .nodes) ≤ n → nodeAt T n ≡ Node.Error
@@ -76,21 +76,25 @@ module _ (T : Tables) (n t : ℕ) (path : File.FieldPath) (s₀ : State) where
   narrows-prefix x k s s₁ g w = narrows-by (Rules.Const.Prefix (encodePrefix (nameAt T x))) s (k .is) (g ∙ ap (narrow path (Narrowing.Prefix (encodePrefix (nameAt T x)))) w)
 
   module _ (b : Bool) (s : State) (g : Narrows T n t path s₀ b s) where
-    pub ranged-yes : b ≡ true → (a : ℕ) (below : FieldWalk State) → s ≡ ranged (ops T) T a below n t path s₀
-    unfolding ranged orElse
-    ranged-yes e a below = sym (ap (λ x. orElse x (report n Code.RejectTypeMismatch) s) e) ∙ g .is (report n Code.RejectTypeMismatch)
+    pub or-yes : b ≡ true → (falls : Bool) → s ≡ narrowOr T n t path falls s₀
+    unfolding narrowOr orElse
+    or-yes e falls = sym (ap (λ x. orElse x (mistyped n falls) s) e) ∙ g .is (mistyped n falls)
 
-    pub ranged-no : b ≡ false → (a : ℕ) (below : FieldWalk State) (s′ : State) → s′ ≡ report n Code.RejectTypeMismatch s → s′ ≡ ranged (ops T) T a below n t path s₀
-    unfolding ranged orElse
-    ranged-no e a below s′ q = q ∙ sym (ap (λ x. orElse x (report n Code.RejectTypeMismatch) s) e) ∙ g .is (report n Code.RejectTypeMismatch)
+    or-no : b ≡ false → (falls : Bool) (s′ : State) → s′ ≡ mistyped n falls s → s′ ≡ narrowOr T n t path falls s₀
+    unfolding narrowOr orElse
+    or-no e falls s′ q = q ∙ sym (ap (λ x. orElse x (mistyped n falls) s) e) ∙ g .is (mistyped n falls)
 
-    pub one-yes : b ≡ true → s ≡ constrainOne T n t path s₀
-    unfolding constrainOne orElse
-    one-yes e = sym (ap (λ x. orElse x (λ s. report n Code.RejectTypeMismatch (skip s)) s) e) ∙ g .is (λ s. report n Code.RejectTypeMismatch (skip s))
+    pub or-falls : b ≡ false → (falls : Bool) → falls ≡ true → (s′ : State) → s′ ≡ report n Code.RejectTypeMismatch (skip s) → s′ ≡ narrowOr T n t path falls s₀
+    unfolding mistyped
+    or-falls e falls h s′ q = or-no e falls s′ (q ∙ ap (λ x. mistyped n x s) (sym h))
 
-    pub one-no : b ≡ false → (s′ : State) → s′ ≡ report n Code.RejectTypeMismatch (skip s) → s′ ≡ constrainOne T n t path s₀
-    unfolding constrainOne orElse
-    one-no e s′ q = q ∙ sym (ap (λ x. orElse x (λ s. report n Code.RejectTypeMismatch (skip s)) s) e) ∙ g .is (λ s. report n Code.RejectTypeMismatch (skip s))
+    pub or-stays : b ≡ false → (falls : Bool) → falls ≡ false → (s′ : State) → s′ ≡ report n Code.RejectTypeMismatch s → s′ ≡ narrowOr T n t path falls s₀
+    unfolding mistyped
+    or-stays e falls h s′ q = or-no e falls s′ (q ∙ ap (λ x. mistyped n x s) (sym h))
+
+  pub ranged-is : (s : State) → s ≡ narrowOr T n t path false s₀ → (a : ℕ) (below : FieldWalk State) → s ≡ ranged (ops T) T a below n t path s₀
+  unfolding ranged narrowOr mistyped
+  ranged-is s e a below = e
 
 -- where the bytes are found, and the name of a prefix
 pub same-place : (T : Tables) (n t m u len : ℕ) (r : Const) → r ≡ constView T n t → r ≡ Co.Bytes m u len → constView T n t ≡ Co.Bytes n t len

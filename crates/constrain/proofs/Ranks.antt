@@ -31,7 +31,7 @@ use Rattle.views.proofs.NodeView as NodeViews
 use Rattle.lookups.specs.Lookups.{foundOption}
 use Rattle.lookups.specs.declared.Found.{Found}
 use Rattle.lookups.specs.declared.Found.the-variants as Fo
-use Rattle.constrain.specs.Constrain.{constrainOne, patternFor, isConstrained}
+use Rattle.constrain.specs.Constrain.{mistyped, narrowOr, patternFor, isConstrained}
 
 -- A node's rank.
 pub prefix-last : (a : Anchor) → a ≡ An.Prefix → 3 ≡ anchorRank (anchorOf a)
@@ -108,10 +108,10 @@ module _ (T : Tables) (x r t : ℕ) (path : File.FieldPath) where
   -- what is done with a pattern that may be found
   unfoldable pub by : Option ℕ → State → State
   by none s = s
-  by (some p) s = constrainOne T p t path s
+  by (some p) s = narrowOr T p t path true s
 
   by-rank : (k : Constraint) (ks : List Constraint) (s : State) (b : Bool) → constrainEach (ops T) T (elim b [ true ↦ k ∷ picked T x r ks | false ↦ picked T x r ks ]) t path s ≡ constrainEach (ops T) T (picked T x r ks) t path (by (elim b [ true ↦ some (k .node) | false ↦ none ]) s)
-  unfolding constrainEach by constrainOne
+  unfolding constrainEach by narrowOr mistyped
   by-rank k ks s true = refl
   by-rank k ks s false = refl
 
@@ -154,7 +154,7 @@ module _ (T : Tables) (x r t : ℕ) (path : File.FieldPath) where
             is = next ∙ ap (λ (y : Found). from (drop (i + 1) (T .constraints)) (by (foundOption y) s)) d;
           }
 
-      pub going-one : (n : ℕ) → q ≡ Fo.At n → (s′ : State) → s′ ≡ constrainOne T n t path s → (w′ p′ : List ℕ) → length w′ ≡ length w → length p′ ≡ length p → Going (i + 1) s₀ s′ w₀ p₀ w′ p′
+      pub going-one : (n : ℕ) → q ≡ Fo.At n → (s′ : State) → s′ ≡ narrowOr T n t path true s → (w′ p′ : List ℕ) → length w′ ≡ length w → length p′ ≡ length p → Going (i + 1) s₀ s′ w₀ p₀ w′ p′
       unfolding by
       going-one n d s′ g w′ p′ ew ep =
           record {

@@ -22,9 +22,13 @@ orElse false k s = k s
 pub record Narrows (T : Tables) (n t : ℕ) (path : File.FieldPath) (s₀ : State) (b : Bool) (s : State) : Type 0 where
   pub is : (k : State → State) → orElse b k s ≡ elim (constant T n t) [ some c ↦ narrowBy (ops T) T c path s₀ | none ↦ k s₀ ]
 
--- one constraint of a variable
-unfoldable pub constrainOne : Tables → ℕ → ℕ → File.FieldPath → State → State
-constrainOne T n t path s = elim (constant T n t) [ some c ↦ narrowBy (ops T) T c path s | none ↦ report n Code.RejectTypeMismatch (skip s) ]
+-- a pattern that is no constant at the type of its field; the flag says whether building falls there
+unfoldable pub mistyped : ℕ → Bool → State → State
+mistyped n true s = report n Code.RejectTypeMismatch (skip s)
+mistyped n false s = report n Code.RejectTypeMismatch s
+
+unfoldable pub narrowOr : Tables → ℕ → ℕ → File.FieldPath → Bool → State → State
+narrowOr T n t path falls s = elim (constant T n t) [ some c ↦ narrowBy (ops T) T c path s | none ↦ mistyped n falls s ]
 
 -- the pattern of a constraint, if it constrains name x and has rank r
 unfoldable pub patternFor : Tables → ℕ → ℕ → Constraint → Option ℕ

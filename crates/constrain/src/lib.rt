@@ -15,7 +15,7 @@ ghost use Rattle.views.specs.Views.{anchorOf, constraintAt};
 ghost use Rattle.ready.specs.Ready.{Ready};
 ghost use Rattle.lookups.specs.Lookups.{foundOption};
 ghost use Rattle.step.specs.Step.{walkState};
-ghost use Rattle.constrain.specs.Constrain.{Narrows, constrainOne, patternFor, isConstrained};
+ghost use Rattle.constrain.specs.Constrain.{Narrows, narrowOr, patternFor, isConstrained};
 use constant::Const;
 use constant::constant;
 use entries::node_of;
@@ -81,6 +81,33 @@ pub fn narrow(
     }
 }
 
+// Narrowed by a node's constant. Without one the node is mistyped; `falls` says whether building falls there.
+fn narrow_or_report(
+    file: &[u8],
+    index: &[u16],
+    work: &mut [u8],
+    plan: &mut [u8],
+    node: usize,
+    ty: usize,
+    path: FieldPath,
+    falls: bool,
+    w: Walk,
+) -> Walk
+    requires { ⌜ Ready (now file) (now index) ⌝ }
+    requires { ⌜ ty < length (tablesOf (now file) .types) ⌝ }
+    ensures { λ r. ⌜ walkState (tablesOf (now (file .entry))) r (now (work .exit)) (now (plan .exit)) ≡ narrowOr (tablesOf (now (file .entry))) node ty (pathOf path) falls (walkState (tablesOf (now (file .entry))) w (now (work .entry)) (now (plan .entry))) ⌝ }
+{
+    let n = narrow(file, index, plan, node, ty, path, w);
+    let walk = n.walk;
+    if n.some {
+        return walk;
+    }
+    if falls {
+        return walk.decline(work, node, Code::RejectTypeMismatch);
+    }
+    walk.report(work, node, Code::RejectTypeMismatch)
+}
+
 // A Prefix or a Fuzzy at a field. Building stays where it is mistyped.
 pub fn ranged(
     file: &[u8],
@@ -96,35 +123,7 @@ pub fn ranged(
     requires { ⌜ ty < length (tablesOf (now file) .types) ⌝ }
     ensures { λ r. ⌜ ((address : ℕ) (below : FieldWalk State) → walkState (tablesOf (now (file .entry))) r (now (work .exit)) (now (plan .exit)) ≡ Rules.ranged (ops (tablesOf (now (file .entry)))) (tablesOf (now (file .entry))) address below node ty (pathOf path) (walkState (tablesOf (now (file .entry))) w (now (work .entry)) (now (plan .entry)))) ⌝ }
 {
-    let n = narrow(file, index, plan, node, ty, path, w);
-    let walk = n.walk;
-    if n.some {
-        return walk;
-    }
-    walk.report(work, node, Code::RejectTypeMismatch)
-}
-
-// One constraint of a variable. Where it is mistyped building falls.
-fn constrain_one(
-    file: &[u8],
-    index: &[u16],
-    work: &mut [u8],
-    plan: &mut [u8],
-    node: usize,
-    ty: usize,
-    path: FieldPath,
-    w: Walk,
-) -> Walk
-    requires { ⌜ Ready (now file) (now index) ⌝ }
-    requires { ⌜ ty < length (tablesOf (now file) .types) ⌝ }
-    ensures { λ r. ⌜ walkState (tablesOf (now (file .entry))) r (now (work .exit)) (now (plan .exit)) ≡ constrainOne (tablesOf (now (file .entry))) node ty (pathOf path) (walkState (tablesOf (now (file .entry))) w (now (work .entry)) (now (plan .entry))) ⌝ }
-{
-    let n = narrow(file, index, plan, node, ty, path, w);
-    let walk = n.walk;
-    if n.some {
-        return walk;
-    }
-    walk.decline(work, node, Code::RejectTypeMismatch)
+    narrow_or_report(file, index, work, plan, node, ty, path, false, w)
 }
 
 fn anchor_rank(anchor: Anchor) -> usize
@@ -165,7 +164,7 @@ fn pattern_for(file: &[u8], index: &[u16], name: usize, rank: usize, k: usize) -
     }
 }
 
-// The constraints of one rank, in file order.
+// The constraints of one rank, in file order. Where one is mistyped building falls.
 fn constrain_rank(
     file: &[u8],
     index: &[u16],
@@ -188,7 +187,7 @@ fn constrain_rank(
         let found = pattern_for(file, index, name, rank, k);
         k += 1;
         if let Found::At(p) = found {
-            l = constrain_one(file, index, work, plan, p, ty, path, l);
+            l = narrow_or_report(file, index, work, plan, p, ty, path, true, l);
         }
     }
     l
@@ -235,5 +234,6 @@ pub fn constrain(
     }
     let level = w.builder();
     let l = bound(file, index, level, name, ty);
-    w.placed(l).skip()
+    let fallen = l.skip();
+    w.placed(fallen)
 }

@@ -12,7 +12,7 @@ use Rattle.place.proofs.bound.Reads as bound-reads
 use Rattle.step.proofs.Walk.builder.Reads as builder-reads
 use Rattle.step.proofs.Walk.constrained.Reads as constrained-reads
 use Rattle.step.proofs.Walk.placed.Reads as placed-reads
-use Rattle.step.proofs.Walk.skip.Reads as skip-reads
+use Rattle.seek.proofs.SeekBuilder.skip.Reads as skip-reads
 
 -- src/lib.rt:229:8
 is-constrained-requires : tie.Need-is-constrained-requires
@@ -60,18 +60,18 @@ bound-requires : tie.Need-bound-requires
 bound-requires c κs = search needs
 
 -- src/lib.rt:238:5
-placed-requires : tie.Need-placed-requires
-placed-requires c κs = search needs
-
--- src/lib.rt:238:5
 skip-requires : tie.Need-skip-requires
 skip-requires c κs = search needs
+
+-- src/lib.rt:238:5
+placed-requires : tie.Need-placed-requires
+placed-requires c κs = search needs
 
 -- src/lib.rt:215:1
 returns-2 : tie.Need-returns-2
 returns-2 c =
     constrain-none _ _ _ _ (sym (c .before .before .before .before .before .is-constrained .ensures) ∙ c .before .before .before .before .if1 .left) _ _
-    (c .skip .ensures _ _ _ ∙ ap skip (c .before .placed .ensures _ _ _ ∙ c .before .before .bound .ensures _ _ _ ∙ ap (bound _ _ _) (c .before .before .before .builder .ensures _ _ _)))
+    (c .placed .ensures _ _ _ ∙ c .before .skip .ensures _ _ _ _ ∙ ap skip (c .before .before .bound .ensures _ _ _ ∙ ap (bound _ _ _) (c .before .before .before .builder .ensures _ _ _)))
 
 pub constrain-spec : {M : Type 1} → statement M
 constrain-spec =
@@ -88,6 +88,6 @@ constrain-spec =
     returns
     builder-requires
     bound-requires
-    placed-requires
     skip-requires
+    placed-requires
     returns-2)

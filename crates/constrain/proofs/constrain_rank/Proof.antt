@@ -9,7 +9,7 @@ use Rattle.constrain.proofs.constrain_rank.Statement.{statement}
 use Rattle.constrain.proofs.constrain_rank.Tie as tie
 use Rattle.constrain.proofs.constrain_rank.Reads as reads
 use Rattle.constrain.proofs.constrain_rank.Lts as lts
-use Rattle.constrain.proofs.constrain_one.Reads as constrain-one-reads
+use Rattle.constrain.proofs.narrow_or_report.Reads as narrow-or-report-reads
 use Rattle.constrain.proofs.pattern_for.Reads as pattern-for-reads
 use Rattle.views.proofs.count_of.Reads as count-of-reads
 
@@ -40,8 +40,8 @@ enum-known-found : tie.Need-enum-known-found Inv-loop μ-loop
 enum-known-found c = search needs
 
 -- src/lib.rt:191:13
-constrain-one-requires : tie.Need-constrain-one-requires Inv-loop μ-loop
-constrain-one-requires c κs = c .before .before .before .before .before .before .before .before .before .before .before .before .before .pre
+narrow-or-report-requires : tie.Need-narrow-or-report-requires Inv-loop μ-loop
+narrow-or-report-requires c κs = c .before .before .before .before .before .before .before .before .before .before .before .before .before .pre
 
 -- src/lib.rt:187:5
 loop-less : tie.Need-loop-less Inv-loop μ-loop
@@ -50,8 +50,8 @@ loop-less c = omega (arith, c .before .before .before .before .before .before .b
 -- src/lib.rt:187:5
 loop-again : tie.Need-loop-again Inv-loop μ-loop
 loop-again c =
-    going-one _ _ _ _ _ _ _ _ _ _ _ _ (c .before .before .before .before .before .before .before .before .before .before .before .before .loop .inv) (omega (arith, c .before .before .before .before .before .before .before .before .before .before .before .loop-test .taken, c .before .before .before .before .before .before .before .before .before .before .before .before .before .count-of .ensures)) _ (c .before .before .before .before .before .before .before .before .before .before .pattern-for .ensures) _ (c .before .before .before .before .before .before .before .before .found .given .1) _ (c .before .before .before .before .constrain-one .ensures) _ _
-    (c .before .before .before .before .constrain-one .kept .1 .1 .0) (c .before .before .before .before .constrain-one .kept .1 .1 .1 .0)
+    going-one _ _ _ _ _ _ _ _ _ _ _ _ (c .before .before .before .before .before .before .before .before .before .before .before .before .loop .inv) (omega (arith, c .before .before .before .before .before .before .before .before .before .before .before .loop-test .taken, c .before .before .before .before .before .before .before .before .before .before .before .before .before .count-of .ensures)) _ (c .before .before .before .before .before .before .before .before .before .before .pattern-for .ensures) _ (c .before .before .before .before .before .before .before .before .found .given .1) _ (c .before .before .before .before .narrow-or-report .ensures) _ _
+    (c .before .before .before .before .narrow-or-report .kept .1 .1 .0) (c .before .before .before .before .narrow-or-report .kept .1 .1 .1 .0)
 
 enum-told : tie.Need-enum-told Inv-loop μ-loop
 enum-told c = search needs
@@ -87,7 +87,7 @@ constrain-rank-spec =
     pattern-for-requires
     add-k
     enum-known-found
-    constrain-one-requires
+    narrow-or-report-requires
     loop-less
     loop-again
     enum-told

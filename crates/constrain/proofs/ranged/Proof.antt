@@ -1,48 +1,26 @@
-use Rattle.constrain.proofs.Narrowings.{ranged-yes, ranged-no}
+use Rattle.constrain.proofs.Narrowings.{ranged-is}
 use borrow.Author.Needs.{needs}
 use Rattle.constrain.proofs.ranged.Statement.{statement}
 use Rattle.constrain.proofs.ranged.Tie as tie
 use Rattle.constrain.proofs.ranged.Reads as reads
 use Rattle.constrain.proofs.ranged.Lts as lts
-use Rattle.constrain.proofs.narrow.Reads as narrow-reads
-use Rattle.step.proofs.Walk.report.Reads as report-reads
+use Rattle.constrain.proofs.narrow_or_report.Reads as narrow-or-report-reads
 
--- src/lib.rt:99:9
-narrow-requires : tie.Need-narrow-requires
-narrow-requires c κs = search needs
+-- src/lib.rt:126:5
+narrow-or-report-requires : tie.Need-narrow-or-report-requires
+narrow-or-report-requires c κs = search needs
 
--- src/lib.rt:102:9
+-- src/lib.rt:112:1
 same-length : tie.Need-same-length
 same-length c = search needs
 
--- src/lib.rt:102:9
-returns : tie.Need-returns
-returns c = λ address below. ranged-yes _ _ _ _ _ _ _ (c .before .before .before .before .narrow .ensures _) (c .if1 .taken) address below
-
--- src/lib.rt:104:5
-report-requires : tie.Need-report-requires
-report-requires c κs = search needs
-
--- src/lib.rt:85:1
+-- src/lib.rt:112:1
 same-length-2 : tie.Need-same-length-2
 same-length-2 c = search needs
 
--- src/lib.rt:85:1
-same-length-3 : tie.Need-same-length-3
-same-length-3 c = search needs
-
--- src/lib.rt:85:1
-returns-2 : tie.Need-returns-2
-returns-2 c = λ address below. ranged-no _ _ _ _ _ _ _ (c .before .before .before .before .before .before .before .before .narrow .ensures _) (c .before .before .before .before .if1 .left) address below _ (c .before .before .report .ensures _ _)
+-- src/lib.rt:112:1
+returns : tie.Need-returns
+returns c = ranged-is _ _ _ _ _ _ (c .before .before .before .before .narrow-or-report .ensures)
 
 pub ranged-spec : {M : Type 1} → statement M
-ranged-spec =
-    tie.close
-    (tie.spec
-    narrow-requires
-    same-length
-    returns
-    report-requires
-    same-length-2
-    same-length-3
-    returns-2)
+ranged-spec = tie.close (tie.spec narrow-or-report-requires same-length same-length-2 returns)
