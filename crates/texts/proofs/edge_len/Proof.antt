@@ -1,0 +1,27 @@
+use Rattle.texts.proofs.Sizes.{edge-size, unset-size}
+use borrow.Author.Needs.{needs}
+use Rattle.texts.proofs.edge_len.Statement.{statement}
+use Rattle.texts.proofs.edge_len.Tie as tie
+use Rattle.texts.proofs.edge_len.Reads as reads
+use Rattle.texts.proofs.edge_len.Lts as lts
+use Rattle.constant.proofs.capped.Reads as capped-reads
+use Rattle.texts.proofs.bytes_len.Reads as bytes-len-reads
+
+-- src/lib.rt:113:19
+bytes-len-requires : tie.Need-bytes-len-requires
+bytes-len-requires c κs = search needs
+
+-- src/lib.rt:113:9
+capped-requires : tie.Need-capped-requires
+capped-requires c κs = search needs
+
+-- src/lib.rt:108:1
+returns : tie.Need-returns
+returns c = edge-size _ _ _ _ (c .before .before .if1 .taken) (c .before .bytes-len .ensures) (c .capped .ensures)
+
+-- src/lib.rt:108:1
+returns-2 : tie.Need-returns-2
+returns-2 c = unset-size _ _ (c .if1 .left)
+
+pub edge-len-spec : {M : Type 1} → statement M
+edge-len-spec = tie.close (tie.spec bytes-len-requires capped-requires returns returns-2)
