@@ -1,0 +1,3 @@
+pub mod Seeks
+pub mod Puts
+pub mod Middles
