@@ -1,3 +1,4 @@
 pub mod Seeks
 pub mod Puts
+pub mod Places
 pub mod Middles

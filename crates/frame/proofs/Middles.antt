@@ -1,9 +1,8 @@
 -- What a seek holds past its parts, and the places of a level.
 use mathlib.Core.Bool.{Bool, true, false}
-use mathlib.Core.List.{List, [], _∷_, _++_}
-use mathlib.Core.Option.{Option, none, some}
-use mathlib.Core.Path.{_≡_, refl, sym, ap, _∙_, subst}
-use Prim.Native.Nat.{ℕ, _+_, _≤_, _<_, min}
+use mathlib.Core.List.{List, [], _++_}
+use mathlib.Core.Path.{_≡_, refl, sym, ap, _∙_}
+use Prim.Native.Nat.{ℕ, _+_, _≤_, min}
 use native.Mathlib.Omega.{arith}
 use lib.ListN.{length, length-append}
 use Rattle.rules.specs.Limits.{planLimit}
@@ -12,20 +11,21 @@ use Rattle.rules.specs.Constant.{encodePrefix}
 use Rattle.rules.specs.Placement.{Range, RangeEdge}
 use Rattle.rules.specs.Plan as Plan
 use Rattle.rules.specs.Plan.{u16}
-use Rattle.state.specs.State.{Level}
 use Rattle.state.specs.Levels as Kept
-use Rattle.state.specs.Levels.{seekOf, joining, head, between, middle, tail, partsAt, middleAt, tailAt, restAt, levelEnd}
+use Rattle.state.specs.Levels.{seekOf, joining, head, between, middle, tail, partsAt, middleAt, tailAt}
 use Rattle.paths.specs.Paths.{pathOf}
 use Rattle.constant.specs.Sizes.{cap}
 use Rattle.encode.specs.Written.{Wrote}
 use Rattle.encode.proofs.Puts.{wrote-then, wrote-as}
 use Rattle.records.specs.Records.{put}
-use Rattle.records.proofs.Stores.{put-none, put-sets}
+use Rattle.records.proofs.Stores.{put-none}
 use Rattle.seek.specs.Seek.{sumsOf, countsOf, setIn, kept, guideOf, rangeOf, edgeOf, edgesOf, levelOf}
 use Rattle.seek.specs.declared.SeekBuilder.{SeekBuilder}
 use Rattle.frame.specs.Frames.{betweenOf, frameOf}
 use Rattle.frame.specs.declared.Frame.{Frame}
 use Rattle.frame.proofs.Seeks.{seekBits, edge, seek-is}
+use Rattle.frame.proofs.Places as Places
+use Rattle.frame.proofs.Places.{tail-is}
 
 module _ (r : Range) (e f : RangeEdge) where
   bounded : (p b s lo hi : Bool) → seekBits p (kept b s) lo hi ≡ 3 → between (setIn b s r) (edge lo e) (edge hi f) ≡ Plan.edge (edge lo e) ++ Plan.edge (edge hi f)
@@ -139,34 +139,10 @@ module _ (T : Tables) (l : SeekBuilder) where
   framed at h p m r t eh ep em er et = λ i.
       record { parts = at + eh i; middle = at + eh i + ep i; rest = at + eh i + ep i + em i; tail = at + eh i + ep i + em i + er i; end = at + eh i + ep i + em i + er i + et i }
 
-  module _ (at : ℕ) (f : Frame) (ef : f ≡ frameOf at (levelOf T l)) (h : f .end ≤ planLimit) where
-    ends : f .end ≡ f .middle + min cap (length (middle (levelOf T l))) + levelOf T l .counts .rest + length (tail (levelOf T l))
-    unfolding frameOf
-    ends = ap (λ (x : Frame). x .end) ef ∙ sym (ap (λ (x : Frame). x .middle + min cap (length (middle (levelOf T l))) + levelOf T l .counts .rest + length (tail (levelOf T l))) ef)
-
-    pub middle-small : length (middle (levelOf T l)) ≤ cap
-    middle-small = omega (arith, h, ends)
-
-    pub middle-near : f .middle ≤ planLimit
-    middle-near = omega (arith, h, ends)
-
-    pub at-near : at ≤ planLimit
-    unfolding frameOf partsAt middleAt
-    at-near = omega (arith, h, ends, ap (λ (x : Frame). x .middle) ef)
-
-    tail-is : f .tail ≡ tailAt at (levelOf T l)
-    unfolding frameOf tailAt restAt
-    tail-is =
-        let m : min cap (length (middle (levelOf T l))) ≡ length (middle (levelOf T l)) = omega (arith, h, ends) in
-        ap (λ (x : Frame). x .tail) ef ∙ ap (λ (k : ℕ). middleAt at (levelOf T l) + k + levelOf T l .counts .rest) m
-
-    pub tail-near : f .tail ≤ planLimit
-    unfolding frameOf
-    tail-near = omega (arith, h, ap (λ (x : Frame). x .end) ef, ap (λ (x : Frame). x .tail) ef)
-
-    pub put-frame : (w w1 w2 w3 : List ℕ) → w1 ≡ put w at (head (levelOf T l)) → w2 ≡ put w1 (f .middle) (middle (levelOf T l)) → w3 ≡ put w2 (f .tail) (tail (levelOf T l)) → w3 ≡ Kept.frame at (levelOf T l) w
-    unfolding Kept.frame put frameOf
-    put-frame w w1 w2 w3 e1 e2 e3 =
-        e3 ∙ ap (λ (k : ℕ). put w2 k (tail (levelOf T l))) tail-is
-        ∙ ap (λ (x : List ℕ). put x (tailAt at (levelOf T l)) (tail (levelOf T l)))
-        (e2 ∙ ap (λ (x : Frame). put w1 (x .middle) (middle (levelOf T l))) ef ∙ ap (λ (x : List ℕ). put x (middleAt at (levelOf T l)) (middle (levelOf T l))) e1)
+  pub put-frame : (at : ℕ) (f : Frame) → f ≡ frameOf at (levelOf T l) → f .end ≤ planLimit → (w w1 w2 w3 : List ℕ) → w1 ≡ put w at (head (levelOf T l))
+      → w2 ≡ put w1 (f .middle) (middle (levelOf T l)) → w3 ≡ put w2 (f .tail) (tail (levelOf T l)) → w3 ≡ Kept.frame at (levelOf T l) w
+  unfolding Kept.frame put
+  put-frame at f ef h w w1 w2 w3 e1 e2 e3 =
+      e3 ∙ ap (λ (k : ℕ). put w2 k (tail (levelOf T l))) (tail-is at (levelOf T l) f ef h)
+      ∙ ap (λ (x : List ℕ). put x (tailAt at (levelOf T l)) (tail (levelOf T l)))
+      (e2 ∙ ap (λ (k : ℕ). put w1 k (middle (levelOf T l))) (Places.middle-is at (levelOf T l) f ef) ∙ ap (λ (x : List ℕ). put x (middleAt at (levelOf T l)) (middle (levelOf T l))) e1)

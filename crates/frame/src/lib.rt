@@ -1,20 +1,19 @@
 // What stands in the plan around a level's parts and residuals: its sizes, and its bytes, from the level as it was measured.
 ghost use mathlib.Core.Path.{_≡_};
 ghost use mathlib.Core.Bool.{true, false};
-ghost use Prim.Native.Nat.{ℕ, _+_, _≤_, _<_, min};
+ghost use Prim.Native.Nat.{_+_, _≤_, _<_, min};
 ghost use lib.ListN.{length};
 ghost use Rattle.rules.specs.Limits.{planLimit};
-ghost use Rattle.rules.specs.File.{Tables, nameAt};
-ghost use Rattle.rules.specs.Constant.{encodePrefix};
+ghost use Rattle.rules.specs.File.{Tables};
 ghost use Rattle.rules.specs.Plan as Plan;
 ghost use Rattle.state.specs.Levels.{seekOf, joining, head, middle, tail};
 ghost use Rattle.state.specs.Levels as Kept;
-ghost use Rattle.file.specs.Tables.{Indexed, tablesOf};
+ghost use Rattle.file.specs.Tables.{tablesOf};
 ghost use Rattle.ready.specs.Ready.{Ready};
 ghost use Rattle.constant.specs.Sizes.{cap};
 ghost use Rattle.encode.specs.Written.{Wrote};
 ghost use Rattle.records.specs.Records.{put};
-ghost use Rattle.seek.specs.Seek.{constantBytes, edgeOf, guideOf, kept, levelOf};
+ghost use Rattle.seek.specs.Seek.{guideOf, kept, levelOf};
 ghost use Rattle.frame.specs.Frames.{betweenOf, frameOf};
 use constant::capped;
 use records::anchor_byte;

@@ -2,15 +2,15 @@
 use mathlib.Core.List.{List, [], _∷_}
 use mathlib.Core.Option.{Option, none, some, Option·getD}
 use mathlib.Core.Path.{_≡_, refl, sym, ap, _∙_}
-use Prim.Native.Nat.{ℕ, zero, suc, _+_, _≤_, _<_, min}
+use Prim.Native.Nat.{ℕ, zero, suc, _≤_, min}
 use native.Mathlib.Omega.{arith}
 use lib.ListN.{length, List·getD-eq-default}
 use types.Run.{OneOf, miss}
 use denote.Enum.Declared.{tagOf}
 use Rattle.rules.specs.Base.{_>>=_}
-use Rattle.rules.specs.File.{Tables, Ty, Node, varName, nameAt, typeAt, nodeAt}
+use Rattle.rules.specs.File.{Tables, Ty, Node, varName, typeAt, nodeAt}
 use Rattle.rules.specs.Constant as Rules
-use Rattle.rules.specs.Constant.{bytesOnly, encodeInt, flipSign, encodePrefix, escape, lookup, constOf, standsFor, atInt, atStr, atBytes, constantRecord, constantNode, constantBelow}
+use Rattle.rules.specs.Constant.{bytesOnly, encodeInt, flipSign, constOf, standsFor, atInt, atStr, atBytes, constantRecord, constantNode, constantBelow}
 use Rattle.rules.proofs.Cases.{some≢none}
 use Rattle.views.specs.Views.{run, byteAt, nodeOf, SeenNode}
 use Rattle.views.specs.declared.NodeView.{NodeView}
@@ -20,7 +20,6 @@ use Rattle.constant.specs.Sizes.{cap, viewOf, constView}
 use Rattle.constant.specs.declared.Const.the-variants as Co
 use Rattle.encode.specs.Written.{bytesOf, orEmpty, Here, Wrote}
 use Rattle.encode.proofs.Puts.{wrote-as}
-use Rattle.records.specs.Records.{put}
 use Rattle.records.proofs.Stores.{put-none}
 
 module _ (T : Tables) (n t : ℕ) where

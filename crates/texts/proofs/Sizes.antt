@@ -3,7 +3,7 @@ use mathlib.Core.Bool.{Bool, true, false}
 use mathlib.Core.List.{List, [], _∷_, _++_}
 use mathlib.Core.Option.{Option, none, some, Option·getD}
 use mathlib.Core.Path.{_≡_, refl, sym, ap, _∙_}
-use Prim.Native.Nat.{ℕ, zero, suc, _+_, _≤_, _<_, min}
+use Prim.Native.Nat.{ℕ, _+_, _≤_, _<_, min}
 use native.Mathlib.Omega.{arith}
 use borrow.Author.Tests.{leb-true, leb-false}
 use lib.Dec.{leb}
@@ -24,7 +24,7 @@ use Rattle.constant.specs.declared.Size.the-variants as Si
 use Rattle.constant.proofs.Measured.{only-const}
 use Rattle.encode.specs.Written.{bytesOf, orEmpty, Here, Wrote}
 use Rattle.encode.proofs.Puts.{wrote-one, wrote-then, wrote-as}
-use Rattle.records.specs.Records.{put, reach}
+use Rattle.records.specs.Records.{put}
 use Rattle.seek.specs.Seek.{constantBytes, edgeOf}
 use Rattle.seek.specs.declared.Edge.{Edge}
 use Rattle.texts.proofs.Past.{node-past}

@@ -1,5 +1,4 @@
 use native.Mathlib.Omega.{arith}
-use mathlib.Core.Path.{ap}
 use Rattle.frame.proofs.Puts.{parts-joined, parts-other}
 use borrow.Author.Needs.{needs}
 use Rattle.frame.proofs.parts_len.Statement.{statement}

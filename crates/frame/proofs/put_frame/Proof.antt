@@ -1,4 +1,5 @@
-use Rattle.frame.proofs.Middles.{middle-small, middle-near, at-near, tail-near, put-frame}
+use Rattle.frame.proofs.Middles.{put-frame}
+use Rattle.frame.proofs.Places.{middle-small, middle-near, at-near, tail-near}
 use borrow.Author.Needs.{needs}
 use Rattle.frame.proofs.put_frame.Statement.{statement}
 use Rattle.frame.proofs.put_frame.Tie as tie
@@ -10,15 +11,15 @@ use Rattle.frame.proofs.put_tail.Reads as put-tail-reads
 
 -- src/lib.rt:250:5
 put-head-requires : tie.Need-put-head-requires
-put-head-requires c κs = let s = c .before .before .before .before in at-near _ _ _ _ (s .pre .1 .0) (s .pre .1 .1)
+put-head-requires c κs = let s = c .before .before .before .before in at-near _ _ _ (s .pre .1 .0) (s .pre .1 .1)
 
 -- src/lib.rt:251:5
 put-middle-requires : tie.Need-put-middle-requires
-put-middle-requires c κs = let s = c .before .before .before .before .before .before .before .before in (s .pre .0, (middle-near _ _ _ _ (s .pre .1 .0) (s .pre .1 .1), middle-small _ _ _ _ (s .pre .1 .0) (s .pre .1 .1)))
+put-middle-requires c κs = let s = c .before .before .before .before .before .before .before .before in (s .pre .0, (middle-near _ _ _ (s .pre .1 .0) (s .pre .1 .1), middle-small _ _ _ (s .pre .1 .0) (s .pre .1 .1)))
 
 -- src/lib.rt:252:5
 put-tail-requires : tie.Need-put-tail-requires
-put-tail-requires c κs = let s = c .before .before .before .before .before .before .before .before .before .before .before .before in tail-near _ _ _ _ (s .pre .1 .0) (s .pre .1 .1)
+put-tail-requires c κs = let s = c .before .before .before .before .before .before .before .before .before .before .before .before in tail-near _ _ _ (s .pre .1 .0) (s .pre .1 .1)
 
 -- src/lib.rt:245:1
 same-length : tie.Need-same-length

@@ -1,6 +1,4 @@
 use native.Mathlib.Omega.{arith}
-use Rattle.file.specs.Tables.{tablesOf}
-use denote.Ref.{now}
 use Rattle.frame.proofs.Middles.{between-small, guide-near, count-near, put-middle}
 use borrow.Author.Needs.{needs}
 use Rattle.frame.proofs.put_middle.Statement.{statement}
