@@ -24,6 +24,10 @@ use Rattle.lookups.specs.declared.Run.the-variants as Ru
 use Rattle.begin.specs.Pieces.{Lower, patternsOf, openFields, fieldsFor, noField, Pieced}
 use Rattle.begin.specs.declared.Piece.{Piece}
 
+-- a run's records are inside the file
+pub run-inside : {A : Type 0} (f : List ℕ) (g : ℕ → A) (w : ℕ) (o : Option (List A)) (r : Run) → SeenRun f g w o r → (k from : ℕ) → r ≡ Ru.Of k from → from + w * k ≤ length f
+run-inside f g w o r s k from e = subst (SeenRun f g w o) e s .inside
+
 none-open : (o : Option (List File.FieldPattern)) → openFields o none ≡ []
 unfolding openFields
 none-open none = refl
@@ -45,12 +49,6 @@ module _ (f : List ℕ) (T : Tables) (n t : ℕ) (a : Run) (pairs : SeenRun f (p
 
       type-is : recordTy (typeAt T t) ≡ some (run (fieldAt f) 4 k from)
       type-is = sym (subst (SeenRun f (fieldAt f) 4 (recordTy (typeAt T t))) eb fields .is)
-
-      pub inside-pairs : at + 4 * m ≤ length f
-      inside-pairs = subst (SeenRun f (patternAt f) 4 (recordFields (nodeAt T n))) ea pairs .inside
-
-      pub inside-fields : from + 4 * k ≤ length f
-      inside-fields = subst (SeenRun f (fieldAt f) 4 (recordTy (typeAt T t))) eb fields .inside
 
       pub fields-are : fieldsFor T n t ≡ run (fieldAt f) 4 k from
       unfolding fieldsFor openFields

@@ -8,7 +8,7 @@ use Rattle.rules.specs.File as File
 use Rattle.rules.specs.File.{Tables, FieldPattern, Alternative, typeAt, nodeAt, recordFields, unionTy, payload}
 use Rattle.rules.specs.Constant.{constant, onlyField}
 use Rattle.rules.specs.Events.{Narrowing}
-use Rattle.rules.specs.Walk.{FieldWalk, narrowBy, partial, matched, injectOnly}
+use Rattle.rules.specs.Walk.{FieldWalk, narrowBy, partial, matched, injectOnly, read}
 use Rattle.state.specs.State.{State}
 use Rattle.state.specs.Ops.{ops, narrow, closer}
 use Rattle.slots.specs.Slots.{slotOf}
@@ -33,6 +33,10 @@ module _ (T : Tables) (address : ℕ) (below : FieldWalk State) where
         | none ↦ injectFields (recordFields (nodeAt T n)) (unionTy (typeAt T t)) n path s
       ]
 
+  -- a record pattern in `field`: an injection where the type is a Union
+  unfoldable pub recordWalk : FieldWalk State
+  recordWalk n t path s = elim (unionTy (typeAt T t)) [ some alts ↦ injectAt n t path s | none ↦ read (ops T) T address below n t path s ]
+
   -- `field`, past its match on the pattern
   unfoldable pub finish : Next → File.Slot → FieldWalk State
   finish Nx.Done slot n t path s = s
@@ -50,9 +54,13 @@ module _ (T : Tables) (address : ℕ) (below : FieldWalk State) where
   injected true disc n t path s = closer s (below n t (payload path disc) (narrow path (Narrowing.Tag disc) s))
   injected false disc n t path s = s
 
+-- a walk of the types below that leaves a state as it is once the plan is too long, as every walk does
+pub record Resting (below : FieldWalk State) : Type 0 where
+  pub is : (s : State) → s .over ≡ true → (n t : ℕ) (path : File.FieldPath) → below n t path s ≡ s
+
 -- the answer r, with s as its state, goes on to what g gives
 pub record Begins (T : Tables) (address n t : ℕ) (path : File.FieldPath) (g : FieldWalk State → State) (r : Begun) (s : State) : Type 0 where
-  pub is : (below : FieldWalk State) → finish T address below (r .next) (slotOf (r .slot)) n t path s ≡ g below
+  pub is : (below : FieldWalk State) → Resting below → finish T address below (r .next) (slotOf (r .slot)) n t path s ≡ g below
 
 pub record Meets (T : Tables) (address t : ℕ) (path : File.FieldPath) (g : FieldWalk State → State) (r : Met) (s : State) : Type 0 where
   pub is : (below : FieldWalk State) → opened T address below (r .partial) (r .node) t path s ≡ g below

@@ -1,21 +1,44 @@
 // What a member of the walk's cycle does before it goes on into the cycle: the cycle itself then holds the recursion and nothing else.
 ghost use mathlib.Core.Path.{_≡_};
-ghost use Prim.Native.Nat.{_<_};
+ghost use mathlib.Core.Bool.{false};
+ghost use mathlib.Core.List.{List};
+ghost use mathlib.Core.Option.{none};
+ghost use Prim.Native.Nat.{ℕ, _<_};
 ghost use lib.ListN.{length};
+ghost use Rattle.rules.specs.File as File;
 ghost use Rattle.rules.specs.File.{nodeAt, recordFields};
+ghost use Rattle.rules.specs.Walk as Rules;
+ghost use Rattle.rules.specs.Walk.{FieldWalk};
+ghost use Rattle.state.specs.State.{State};
+ghost use Rattle.state.specs.Ops.{ops};
 ghost use Rattle.file.specs.Tables.{Indexed, tablesOf};
-ghost use Rattle.views.specs.Views.{patternAt};
+ghost use Rattle.paths.specs.Paths.{pathOf};
+ghost use Rattle.views.specs.Views.{patternAt, predicateOption};
+ghost use Rattle.slots.specs.Slots.{slotOf};
 ghost use Rattle.ready.specs.Ready.{Ready};
 ghost use Rattle.lookups.specs.Lookups.{SeenRun};
-ghost use Rattle.begin.specs.Pieces.{fieldsFor, Pieced};
+ghost use Rattle.step.specs.Step.{walkState};
+ghost use Rattle.begin.specs.Pieces.{Fits, fieldsFor, Pieced};
+ghost use Rattle.begin.specs.Begin.{injectAt, injectFields, recordWalk, Begins, Meets, Chooses};
 use entries::node_of;
+use lists::Code;
+use lookup::fact_ty;
 use lookups::Found;
+use lookups::MaybeAlternative;
 use lookups::Run;
+use lookups::alternative_of;
 use lookups::field_pattern;
 use lookups::record_ty;
+use lookups::union_ty;
+use paths::Address;
+use paths::FieldPath;
+use resolve::resolve;
 use slots::Slot;
+use slots::SlotKind;
 use step::Walk;
+use views::MaybePredicate;
 use views::NodeView;
+use views::field_pattern_at;
 use views::field_ty_at;
 
 // What `field` goes on with.
@@ -118,5 +141,225 @@ pub fn piece_at(file: &[u8], index: &[u16], node: usize, ty: usize, i: usize) ->
             node: 0,
             ty: f.ty,
         }
+    }
+}
+
+fn done(w: Walk) -> Begun
+    ensures { λ r. ⌜ (r .next ≡ Next.Done) × (r .walk ≡ w) ⌝ }
+{
+    let slot = Slot::plain(SlotKind::Const(0));
+    Begun {
+        next: Next::Done,
+        slot,
+        walk: w,
+    }
+}
+
+// The kinds that another phase reports.
+fn is_deferred(file: &[u8], index: &[u16], node: usize) -> bool
+    requires { ⌜ Indexed (now file) (now index) ⌝ }
+    ensures { λ r. ⌜ r ≡ Rules.deferred (nodeAt (tablesOf (now (file .entry))) node) ⌝ }
+{
+    match node_of(file, index, node) {
+        NodeView::Never => true,
+        NodeView::Disjunction => true,
+        NodeView::Subquery => true,
+        NodeView::Error => true,
+        _ => false,
+    }
+}
+
+// A read that gave no slot is reported where nothing else told why: `mark` is where the diagnostics ended before it.
+fn unresolved(file: &[u8], index: &[u16], work: &mut [u8], node: usize, mark: u32, w: Walk) -> Walk
+    requires { ⌜ Indexed (now file) (now index) ⌝ }
+    ensures { λ r. ⌜ ((plan : List ℕ) (before : State) → before .ends .diagnostics ≡ mark → (walkState (tablesOf (now (file .entry))) r (now (work .exit)) plan) ≡ Rules.unresolved (ops (tablesOf (now (file .entry)))) (tablesOf (now (file .entry))) node before (walkState (tablesOf (now (file .entry))) w (now (work .entry)) plan)) ⌝ }
+{
+    if is_deferred(file, index, node) {
+        return w.skip();
+    }
+    let lists = w.lists;
+    let ends = lists.ends;
+    if ends.diagnostics == mark {
+        return w.decline(work, node, Code::RejectUnresolvedAccess);
+    }
+    w.skip()
+}
+
+// Not one place: a record's pieces, or a read that resolved to nothing.
+fn begin_pieces(
+    file: &[u8],
+    index: &[u16],
+    work: &mut [u8],
+    node: usize,
+    mark: u32,
+    w: Walk,
+) -> Begun
+    requires { ⌜ Indexed (now file) (now index) ⌝ }
+    ensures { λ r. ⌜ ((address ty : ℕ) (path : File.FieldPath) (plan : List ℕ) (before : State) → before .ends .diagnostics ≡ mark → Begins (tablesOf (now (file .entry))) address node ty path (λ below. Rules.readAnswer (ops (tablesOf (now (file .entry)))) (tablesOf (now (file .entry))) address below node none ty path before (walkState (tablesOf (now (file .entry))) w (now (work .entry)) plan)) r (walkState (tablesOf (now (file .entry))) (r .walk) (now (work .exit)) plan)) ⌝ }
+{
+    if let Run::Of(_, _) = pairs_of(file, index, node) {
+        let slot = Slot::plain(SlotKind::Const(0));
+        return Begun {
+            next: Next::Partial,
+            slot,
+            walk: w,
+        };
+    }
+    done(unresolved(file, index, work, node, mark, w))
+}
+
+// A read: matched where it resolves.
+fn begin_read(file: &[u8], index: &[u16], work: &mut [u8], node: usize, w: Walk) -> Begun
+    requires { ⌜ Ready (now file) (now index) ⌝ }
+    ensures { λ r. ⌜ ((address ty : ℕ) (path : File.FieldPath) (plan : List ℕ) → Begins (tablesOf (now (file .entry))) address node ty path (λ below. Rules.read (ops (tablesOf (now (file .entry)))) (tablesOf (now (file .entry))) address below node ty path (walkState (tablesOf (now (file .entry))) w (now (work .entry)) plan)) r (walkState (tablesOf (now (file .entry))) (r .walk) (now (work .exit)) plan)) ⌝ }
+{
+    let lists = w.lists;
+    let ends = lists.ends;
+    let a = resolve(file, index, work, node, lists);
+    let walk = w.listed(a.lists);
+    if a.some {
+        let slot = a.slot;
+        return Begun {
+            next: Next::Matched,
+            slot,
+            walk,
+        };
+    }
+    begin_pieces(file, index, work, node, ends.diagnostics, walk)
+}
+
+// A record pattern: an injection where the field is a union.
+fn begin_record(
+    file: &[u8],
+    index: &[u16],
+    work: &mut [u8],
+    node: usize,
+    ty: usize,
+    w: Walk,
+) -> Begun
+    requires { ⌜ Ready (now file) (now index) ⌝ }
+    requires { ⌜ ty < length (tablesOf (now file) .types) ⌝ }
+    ensures { λ r. ⌜ ((address : ℕ) (path : File.FieldPath) (plan : List ℕ) → Begins (tablesOf (now (file .entry))) address node ty path (λ below. recordWalk (tablesOf (now (file .entry))) address below node ty path (walkState (tablesOf (now (file .entry))) w (now (work .entry)) plan)) r (walkState (tablesOf (now (file .entry))) (r .walk) (now (work .exit)) plan)) ⌝ }
+{
+    if let Run::Of(_, _) = union_ty(file, index, ty) {
+        let slot = Slot::plain(SlotKind::Const(0));
+        return Begun {
+            next: Next::Inject,
+            slot,
+            walk: w,
+        };
+    }
+    begin_read(file, index, work, node, w)
+}
+
+// Whether a row's predicate is the one that a field refers to.
+fn refers_to(p: MaybePredicate, referenced: MaybePredicate) -> bool
+    ensures { λ r. ⌜ r ≡ Rules.refersTo (predicateOption p) (predicateOption referenced) ⌝ }
+{
+    let MaybePredicate::Just(a) = p else {
+        return false;
+    };
+    if let MaybePredicate::Just(b) = referenced {
+        a.0 == b.0
+    } else {
+        false
+    }
+}
+
+// A join through a reference: a row matches a field that refers to its own predicate.
+fn meet_row(
+    file: &[u8],
+    index: &[u16],
+    work: &mut [u8],
+    plan: &mut [u8],
+    node: usize,
+    from: Address,
+    predicate: MaybePredicate,
+    ty: usize,
+    path: FieldPath,
+    w: Walk,
+) -> Walk
+    requires { ⌜ Indexed (now file) (now index) ⌝ }
+    ensures { λ r. ⌜ ((address : ℕ) (below : FieldWalk State) → (walkState (tablesOf (now (file .entry))) r (now (work .exit)) (now (plan .exit))) ≡ Rules.matched (ops (tablesOf (now (file .entry)))) (tablesOf (now (file .entry))) address below node (File.Slot.Row (from .0) (predicateOption predicate)) ty (pathOf path) (walkState (tablesOf (now (file .entry))) w (now (work .entry)) (now (plan .entry)))) ⌝ }
+{
+    if refers_to(predicate, fact_ty(file, index, ty)) {
+        return w.fact_id(path, from, plan);
+    }
+    w.report(work, node, Code::RejectTypeMismatch)
+}
+
+// A register's field. The level's own register is the row at hand: reported, and building stays.
+fn meet_field(
+    work: &mut [u8],
+    plan: &mut [u8],
+    node: usize,
+    from: Address,
+    at: FieldPath,
+    address: Address,
+    path: FieldPath,
+    w: Walk,
+) -> Walk
+    ensures { λ r. ⌜ ((T : File.Tables) (below : FieldWalk State) (ty t : ℕ) → walkState T r (now (work .exit)) (now (plan .exit)) ≡ Rules.matched (ops T) T (address .0) below node (File.Slot.Field (from .0) (pathOf at) ty) t (pathOf path) (walkState T w (now (work .entry)) (now (plan .entry)))) ⌝ }
+{
+    if from.0 == address.0 {
+        return w.report(work, node, Code::NyiRepeatedVariable);
+    }
+    w.register_field(path, from, at, plan)
+}
+
+fn unopened(w: Walk) -> Met
+    ensures { λ r. ⌜ (r .partial ≡ false) × (r .walk ≡ w) ⌝ }
+{
+    Met {
+        partial: false,
+        node: 0,
+        walk: w,
+    }
+}
+
+fn unchosen(w: Walk) -> Chosen
+    ensures { λ r. ⌜ (r .go ≡ false) × (r .walk ≡ w) ⌝ }
+{
+    Chosen {
+        go: false,
+        disc: 0,
+        node: 0,
+        ty: 0,
+        walk: w,
+    }
+}
+
+// The alternative that the one pair of a union value names.
+fn choose_alternative(
+    file: &[u8],
+    index: &[u16],
+    work: &mut [u8],
+    node: usize,
+    ty: usize,
+    w: Walk,
+) -> Chosen
+    requires { ⌜ Ready (now file) (now index) ⌝ }
+    requires { ⌜ ty < length (tablesOf (now file) .types) ⌝ }
+    ensures { λ r. ⌜ ((address : ℕ) (path : File.FieldPath) (plan : List ℕ) → Chooses (tablesOf (now (file .entry))) address ty path (λ below. injectFields (tablesOf (now (file .entry))) address below (recordFields (nodeAt (tablesOf (now (file .entry))) node)) (File.unionTy (File.typeAt (tablesOf (now (file .entry))) ty)) node path (walkState (tablesOf (now (file .entry))) w (now (work .entry)) plan)) r (walkState (tablesOf (now (file .entry))) (r .walk) (now (work .exit)) plan)) ⌝ }
+{
+    let Run::Of(k, at) = pairs_of(file, index, node) else {
+        return unchosen(w);
+    };
+    let Run::Of(m, from) = union_ty(file, index, ty) else {
+        return unchosen(w);
+    };
+    if k != 1 {
+        return unchosen(w.decline(work, node, Code::RejectUnionArity));
+    }
+    let p = field_pattern_at(file, at, 0);
+    let MaybeAlternative::Just(a) = alternative_of(file, from, m, p.name) else {
+        return unchosen(w.decline(work, node, Code::RejectUnknownAlternative));
+    };
+    Chosen {
+        go: true,
+        disc: a.disc,
+        node: p.node,
+        ty: a.ty,
+        walk: w,
     }
 }

@@ -1,6 +1,6 @@
 use native.Mathlib.Omega.{arith}
 use Rattle.ready.proofs.Given.{sound-tables}
-use Rattle.begin.proofs.Opens.{no-pairs, no-fields, inside-pairs, inside-fields, count-is, piece-some, piece-none, nothing-there}
+use Rattle.begin.proofs.Opens.{no-pairs, run-inside, no-fields, count-is, piece-some, piece-none, nothing-there}
 use borrow.Author.Needs.{needs}
 use Rattle.begin.proofs.piece_at.Statement.{statement}
 use Rattle.begin.proofs.piece_at.Tie as tie
@@ -46,13 +46,13 @@ returns-2 c = nothing-there _ _ _ _ _ (c .before .before .before .before .before
 -- src/lib.rt:108:9
 field-ty-at-requires : tie.Need-field-ty-at-requires
 field-ty-at-requires c κs =
-    let i = inside-fields _ _ _ _ _ (c .before .before .before .before .before .before .before .pairs-of .ensures) _ (c .before .before .before .record-ty .ensures) _ _ _ _ (c .before .before .before .before .before .n .given .1) (c .before .k .given .1) in
+    let i = run-inside _ _ _ _ _ (c .before .before .before .record-ty .ensures) _ _ (c .before .k .given .1) in
     let k = count-is _ _ _ _ _ (c .before .before .before .before .before .before .before .pairs-of .ensures) _ (c .before .before .before .record-ty .ensures) _ _ _ _ (c .before .before .before .before .before .n .given .1) (c .before .k .given .1) in
     omega (arith, i, k, c .before .before .before .before .before .before .before .before .before .before .pre .1 .1)
 
 -- src/lib.rt:109:27
 field-pattern-requires : tie.Need-field-pattern-requires
-field-pattern-requires c κs = inside-pairs _ _ _ _ _ (c .before .before .before .before .before .before .before .before .pairs-of .ensures) _ (c .before .before .before .before .record-ty .ensures) _ _ _ _ (c .before .before .before .before .before .before .n .given .1) (c .before .before .k .given .1)
+field-pattern-requires c κs = run-inside _ _ _ _ _ (c .before .before .before .before .before .before .before .before .pairs-of .ensures) _ _ (c .before .before .before .before .before .before .n .given .1)
 
 -- src/lib.rt:109:22
 enum-known-p : tie.Need-enum-known-p

@@ -1,7 +1,7 @@
 use mathlib.Core.Path.{ap, sym}
 use native.Mathlib.Omega.{arith}
 use lib.ListN.{length}
-use Rattle.begin.proofs.Opens.{no-pairs, no-fields, inside-fields, count-is}
+use Rattle.begin.proofs.Opens.{no-pairs, run-inside, no-fields, count-is}
 use borrow.Author.Needs.{needs}
 use Rattle.begin.proofs.pieces.Statement.{statement}
 use Rattle.begin.proofs.pieces.Tie as tie
@@ -40,7 +40,7 @@ enum-told-2 c = search needs
 
 -- src/lib.rt:72:1
 returns-2 : tie.Need-returns-2
-returns-2 c = (count-is _ _ _ _ _ (c .before .before .before .before .before .before .before .pairs-of .ensures) _ (c .before .before .before .record-ty .ensures) _ _ _ _ (c .before .before .before .before .before .n .given .1) (c .before .k .given .1), omega (arith, inside-fields _ _ _ _ _ (c .before .before .before .before .before .before .before .pairs-of .ensures) _ (c .before .before .before .record-ty .ensures) _ _ _ _ (c .before .before .before .before .before .n .given .1) (c .before .k .given .1), c .before .before .before .before .before .before .before .before .before .before .pre .0 .indexed .small))
+returns-2 c = (count-is _ _ _ _ _ (c .before .before .before .before .before .before .before .pairs-of .ensures) _ (c .before .before .before .record-ty .ensures) _ _ _ _ (c .before .before .before .before .before .n .given .1) (c .before .k .given .1), omega (arith, run-inside _ _ _ _ _ (c .before .before .before .record-ty .ensures) _ _ (c .before .k .given .1), c .before .before .before .before .before .before .before .before .before .before .pre .0 .indexed .small))
 
 -- src/lib.rt:72:1
 returns-3 : tie.Need-returns-3

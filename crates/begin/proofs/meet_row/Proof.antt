@@ -1,0 +1,55 @@
+use Rattle.begin.proofs.Meetings.{row-refers, row-other}
+use borrow.Author.Needs.{needs}
+use Rattle.begin.proofs.meet_row.Statement.{statement}
+use Rattle.begin.proofs.meet_row.Tie as tie
+use Rattle.begin.proofs.meet_row.Reads as reads
+use Rattle.begin.proofs.meet_row.Lts as lts
+use Rattle.begin.proofs.refers_to.Reads as refers-to-reads
+use Rattle.lookup.proofs.fact_ty.Reads as fact-ty-reads
+use Rattle.step.proofs.Walk.fact_id.Reads as fact-id-reads
+use Rattle.step.proofs.Walk.report.Reads as report-reads
+
+-- src/lib.rt:271:29
+fact-ty-requires : tie.Need-fact-ty-requires
+fact-ty-requires c κs = search needs
+
+-- src/lib.rt:271:8
+refers-to-requires : tie.Need-refers-to-requires
+refers-to-requires c κs = search needs
+
+-- src/lib.rt:272:9
+fact-id-requires : tie.Need-fact-id-requires
+fact-id-requires c κs = search needs
+
+-- src/lib.rt:272:9
+same-length : tie.Need-same-length
+same-length c = search needs
+
+-- src/lib.rt:272:9
+returns : tie.Need-returns
+returns c = λ a below. row-refers _ a below _ _ _ _ _ _ _ _ (c .before .before .before .before .before .refers-to .ensures) (c .before .before .before .before .before .before .fact-ty .ensures) (c .before .before .before .before .if1 .taken) _ (c .before .before .fact-id .ensures _ _)
+
+-- src/lib.rt:274:5
+report-requires : tie.Need-report-requires
+report-requires c κs = search needs
+
+-- src/lib.rt:256:1
+same-length-2 : tie.Need-same-length-2
+same-length-2 c = search needs
+
+-- src/lib.rt:256:1
+returns-2 : tie.Need-returns-2
+returns-2 c = λ a below. row-other _ a below _ _ _ _ _ _ _ _ (c .before .before .before .before .before .refers-to .ensures) (c .before .before .before .before .before .before .fact-ty .ensures) (c .before .before .before .before .if1 .left) _ (c .before .before .report .ensures _ _)
+
+pub meet-row-spec : {M : Type 1} → statement M
+meet-row-spec =
+    tie.close
+    (tie.spec
+    fact-ty-requires
+    refers-to-requires
+    fact-id-requires
+    same-length
+    returns
+    report-requires
+    same-length-2
+    returns-2)
