@@ -30,6 +30,7 @@ use Rattle.lookups.specs.declared.Run.{Run}
 use Rattle.lookups.specs.declared.Run.the-variants as Ru
 use Rattle.step.specs.Step.{walkState}
 use Rattle.step.specs.declared.Walk.{Walk}
+use Rattle.constrain.specs.Constrain.{orElse, Narrows}
 use Rattle.begin.specs.Pieces.{Lower}
 use Rattle.begin.specs.Begin.{injectFields, injectAt, injected, Chooses}
 use Rattle.begin.specs.declared.Chosen.{Chosen}
@@ -43,6 +44,20 @@ module _ (T : Tables) (a t : ℕ) (path : File.FieldPath) where
             ap (λ x. injected T a below x (r .disc) (r .node) (r .ty) path (walkState T (r .walk) work plan)) (e .0) ∙ ap (λ (v : Walk). walkState T v work plan) (e .1) ∙ h below;
         lower = λ q. absurd (true≢false (sym q ∙ e .0));
       }
+
+  -- the whole union's constant, or its alternative
+  module _ (n : ℕ) (s₀ s : State) (b : Bool) (g : Narrows T n t path s₀ b s) where
+    whole-is : (below : FieldWalk State) (x : Bool) → b ≡ x → orElse x (injectFields T a below (recordFields (nodeAt T n)) (unionTy (typeAt T t)) n path) s ≡ injectAt T a below n t path s₀
+    unfolding injectAt
+    whole-is below x e = ap (λ y. orElse y (injectFields T a below (recordFields (nodeAt T n)) (unionTy (typeAt T t)) n path) s) (sym e) ∙ g .is (injectFields T a below (recordFields (nodeAt T n)) (unionTy (typeAt T t)) n path)
+
+    pub whole-constant : b ≡ true → (below : FieldWalk State) → s ≡ injectAt T a below n t path s₀
+    unfolding orElse
+    whole-constant e below = whole-is below true e
+
+    pub whole-other : b ≡ false → (r : Chosen) (s′ : State) → Chooses T a t path (λ below. injectFields T a below (recordFields (nodeAt T n)) (unionTy (typeAt T t)) n path s) r s′ → Chooses T a t path (λ below. injectAt T a below n t path s₀) r s′
+    unfolding orElse
+    whole-other e r s′ c = record { is = λ below. c .is below ∙ whole-is below false e; lower = c .lower }
 
   module _ (n : ℕ) (s : State) (f : List ℕ) (pr : Run) (pairs : SeenRun f (patternAt f) 4 (recordFields (nodeAt T n)) pr) where
     abbrev goal : FieldWalk State → State

@@ -24,6 +24,7 @@ use Rattle.slots.specs.declared.SlotKind.{SlotKind}
 use Rattle.slots.specs.declared.SlotKind.the-variants as Sk
 use Rattle.step.specs.Step.{walkState}
 use Rattle.step.specs.declared.Walk.{Walk}
+use Rattle.constrain.specs.Constrain.{orElse, Narrows}
 use Rattle.begin.specs.Begin.{opened, Meets}
 use Rattle.begin.specs.declared.Met.{Met}
 
@@ -76,6 +77,20 @@ module _ (T : Tables) (a t : ℕ) (path : File.FieldPath) where
         is = λ below.
             ap (λ x. opened T a below x (r .node) t path (walkState T (r .walk) work plan)) (e .0) ∙ ap (λ (v : Walk). walkState T v work plan) (e .1) ∙ h below;
       }
+
+  -- a constant: its bytes, or its pieces
+  module _ (n folded : ℕ) (s₀ s : State) (b : Bool) (g : Narrows T folded t path s₀ b s) where
+    const-is : (below : FieldWalk State) (x : Bool) → b ≡ x → orElse x (partial (ops T) T a below folded t path) s ≡ matched (ops T) T a below n (File.Slot.Const folded) t path s₀
+    unfolding matched
+    const-is below x e = ap (λ y. orElse y (partial (ops T) T a below folded t path) s) (sym e) ∙ g .is (partial (ops T) T a below folded t path)
+
+    pub const-bytes : b ≡ true → (below : FieldWalk State) → s ≡ matched (ops T) T a below n (File.Slot.Const folded) t path s₀
+    unfolding orElse
+    const-bytes e below = const-is below true e
+
+    pub const-pieces : b ≡ false → (w : Walk) → Meets T a t path (λ below. matched (ops T) T a below n (File.Slot.Const folded) t path s₀) (record { partial = true; node = folded; walk = w }) s
+    unfolding orElse opened
+    const-pieces e w = record { is = λ below. const-is below false e }
 
   -- the slot by its kind
   module _ (n : ℕ) (slot : Slot) (s₀ : State) where

@@ -12,7 +12,7 @@ use Rattle.rules.specs.Constant.{constant, onlyField}
 use Rattle.rules.specs.Events.{Code}
 use Rattle.rules.specs.Walk.{FieldWalk, narrowBy, constrain, injectOnly, inject, read, ranged, variable, fieldNode}
 use Rattle.rules.proofs.Idle.{idle-fieldNode}
-use Rattle.state.specs.State.{State}
+use Rattle.state.specs.State.{Level, Target, State}
 use Rattle.state.specs.Ops.{ops, bind, report, skip}
 use Rattle.state.proofs.Stopped.{stopped}
 use Rattle.views.specs.Views.{nodeOf, alternativeAt, SeenNode}
@@ -26,11 +26,17 @@ use Rattle.slots.specs.declared.MaybeSlot.{MaybeSlot}
 use Rattle.lookups.specs.Lookups.{SeenRun}
 use Rattle.lookups.specs.declared.Run.{Run}
 use Rattle.lookups.specs.declared.Run.the-variants as Ru
+use Rattle.lists.specs.Lists.{stateWith}
 use Rattle.step.specs.Step.{walkState}
 use Rattle.step.specs.declared.Walk.{Walk}
 use Rattle.begin.specs.Begin.{injectFields, injectAt, recordWalk, finish, Begins}
 use Rattle.begin.specs.declared.Next.the-variants as Nx
 use Rattle.begin.specs.declared.Begun.{Begun}
+
+-- a name looked up, whatever the level
+pub looked-up : (T : Tables) (x : ℕ) (m : MaybeSlot) (w : Walk) (work plan : List ℕ) → ((l : Level) (g : Target) (p : List ℕ) → slotOption m ≡ ops T .lookup (stateWith (w .lists) l g work p) x) → slotOption m ≡ ops T .lookup (walkState T w work plan) x
+unfolding walkState
+looked-up T x m w work plan k = k _ _ plan
 
 -- a variable, by whether its name is bound
 module _ (T : Tables) (a x n t : ℕ) (path : File.FieldPath) (s₀ : State) (m : MaybeSlot) (k : slotOption m ≡ ops T .lookup s₀ x) where

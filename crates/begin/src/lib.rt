@@ -20,8 +20,12 @@ ghost use Rattle.lookups.specs.Lookups.{SeenRun};
 ghost use Rattle.step.specs.Step.{walkState};
 ghost use Rattle.begin.specs.Pieces.{Fits, fieldsFor, Pieced};
 ghost use Rattle.begin.specs.Begin.{injectAt, injectFields, recordWalk, Begins, Meets, Chooses};
+use constrain::constrain;
+use constrain::narrow;
+use constrain::ranged;
 use entries::node_of;
 use lists::Code;
+use lists::lookup;
 use lookup::fact_ty;
 use lookups::Found;
 use lookups::MaybeAlternative;
@@ -228,6 +232,32 @@ fn begin_read(file: &[u8], index: &[u16], work: &mut [u8], node: usize, w: Walk)
     begin_pieces(file, index, work, node, ends.diagnostics, walk)
 }
 
+// A variable binds while it is new, before its constraints are read; else it is a read.
+fn begin_variable(
+    file: &[u8],
+    index: &[u16],
+    work: &mut [u8],
+    plan: &mut [u8],
+    name: usize,
+    node: usize,
+    ty: usize,
+    address: Address,
+    path: FieldPath,
+    w: Walk,
+) -> Begun
+    requires { ⌜ Ready (now file) (now index) ⌝ }
+    requires { ⌜ ty < length (tablesOf (now file) .types) ⌝ }
+    ensures { λ r. ⌜ Begins (tablesOf (now (file .entry))) (address .0) node ty (pathOf path) (λ below. Rules.variable (ops (tablesOf (now (file .entry)))) (tablesOf (now (file .entry))) (address .0) below name node ty (pathOf path) (walkState (tablesOf (now (file .entry))) w (now (work .entry)) (now (plan .entry)))) r (walkState (tablesOf (now (file .entry))) (r .walk) (now (work .exit)) (now (plan .exit))) ⌝ }
+{
+    let found = lookup(file, index, work, w.lists, name);
+    if found.some {
+        return begin_read(file, index, work, node, w);
+    }
+    let slot = Slot::field(address, path, ty);
+    let b = w.bind(work, name, slot);
+    done(constrain(file, index, work, plan, name, ty, path, b))
+}
+
 // A record pattern: an injection where the field is a union.
 fn begin_record(
     file: &[u8],
@@ -250,6 +280,38 @@ fn begin_record(
         };
     }
     begin_read(file, index, work, node, w)
+}
+
+// `field`, by the pattern's kind. Once the plan is too long nothing changes any more, and the walk ends at once.
+pub fn begin(
+    file: &[u8],
+    index: &[u16],
+    work: &mut [u8],
+    plan: &mut [u8],
+    node: usize,
+    ty: usize,
+    address: Address,
+    path: FieldPath,
+    w: Walk,
+) -> Begun
+    requires { ⌜ Ready (now file) (now index) ⌝ }
+    requires { ⌜ Fits (tablesOf (now file)) path ty ⌝ }
+    ensures { λ r. ⌜ Begins (tablesOf (now (file .entry))) (address .0) node ty (pathOf path) (λ below. Rules.fieldNode (ops (tablesOf (now (file .entry)))) (tablesOf (now (file .entry))) (address .0) below (nodeAt (tablesOf (now (file .entry))) node) node ty (pathOf path) (walkState (tablesOf (now (file .entry))) w (now (work .entry)) (now (plan .entry)))) r (walkState (tablesOf (now (file .entry))) (r .walk) (now (work .exit)) (now (plan .exit))) ⌝ }
+{
+    let lists = w.lists;
+    if lists.over {
+        return done(w);
+    }
+    match node_of(file, index, node) {
+        NodeView::Var(x) => begin_variable(file, index, work, plan, x, node, ty, address, path, w),
+        NodeView::Wildcard => done(w.skip()),
+        NodeView::Never => done(w.decline(work, node, Code::NyiNever)),
+        NodeView::Prefix(_) => done(ranged(file, index, work, plan, node, ty, path, w)),
+        NodeView::Fuzzy(_, _, _) => done(ranged(file, index, work, plan, node, ty, path, w)),
+        NodeView::Record(_, _) => begin_record(file, index, work, node, ty, w),
+        NodeView::Disjunction => done(w.decline(work, node, Code::NyiDisjunction)),
+        _ => begin_read(file, index, work, node, w),
+    }
 }
 
 // Whether a row's predicate is the one that a field refers to.
@@ -317,6 +379,80 @@ fn unopened(w: Walk) -> Met
     }
 }
 
+// A constant: its bytes, or else its pieces.
+fn meet_const(
+    file: &[u8],
+    index: &[u16],
+    plan: &mut [u8],
+    folded: usize,
+    ty: usize,
+    path: FieldPath,
+    w: Walk,
+) -> Met
+    requires { ⌜ Ready (now file) (now index) ⌝ }
+    requires { ⌜ ty < length (tablesOf (now file) .types) ⌝ }
+    ensures { λ r. ⌜ ((address node : ℕ) (work : List ℕ) → Meets (tablesOf (now (file .entry))) address ty (pathOf path) (λ below. Rules.matched (ops (tablesOf (now (file .entry)))) (tablesOf (now (file .entry))) address below node (File.Slot.Const folded) ty (pathOf path) (walkState (tablesOf (now (file .entry))) w work (now (plan .entry)))) r (walkState (tablesOf (now (file .entry))) (r .walk) work (now (plan .exit)))) ⌝ }
+{
+    let n = narrow(file, index, plan, folded, ty, path, w);
+    let walk = n.walk;
+    if n.some {
+        return unopened(walk);
+    }
+    Met {
+        partial: true,
+        node: folded,
+        walk,
+    }
+}
+
+// `matched`, by the slot's kind.
+pub fn meet(
+    file: &[u8],
+    index: &[u16],
+    work: &mut [u8],
+    plan: &mut [u8],
+    node: usize,
+    slot: Slot,
+    ty: usize,
+    address: Address,
+    path: FieldPath,
+    w: Walk,
+) -> Met
+    requires { ⌜ Ready (now file) (now index) ⌝ }
+    requires { ⌜ ty < length (tablesOf (now file) .types) ⌝ }
+    ensures { λ r. ⌜ Meets (tablesOf (now (file .entry))) (address .0) ty (pathOf path) (λ below. Rules.matched (ops (tablesOf (now (file .entry)))) (tablesOf (now (file .entry))) (address .0) below node (slotOf slot) ty (pathOf path) (walkState (tablesOf (now (file .entry))) w (now (work .entry)) (now (plan .entry)))) r (walkState (tablesOf (now (file .entry))) (r .walk) (now (work .exit)) (now (plan .exit))) ⌝ }
+{
+    let kind = slot.kind;
+    match kind {
+        SlotKind::Row(from, p) => unopened(meet_row(
+            file,
+            index,
+            work,
+            plan,
+            node,
+            from,
+            p,
+            ty,
+            path,
+            w,
+        )),
+        SlotKind::Key(_, _) => unopened(w.decline(work, node, Code::NyiWholeKey)),
+        SlotKind::Derived(_) => unopened(w.decline(work, node, Code::NyiValueMatch)),
+        SlotKind::Field(from, _) => unopened(meet_field(
+            work,
+            plan,
+            node,
+            from,
+            slot.path,
+            address,
+            path,
+            w,
+        )),
+        SlotKind::Value(_, _) => unopened(w.report(work, node, Code::NyiValueMatch)),
+        SlotKind::Const(n) => meet_const(file, index, plan, n, ty, path, w),
+    }
+}
+
 fn unchosen(w: Walk) -> Chosen
     ensures { λ r. ⌜ (r .go ≡ false) × (r .walk ≡ w) ⌝ }
 {
@@ -362,4 +498,27 @@ fn choose_alternative(
         ty: a.ty,
         walk: w,
     }
+}
+
+// `inject`: the whole union's constant, or else the alternative that is walked.
+pub fn choose(
+    file: &[u8],
+    index: &[u16],
+    work: &mut [u8],
+    plan: &mut [u8],
+    node: usize,
+    ty: usize,
+    path: FieldPath,
+    w: Walk,
+) -> Chosen
+    requires { ⌜ Ready (now file) (now index) ⌝ }
+    requires { ⌜ ty < length (tablesOf (now file) .types) ⌝ }
+    ensures { λ r. ⌜ ((address : ℕ) → Chooses (tablesOf (now (file .entry))) address ty (pathOf path) (λ below. injectAt (tablesOf (now (file .entry))) address below node ty (pathOf path) (walkState (tablesOf (now (file .entry))) w (now (work .entry)) (now (plan .entry)))) r (walkState (tablesOf (now (file .entry))) (r .walk) (now (work .exit)) (now (plan .exit)))) ⌝ }
+{
+    let n = narrow(file, index, plan, node, ty, path, w);
+    let walk = n.walk;
+    if n.some {
+        return unchosen(walk);
+    }
+    choose_alternative(file, index, work, node, ty, walk)
 }

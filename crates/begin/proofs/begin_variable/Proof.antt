@@ -1,0 +1,77 @@
+use Rattle.begin.proofs.Reading.{begins-done}
+use Rattle.begin.proofs.Starts.{looked-up, variable-bound, variable-new}
+use borrow.Author.Needs.{needs}
+use Rattle.begin.proofs.begin_variable.Statement.{statement}
+use Rattle.begin.proofs.begin_variable.Tie as tie
+use Rattle.begin.proofs.begin_variable.Reads as reads
+use Rattle.begin.proofs.begin_variable.Lts as lts
+use Rattle.begin.proofs.begin_read.Reads as begin-read-reads
+use Rattle.begin.proofs.done.Reads as done-reads
+use Rattle.constrain.proofs.constrain.Reads as constrain-reads
+use Rattle.lists.proofs.lookup.Reads as lookup-reads
+use Rattle.slots.proofs.Slot.field.Reads as field-reads
+use Rattle.step.proofs.Walk.bind.Reads as bind-reads
+
+-- src/lib.rt:245:9
+lookup-requires : tie.Need-lookup-requires
+lookup-requires c κs = search needs
+
+-- src/lib.rt:247:9
+begin-read-requires : tie.Need-begin-read-requires
+begin-read-requires c κs = search needs
+
+-- src/lib.rt:247:9
+same-length : tie.Need-same-length
+same-length c = search needs
+
+-- src/lib.rt:247:9
+returns : tie.Need-returns
+returns c =
+    let m = c .before .before .before .before .before .lookup in
+    variable-bound _ _ _ _ _ _ _ (m .result) (looked-up _ _ (m .result) _ _ _ (m .ensures)) (c .before .before .before .before .if1 .taken) _ _ (c .before .before .begin-read .ensures _ _ _ _)
+
+-- src/lib.rt:249:9
+field-requires : tie.Need-field-requires
+field-requires c κs = search needs
+
+-- src/lib.rt:250:9
+bind-requires : tie.Need-bind-requires
+bind-requires c κs = search needs
+
+-- src/lib.rt:251:10
+constrain-requires : tie.Need-constrain-requires
+constrain-requires c κs = search needs
+
+-- src/lib.rt:251:5
+done-requires : tie.Need-done-requires
+done-requires c κs = search needs
+
+-- src/lib.rt:229:1
+same-length-2 : tie.Need-same-length-2
+same-length-2 c = search needs
+
+-- src/lib.rt:229:1
+same-length-3 : tie.Need-same-length-3
+same-length-3 c = search needs
+
+-- src/lib.rt:229:1
+returns-2 : tie.Need-returns-2
+returns-2 c =
+    let m = c .before .before .before .before .before .before .before .before .before .before .before .before .before .before .lookup in
+    begins-done _ _ _ _ _ _ _ _ _ _ (c .done .ensures) (variable-new _ _ _ _ _ _ _ (m .result) (looked-up _ _ (m .result) _ _ _ (m .ensures)) (c .before .before .before .before .before .before .before .before .before .before .before .before .before .if1 .left) _ _ _ (c .before .before .before .before .before .before .before .before .before .before .before .before .field .ensures) (c .before .before .before .before .before .before .before .before .before .before .bind .ensures _ _) (c .before .before .before .before .before .constrain .ensures))
+
+pub begin-variable-spec : {M : Type 1} → statement M
+begin-variable-spec =
+    tie.close
+    (tie.spec
+    lookup-requires
+    begin-read-requires
+    same-length
+    returns
+    field-requires
+    bind-requires
+    constrain-requires
+    done-requires
+    same-length-2
+    same-length-3
+    returns-2)
