@@ -1,0 +1,23 @@
+use Rattle.runs.proofs.Copies.{run-size}
+use borrow.Author.Needs.{needs}
+use Rattle.runs.proofs.run_len.Statement.{statement}
+use Rattle.runs.proofs.run_len.Tie as tie
+use Rattle.runs.proofs.run_len.Reads as reads
+use Rattle.runs.proofs.run_len.Lts as lts
+use Rattle.runs.proofs.least.Reads as least-reads
+use Rattle.runs.proofs.past.Reads as past-reads
+
+-- src/lib.rt:41:10
+least-requires : tie.Need-least-requires
+least-requires c κs = search needs
+
+-- src/lib.rt:41:5
+past-requires : tie.Need-past-requires
+past-requires c κs = search needs
+
+-- src/lib.rt:38:1
+returns : tie.Need-returns
+returns c = run-size _ _ _ _ _ (c .before .least .ensures) (c .past .ensures)
+
+pub run-len-spec : {M : Type 1} → statement M
+run-len-spec = tie.close (tie.spec least-requires past-requires returns)
