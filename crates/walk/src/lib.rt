@@ -1,0 +1,349 @@
+// The walk of a pattern against a type. Each round of the four descends one type, whose number falls.
+ghost use mathlib.Core.Path.{_≡_};
+ghost use Prim.Native.Nat.{_<_};
+ghost use lib.ListN.{length};
+ghost use Rattle.rules.specs.File.{nodeAt, fieldPath};
+ghost use Rattle.rules.specs.Walk as Rules;
+ghost use Rattle.state.specs.Ops.{ops, skip};
+ghost use Rattle.file.specs.Tables.{tablesOf};
+ghost use Rattle.paths.specs.Paths.{pathOf};
+ghost use Rattle.slots.specs.Slots.{slotOf, Roomy};
+ghost use Rattle.ready.specs.Ready.{Ready};
+ghost use Rattle.step.specs.Step.{walkState};
+ghost use Rattle.begin.specs.Pieces.{Fits, patternsOf, fieldsFor};
+ghost use Rattle.begin.specs.Begin.{injectAt};
+ghost use Rattle.walk.specs.Walks.{Walks, Gives, fieldsOf, wholeField};
+use begin::Next;
+use begin::begin;
+use begin::choose;
+use begin::meet;
+use begin::pairs_of;
+use begin::piece_at;
+use begin::pieces;
+use entries::node_of;
+use lists::lookup;
+use lookups::Run;
+use lookups::record_ty;
+use paths::Address;
+use paths::FieldPath;
+use resolve::field_slot;
+use resolve::resolve;
+use slots::Slot;
+use slots::SlotKind;
+use step::Walk;
+use views::NodeView;
+use views::field_ty_at;
+
+// One key field: seek, splice, residual, or capture.
+pub fn field(
+    file: &[u8],
+    index: &[u16],
+    work: &mut [u8],
+    plan: &mut [u8],
+    node: usize,
+    ty: usize,
+    address: Address,
+    path: FieldPath,
+    w: Walk,
+) -> Walk
+    requires { ⌜ Ready (now file) (now index) ⌝ }
+    requires { ⌜ Fits (tablesOf (now file)) path ty ⌝ }
+    ensures { λ r. ⌜ Walks (tablesOf (now (file .entry))) (address .0) node ty (pathOf path) (walkState (tablesOf (now (file .entry))) w (now (work .entry)) (now (plan .entry))) (walkState (tablesOf (now (file .entry))) r (now (work .exit)) (now (plan .exit))) ⌝ }
+{
+    let b = begin(file, index, work, plan, node, ty, address, path, w);
+    let next = b.next;
+    match next {
+        Next::Done => b.walk,
+        Next::Matched => matched(
+            file,
+            index,
+            work,
+            plan,
+            node,
+            b.slot,
+            ty,
+            address,
+            path,
+            b.walk,
+        ),
+        Next::Partial => partial(file, index, work, plan, node, ty, address, path, b.walk),
+        Next::Inject => inject(file, index, work, plan, node, ty, address, path, b.walk),
+    }
+}
+
+// A field matched against a slot. A constant that does not determine the field's bytes is matched piece by piece.
+pub fn matched(
+    file: &[u8],
+    index: &[u16],
+    work: &mut [u8],
+    plan: &mut [u8],
+    node: usize,
+    slot: Slot,
+    ty: usize,
+    address: Address,
+    path: FieldPath,
+    w: Walk,
+) -> Walk
+    requires { ⌜ Ready (now file) (now index) ⌝ }
+    requires { ⌜ Fits (tablesOf (now file)) path ty ⌝ }
+    ensures { λ r. ⌜ Gives (tablesOf (now (file .entry))) (address .0) ty (λ below. Rules.matched (ops (tablesOf (now (file .entry)))) (tablesOf (now (file .entry))) (address .0) below node (slotOf slot) ty (pathOf path) (walkState (tablesOf (now (file .entry))) w (now (work .entry)) (now (plan .entry)))) (walkState (tablesOf (now (file .entry))) r (now (work .exit)) (now (plan .exit))) ⌝ }
+{
+    let m = meet(file, index, work, plan, node, slot, ty, address, path, w);
+    if m.partial {
+        return partial(file, index, work, plan, m.node, ty, address, path, m.walk);
+    }
+    m.walk
+}
+
+// A record pattern that gives some of its fields: building falls, and each piece is matched one step deeper.
+pub fn partial(
+    file: &[u8],
+    index: &[u16],
+    work: &mut [u8],
+    plan: &mut [u8],
+    node: usize,
+    ty: usize,
+    address: Address,
+    path: FieldPath,
+    w: Walk,
+) -> Walk
+    requires { ⌜ Ready (now file) (now index) ⌝ }
+    requires { ⌜ Fits (tablesOf (now file)) path ty ⌝ }
+    ensures { λ r. ⌜ Gives (tablesOf (now (file .entry))) (address .0) ty (λ below. Rules.partial (ops (tablesOf (now (file .entry)))) (tablesOf (now (file .entry))) (address .0) below node ty (pathOf path) (walkState (tablesOf (now (file .entry))) w (now (work .entry)) (now (plan .entry)))) (walkState (tablesOf (now (file .entry))) r (now (work .exit)) (now (plan .exit))) ⌝ }
+{
+    let n = pieces(file, index, node, ty);
+    let mut l = w.skip();
+    let mut i: usize = 0;
+    while i < n {
+        let p = piece_at(file, index, node, ty, i);
+        let step = i as u32;
+        i += 1;
+        if p.some {
+            let q = path.then(step);
+            l = field(file, index, work, plan, p.node, p.ty, address, q, l);
+        }
+    }
+    l
+}
+
+// A union value: tag, payload, closer, unless all of it is constant.
+pub fn inject(
+    file: &[u8],
+    index: &[u16],
+    work: &mut [u8],
+    plan: &mut [u8],
+    node: usize,
+    ty: usize,
+    address: Address,
+    path: FieldPath,
+    w: Walk,
+) -> Walk
+    requires { ⌜ Ready (now file) (now index) ⌝ }
+    requires { ⌜ Fits (tablesOf (now file)) path ty ⌝ }
+    ensures { λ r. ⌜ Gives (tablesOf (now (file .entry))) (address .0) ty (λ below. injectAt (tablesOf (now (file .entry))) (address .0) below node ty (pathOf path) (walkState (tablesOf (now (file .entry))) w (now (work .entry)) (now (plan .entry)))) (walkState (tablesOf (now (file .entry))) r (now (work .exit)) (now (plan .exit))) ⌝ }
+{
+    let c = choose(file, index, work, plan, node, ty, path, w);
+    let open = c.walk;
+    if c.go {
+        let level = open.level;
+        let q = path.payload(c.disc);
+        let tagged = open.tag(path, c.disc, plan);
+        let walked = field(file, index, work, plan, c.node, c.ty, address, q, tagged);
+        return walked.closer(level.building, plan);
+    }
+    open
+}
+
+// A Record against a Record type: a field that no pattern names closes the seek.
+fn record_key(
+    file: &[u8],
+    index: &[u16],
+    work: &mut [u8],
+    plan: &mut [u8],
+    node: usize,
+    ty: usize,
+    address: Address,
+    w: Walk,
+) -> Walk
+    requires { ⌜ Ready (now file) (now index) ⌝ }
+    requires { ⌜ ty < length (tablesOf (now file) .types) ⌝ }
+    ensures { λ r. ⌜ walkState (tablesOf (now (file .entry))) r (now (work .exit)) (now (plan .exit)) ≡ Rules.eachField (Rules.field (ops (tablesOf (now (file .entry)))) (tablesOf (now (file .entry))) (address .0)) skip fieldPath (patternsOf (tablesOf (now (file .entry))) node) 0 (fieldsFor (tablesOf (now (file .entry))) node ty) (walkState (tablesOf (now (file .entry))) w (now (work .entry)) (now (plan .entry))) ⌝ }
+{
+    let n = pieces(file, index, node, ty);
+    let mut l = w;
+    let mut i: usize = 0;
+    while i < n {
+        let p = piece_at(file, index, node, ty, i);
+        let path = FieldPath::field(i as u16);
+        i += 1;
+        if p.some {
+            l = field(file, index, work, plan, p.node, p.ty, address, path, l);
+        } else {
+            l = l.skip();
+        }
+    }
+    l
+}
+
+// One field of a slot, matched against the key's field of its name.
+fn whole_field(
+    file: &[u8],
+    index: &[u16],
+    work: &mut [u8],
+    plan: &mut [u8],
+    node: usize,
+    slot: Slot,
+    name: usize,
+    ty: usize,
+    address: Address,
+    path: FieldPath,
+    w: Walk,
+) -> Walk
+    requires { ⌜ Ready (now file) (now index) ⌝ }
+    requires { ⌜ Roomy (tablesOf (now file)) (slotOf slot) ⌝ }
+    requires { ⌜ Fits (tablesOf (now file)) path ty ⌝ }
+    ensures { λ r. ⌜ walkState (tablesOf (now (file .entry))) r (now (work .exit)) (now (plan .exit)) ≡ wholeField (tablesOf (now (file .entry))) (address .0) node (slotOf slot) name ty (pathOf path) (walkState (tablesOf (now (file .entry))) w (now (work .entry)) (now (plan .entry))) ⌝ }
+{
+    let a = field_slot(file, index, work, node, slot, name, w.lists);
+    let l = w.listed(a.lists);
+    if a.some {
+        return matched(file, index, work, plan, node, a.slot, ty, address, path, l);
+    }
+    l.skip()
+}
+
+fn whole_fields(
+    file: &[u8],
+    index: &[u16],
+    work: &mut [u8],
+    plan: &mut [u8],
+    node: usize,
+    slot: Slot,
+    ty: usize,
+    address: Address,
+    w: Walk,
+) -> Walk
+    requires { ⌜ Ready (now file) (now index) ⌝ }
+    requires { ⌜ ty < length (tablesOf (now file) .types) ⌝ }
+    requires { ⌜ Roomy (tablesOf (now file)) (slotOf slot) ⌝ }
+    ensures { λ r. ⌜ walkState (tablesOf (now (file .entry))) r (now (work .exit)) (now (plan .exit)) ≡ Rules.wholeFields (ops (tablesOf (now (file .entry)))) (tablesOf (now (file .entry))) (address .0) node (slotOf slot) 0 (fieldsOf (tablesOf (now (file .entry))) ty) (walkState (tablesOf (now (file .entry))) w (now (work .entry)) (now (plan .entry))) ⌝ }
+{
+    let Run::Of(n, at) = record_ty(file, index, ty) else {
+        return w;
+    };
+    let mut l = w;
+    let mut i: usize = 0;
+    while i < n {
+        let f = field_ty_at(file, at, i);
+        let path = FieldPath::field(i as u16);
+        l = whole_field(
+            file,
+            index,
+            work,
+            plan,
+            node,
+            slot,
+            f.name,
+            f.ty,
+            address,
+            path,
+            l,
+        );
+        i += 1;
+    }
+    l
+}
+
+// A read: resolved once, then each of its fields in turn.
+fn whole_read(
+    file: &[u8],
+    index: &[u16],
+    work: &mut [u8],
+    plan: &mut [u8],
+    node: usize,
+    ty: usize,
+    address: Address,
+    w: Walk,
+) -> Walk
+    requires { ⌜ Ready (now file) (now index) ⌝ }
+    requires { ⌜ ty < length (tablesOf (now file) .types) ⌝ }
+    ensures { λ r. ⌜ walkState (tablesOf (now (file .entry))) r (now (work .exit)) (now (plan .exit)) ≡ Rules.wholeRead (ops (tablesOf (now (file .entry)))) (tablesOf (now (file .entry))) (address .0) node (fieldsOf (tablesOf (now (file .entry))) ty) (walkState (tablesOf (now (file .entry))) w (now (work .entry)) (now (plan .entry))) ⌝ }
+{
+    let a = resolve(file, index, work, node, w.lists);
+    let l = w.listed(a.lists);
+    if a.some {
+        return whole_fields(file, index, work, plan, node, a.slot, ty, address, l);
+    }
+    l.skip()
+}
+
+// A new variable binds the whole key, which closes the seek as a bound field does.
+fn whole_variable(
+    file: &[u8],
+    index: &[u16],
+    work: &mut [u8],
+    plan: &mut [u8],
+    name: usize,
+    node: usize,
+    ty: usize,
+    address: Address,
+    w: Walk,
+) -> Walk
+    requires { ⌜ Ready (now file) (now index) ⌝ }
+    requires { ⌜ ty < length (tablesOf (now file) .types) ⌝ }
+    ensures { λ r. ⌜ walkState (tablesOf (now (file .entry))) r (now (work .exit)) (now (plan .exit)) ≡ Rules.wholeVariable (ops (tablesOf (now (file .entry)))) (tablesOf (now (file .entry))) (address .0) name node ty (fieldsOf (tablesOf (now (file .entry))) ty) (walkState (tablesOf (now (file .entry))) w (now (work .entry)) (now (plan .entry))) ⌝ }
+{
+    let found = lookup(file, index, work, w.lists, name);
+    if found.some {
+        return whole_read(file, index, work, plan, node, ty, address, w);
+    }
+    let slot = Slot::plain(SlotKind::Key(address, ty));
+    w.skip().bind(work, name, slot)
+}
+
+// A whole record key in one pattern.
+fn whole_key(
+    file: &[u8],
+    index: &[u16],
+    work: &mut [u8],
+    plan: &mut [u8],
+    node: usize,
+    ty: usize,
+    address: Address,
+    w: Walk,
+) -> Walk
+    requires { ⌜ Ready (now file) (now index) ⌝ }
+    requires { ⌜ ty < length (tablesOf (now file) .types) ⌝ }
+    ensures { λ r. ⌜ walkState (tablesOf (now (file .entry))) r (now (work .exit)) (now (plan .exit)) ≡ Rules.wholeKey (ops (tablesOf (now (file .entry)))) (tablesOf (now (file .entry))) (address .0) (nodeAt (tablesOf (now (file .entry))) node) node ty (fieldsOf (tablesOf (now (file .entry))) ty) (walkState (tablesOf (now (file .entry))) w (now (work .entry)) (now (plan .entry))) ⌝ }
+{
+    match node_of(file, index, node) {
+        NodeView::Var(x) => whole_variable(file, index, work, plan, x, node, ty, address, w),
+        NodeView::Wildcard => w.skip(),
+        _ => whole_read(file, index, work, plan, node, ty, address, w),
+    }
+}
+
+// A level's key pattern, in the order of the type's fields, which is that of its bytes.
+pub fn key(
+    file: &[u8],
+    index: &[u16],
+    work: &mut [u8],
+    plan: &mut [u8],
+    node: usize,
+    ty: usize,
+    address: Address,
+    w: Walk,
+) -> Walk
+    requires { ⌜ Ready (now file) (now index) ⌝ }
+    requires { ⌜ ty < length (tablesOf (now file) .types) ⌝ }
+    ensures { λ r. ⌜ walkState (tablesOf (now (file .entry))) r (now (work .exit)) (now (plan .exit)) ≡ Rules.key (ops (tablesOf (now (file .entry)))) (tablesOf (now (file .entry))) (address .0) node ty (walkState (tablesOf (now (file .entry))) w (now (work .entry)) (now (plan .entry))) ⌝ }
+{
+    let Run::Of(_, _) = record_ty(file, index, ty) else {
+        let path = FieldPath::field(0);
+        return field(file, index, work, plan, node, ty, address, path, w);
+    };
+    if let Run::Of(_, _) = pairs_of(file, index, node) {
+        return record_key(file, index, work, plan, node, ty, address, w);
+    }
+    whole_key(file, index, work, plan, node, ty, address, w)
+}
