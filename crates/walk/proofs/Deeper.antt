@@ -1,12 +1,12 @@
 -- A path one step deeper, at a type below: there is room for the step, and for every step below the new type.
-use Prim.Native.Nat.{ℕ, _+_, _≤_, _<_}
-use mathlib.Core.Path.{_≡_, sym, ap, _∙_}
-use mathlib.Core.List.{List, [], _∷_}
+use Prim.Native.Nat.{ℕ, _<_}
+use mathlib.Core.Path.{sym, ap, _∙_}
+use mathlib.Core.List.{[], _∷_}
 use native.Mathlib.Omega.{arith}
 use lib.ListN.{length, length-append}
 use Rattle.rules.specs.Limits.{stepLimit}
 use Rattle.rules.specs.File as File
-use Rattle.rules.specs.File.{Tables, then, payload, depth}
+use Rattle.rules.specs.File.{Tables, then, payload}
 use Rattle.rules.proofs.Sound.{Sound}
 use Rattle.paths.specs.Paths.{pathOf, Holds}
 use Rattle.paths.specs.declared.FieldPath.{FieldPath}

@@ -9,7 +9,6 @@ use native.Mathlib.Omega.{arith}
 use lib.ListN.{length, getD, drop}
 use Rattle.rules.specs.File as File
 use Rattle.rules.specs.File.{Tables}
-use Rattle.rules.specs.Constant.{fieldPattern}
 use Rattle.rules.specs.Walk.{eachField, fieldBelow}
 use Rattle.state.specs.State.{State}
 use Rattle.state.specs.Ops.{ops}

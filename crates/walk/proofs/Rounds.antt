@@ -1,25 +1,23 @@
 -- What each member of the cycle ends in, from what it began with and what the member that it called gives.
-use Prim.Native.Nat.{ℕ, zero, suc, _+_, _≤_, _<_}
+use Prim.Native.Nat.{ℕ, zero, suc, _≤_, _<_}
 use mathlib.Core.Path.{_≡_, refl, sym, ap, _∙_}
-use mathlib.Core.Bool.{Bool, true, false}
+use mathlib.Core.Bool.{true, false}
 use mathlib.Core.List.{List}
-use mathlib.Core.Option.{Option, none, some}
 use native.Mathlib.Omega.{arith}
-use lib.ListN.{length, getD, drop}
+use lib.ListN.{length}
 use Rattle.rules.specs.File as File
 use Rattle.rules.specs.File.{Tables, nodeAt, then, payload}
-use Rattle.rules.specs.Constant.{fieldPattern}
 use Rattle.rules.specs.Events.{Narrowing}
 use Rattle.rules.specs.Walk.{FieldWalk, eachField, matched, partial, fieldNode, fieldBelow}
 use Rattle.state.specs.State.{State}
 use Rattle.state.specs.Ops.{ops, narrow, skip, closer}
 use Rattle.paths.specs.Paths.{pathOf, Holds}
 use Rattle.paths.specs.declared.FieldPath.{FieldPath}
-use Rattle.slots.specs.Slots.{slotOf, maybe}
+use Rattle.slots.specs.Slots.{slotOf}
 use Rattle.seek.specs.Seek.{levelOf}
 use Rattle.step.specs.Step.{walkState}
 use Rattle.step.specs.declared.Walk.{Walk}
-use Rattle.begin.specs.Pieces.{patternsOf, fieldsFor, noField, Pieced}
+use Rattle.begin.specs.Pieces.{patternsOf, fieldsFor}
 use Rattle.rules.proofs.Idle.{idle-fieldBelow}
 use Rattle.state.proofs.Stopped.{stopped}
 use Rattle.begin.specs.Begin.{injectAt, finish, opened, injected, Resting, Begins, Meets, Chooses}
@@ -27,7 +25,6 @@ use Rattle.begin.specs.declared.Next.the-variants as Nx
 use Rattle.begin.specs.declared.Begun.{Begun}
 use Rattle.begin.specs.declared.Met.{Met}
 use Rattle.begin.specs.declared.Chosen.{Chosen}
-use Rattle.begin.specs.declared.Piece.{Piece}
 use Rattle.walk.specs.Walks.{Walks, Gives}
 use Rattle.walk.proofs.Fields.{partial-opens}
 use Rattle.walk.proofs.Going.{Going, going-end}

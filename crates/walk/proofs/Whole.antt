@@ -11,14 +11,15 @@ use native.Mathlib.Omega.{arith}
 use lib.ListN.{length, getD, drop, length-drop}
 use lib.Seq.{drop-cons}
 use Rattle.rules.specs.File as File
-use Rattle.rules.specs.File.{Tables, Node, typeAt, nodeAt, recordTy, fieldPath}
-use Rattle.rules.specs.Resolve.{resolve, fieldSlot}
-use Rattle.rules.specs.Walk.{matched, field, wholeFields, wholeRead, wholeVariable, wholeKey}
+use Rattle.rules.specs.File.{Tables, typeAt, nodeAt, recordTy, fieldPath}
+use Rattle.rules.specs.Walk.{wholeFields, wholeRead, wholeVariable, wholeKey}
 use Rattle.rules.proofs.Each.{each-at}
 use Rattle.rules.proofs.Keeps.{record-children}
 use Rattle.rules.proofs.Sound.{Sound, Child}
 use Rattle.state.specs.State.{State}
 use Rattle.state.specs.Ops.{ops, bind, skip}
+use Rattle.paths.specs.Paths.{pathOf, Holds}
+use Rattle.paths.specs.declared.FieldPath.{FieldPath}
 use Rattle.views.specs.Views.{run, fieldAt, fieldOf, nodeOf, SeenNode}
 use Rattle.views.specs.declared.FieldTy.{FieldTy}
 use Rattle.views.specs.declared.NodeView.{NodeView}
@@ -46,7 +47,7 @@ module _ (T : Tables) (a n t : ℕ) (slot : File.Slot) where
   matching-first s w p = record { low = omega arith; work-long = refl; plan-long = refl; is = refl }
 
   module _ (i : ℕ) (s₀ s : State) (w₀ p₀ w p : List ℕ) (v : Matching T a n t slot i s₀ s w₀ p₀ w p) where
-    pub matching-more : i < length (fieldsOf T t) → (f : File.FieldTy) → getD (fieldsOf T t) i noField ≡ f → (path : File.FieldPath) → path ≡ fieldPath i → (s′ : State) (w′ p′ : List ℕ) → s′ ≡ wholeField T a n slot (f .name) (f .type) path s → length w′ ≡ length w → length p′ ≡ length p → Matching T a n t slot (i + 1) s₀ s′ w₀ p₀ w′ p′
+    matching-more : i < length (fieldsOf T t) → (f : File.FieldTy) → getD (fieldsOf T t) i noField ≡ f → (path : File.FieldPath) → path ≡ fieldPath i → (s′ : State) (w′ p′ : List ℕ) → s′ ≡ wholeField T a n slot (f .name) (f .type) path s → length w′ ≡ length w → length p′ ≡ length p → Matching T a n t slot (i + 1) s₀ s′ w₀ p₀ w′ p′
     unfolding wholeFields wholeField
     matching-more h f ef path ep s′ w′ p′ q lw lp =
         record {
@@ -87,13 +88,16 @@ module _ (f : List ℕ) (T : Tables) (t : ℕ) (r : Run) (k : SeenRun f (fieldAt
     fields-count = sym (ap length fields-are ∙ length-run (fieldAt f) 4 m at)
 
     module _ (i : ℕ) (h : i < m) (v : FieldTy) (ev : fieldOf v ≡ fieldAt f (at + 4 * i)) where
-      pub field-is : getD (fieldsOf T t) i noField ≡ fieldOf v
+      field-is : getD (fieldsOf T t) i noField ≡ fieldOf v
       field-is = ap (λ fs. getD fs i noField) fields-are ∙ run-at (fieldAt f) 4 m at i noField h ∙ sym ev
 
       pub field-known : Sound T → t < length (T .types) → v .ty < length (T .types)
       field-known S g =
           let c = each-at (record-children (Child T t) (typeAt T t) (run (fieldAt f) 4 m at) (S .children t g) type-is) i noField (omega (arith, length-run (fieldAt f) 4 m at)) in
           subst (λ (x : File.FieldTy). x .type < length (T .types)) (ap (λ fs. getD fs i noField) (sym fields-are) ∙ field-is) (c .in-types)
+
+      pub matching-turn : (a n : ℕ) (slot : File.Slot) (s₀ s : State) (w₀ p₀ w p : List ℕ) → Matching T a n t slot i s₀ s w₀ p₀ w p → (q : FieldPath) → Holds q (fieldPath i) → (s′ : State) (w′ p′ : List ℕ) → s′ ≡ wholeField T a n slot (v .name) (v .ty) (pathOf q) s → length w′ ≡ length w → length p′ ≡ length p → Matching T a n t slot (i + 1) s₀ s′ w₀ p₀ w′ p′
+      matching-turn a n slot s₀ s w₀ p₀ w p g q k = matching-more T a n t slot i s₀ s w₀ p₀ w p g (omega (arith, fields-count)) (fieldOf v) field-is (pathOf q) (k .is)
 
 -- a variable, by whether its name is bound
 module _ (T : Tables) (a x n t : ℕ) (fs : List File.FieldTy) (s₀ : State) (m : MaybeSlot) (k : slotOption m ≡ ops T .lookup s₀ x) (s : State) where

@@ -2,7 +2,7 @@
 use Prim.Native.Nat.{ℕ, _≤_, _<_}
 use mathlib.Core.Path.{_≡_}
 use mathlib.Core.List.{List, []}
-use mathlib.Core.Option.{Option, none, some, Option·getD}
+use mathlib.Core.Option.{none, some, Option·getD}
 use Rattle.rules.specs.File as File
 use Rattle.rules.specs.File.{Tables, FieldTy, typeAt, recordTy}
 use Rattle.rules.specs.Resolve.{fieldSlot}

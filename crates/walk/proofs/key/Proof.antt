@@ -3,86 +3,61 @@ use Rattle.ready.proofs.Given.{sound-tables}
 use borrow.Author.Needs.{needs}
 use Rattle.walk.proofs.key.Statement.{statement}
 use Rattle.walk.proofs.key.Tie as tie
-use Rattle.walk.proofs.key.Reads as reads
-use Rattle.walk.proofs.key.Lts as lts
-use Rattle.begin.proofs.pairs_of.Reads as pairs-of-reads
-use Rattle.lookups.proofs.record_ty.Reads as record-ty-reads
-use Rattle.paths.proofs.FieldPath.field.Reads as FieldPath-field-reads
-use Rattle.walk.proofs.field.Reads as field-reads
-use Rattle.walk.proofs.record_key.Reads as record-key-reads
-use Rattle.walk.proofs.whole_key.Reads as whole-key-reads
 
--- src/lib.rt:401:25
 record-ty-requires : tie.Need-record-ty-requires
 record-ty-requires c κs = search needs
 
 enum-told : tie.Need-enum-told
 enum-told c = search needs
 
--- src/lib.rt:402:13
 enum-told-2 : tie.Need-enum-told-2
 enum-told-2 c = search needs
 
--- src/lib.rt:402:13
 field-requires : tie.Need-field-requires
 field-requires c κs = search needs
 
--- src/lib.rt:403:9
 field-requires-2 : tie.Need-field-requires-2
 field-requires-2 c κs = (c .before .before .before .before .before .before .before .before .before .before .pre .0, fits-field _ (sound-tables _ _ (c .before .before .before .before .before .before .before .before .before .before .pre .0)) _ (c .before .before .before .before .before .before .before .before .before .before .pre .1) _ _ (c .before .before .field .ensures))
 
--- src/lib.rt:403:9
 same-length : tie.Need-same-length
 same-length c = search needs
 
--- src/lib.rt:403:9
 same-length-2 : tie.Need-same-length-2
 same-length-2 c = search needs
 
--- src/lib.rt:403:9
 returns : tie.Need-returns
 returns c = key-scalar _ _ _ _ _ _ _ (c .before .before .before .before .before .before .before .before .before .before .record-ty .ensures) _ (c .before .before .before .before .before .before .before .before .enum-told2 .given .1) (c .before .before .before .before .before .before .before .before .before .before .before .before .before .before .before .pre .1) _ (c .before .before .before .before .before .before .before .field .ensures) (c .before .before .before .before .field2 .ensures)
 
--- src/lib.rt:405:28
 pairs-of-requires : tie.Need-pairs-of-requires
 pairs-of-requires c κs = search needs
 
--- src/lib.rt:406:40
 enum-told-3 : tie.Need-enum-told-3
 enum-told-3 c = search needs
 
--- src/lib.rt:406:9
 record-key-requires : tie.Need-record-key-requires
 record-key-requires c κs = search needs
 
--- src/lib.rt:406:9
 same-length-3 : tie.Need-same-length-3
 same-length-3 c = search needs
 
--- src/lib.rt:406:9
 same-length-4 : tie.Need-same-length-4
 same-length-4 c = search needs
 
--- src/lib.rt:406:9
 returns-2 : tie.Need-returns-2
 returns-2 c = key-record _ _ _ _ _ _ _ (c .before .before .before .before .before .before .before .before .before .before .before .before .record-ty .ensures) _ _ _ (c .before .before .before .before .before .before .before .before .before .before .enum-told .given .1) _ (c .before .before .before .before .before .before .before .before .before .pairs-of .ensures) _ _ (c .before .before .before .before .before .before .before .enum-told3 .given .1) (c .before .before .before .before .record-key .ensures)
 
 enum-told-4 : tie.Need-enum-told-4
 enum-told-4 c = search needs
 
--- src/lib.rt:408:5
 whole-key-requires : tie.Need-whole-key-requires
 whole-key-requires c κs = search needs
 
--- src/lib.rt:387:1
 same-length-5 : tie.Need-same-length-5
 same-length-5 c = search needs
 
--- src/lib.rt:387:1
 same-length-6 : tie.Need-same-length-6
 same-length-6 c = search needs
 
--- src/lib.rt:387:1
 returns-3 : tie.Need-returns-3
 returns-3 c = key-whole _ _ _ _ _ _ _ (c .before .before .before .before .before .before .before .before .before .before .before .before .record-ty .ensures) _ _ _ (c .before .before .before .before .before .before .before .before .before .before .enum-told .given .1) _ (c .before .before .before .before .before .before .before .before .before .pairs-of .ensures) (c .before .before .before .before .before .before .before .enum-told4 .given .1) (c .before .before .before .before .whole-key .ensures)
 

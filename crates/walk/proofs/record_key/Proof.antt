@@ -11,13 +11,6 @@ use Rattle.walk.proofs.Going.{Going, going-first, going-missing, going-
 use Rattle.walk.proofs.Keys.{fits-field, record-end}
 use Rattle.walk.proofs.record_key.Statement.{statement}
 use Rattle.walk.proofs.record_key.Tie as tie
-use Rattle.walk.proofs.record_key.Reads as reads
-use Rattle.walk.proofs.record_key.Lts as lts
-use Rattle.begin.proofs.piece_at.Reads as piece-at-reads
-use Rattle.begin.proofs.pieces.Reads as pieces-reads
-use Rattle.paths.proofs.FieldPath.field.Reads as FieldPath-field-reads
-use Rattle.step.proofs.Walk.skip.Reads as skip-reads
-use Rattle.walk.proofs.field.Reads as field-reads
 
 abbrev Inv-loop : tie.InvT-loop
 Inv-loop file index work₀ plan₀ node ty address n l₀ i₀ work plan l i = Going (tablesOf file) (address .0) node ty skip fieldPath i (walkState (tablesOf file) l₀ work₀ plan₀) (walkState (tablesOf file) l work plan) work₀ plan₀ work plan
@@ -25,63 +18,48 @@ Inv-loop file index work₀ plan₀ node ty address n l₀ i₀ work plan l i = 
 abbrev μ-loop : tie.MeasureT-loop
 μ-loop file index work₀ plan₀ node ty address n l₀ i₀ work plan l i = n - i
 
--- src/lib.rt:244:9
 pieces-requires : tie.Need-pieces-requires Inv-loop μ-loop
 pieces-requires c κs = search needs
 
--- src/lib.rt:247:5
 loop-holds : tie.Need-loop-holds Inv-loop μ-loop
 loop-holds c = going-first _ _ _ _ _ _ _ _ _
 
--- src/lib.rt:248:13
 piece-at-requires : tie.Need-piece-at-requires Inv-loop μ-loop
 piece-at-requires c κs = (c .before .before .before .before .before .before .before .pre .0, (c .before .before .before .before .before .before .before .pre .1, omega (arith, c .loop-test .taken, c .before .before .pieces .ensures .0)))
 
--- src/lib.rt:249:37
 cast-field : tie.Need-cast-field Inv-loop μ-loop
 cast-field c = omega (arith, c .before .loop-test .taken, c .before .before .before .pieces .ensures .1)
 
--- src/lib.rt:249:13
 field-requires : tie.Need-field-requires Inv-loop μ-loop
 field-requires c κs = search needs
 
--- src/lib.rt:250:9
 add-i : tie.Need-add-i Inv-loop μ-loop
 add-i c = omega (arith, c .before .before .loop-test .taken, c .before .before .before .before .pieces .ensures .1)
 
--- src/lib.rt:252:13
 field-requires-2 : tie.Need-field-requires-2 Inv-loop μ-loop
 field-requires-2 c κs = (c .before .before .before .before .before .before .before .before .before .before .before .before .pre .0, fits-field _ (sound-tables _ _ (c .before .before .before .before .before .before .before .before .before .before .before .before .pre .0)) _ (c .before .before .before .before .piece-at .ensures .lower .known) _ _ (c .before .before .before .field .ensures))
 
--- src/lib.rt:247:5
 loop-less : tie.Need-loop-less Inv-loop μ-loop
 loop-less c = omega (arith, c .before .before .before .before .before .before .before .before .before .before .loop-test .taken)
 
--- src/lib.rt:247:5
 loop-again : tie.Need-loop-again Inv-loop μ-loop
 loop-again c = going-given _ _ _ _ _ _ _ _ _ _ _ _ _ (c .before .before .before .before .before .before .before .before .before .before .before .loop .inv) (omega (arith, c .before .before .before .before .before .before .before .before .before .before .loop-test .taken, c .before .before .before .before .before .before .before .before .before .before .before .before .pieces .ensures .0)) _ (c .before .before .before .before .before .before .before .before .before .piece-at .ensures) _ _ _ (c .before .before .before .before .field2 .kept .1 .1 .0) (c .before .before .before .before .field2 .kept .1 .1 .1 .0) (c .before .before .before .before .before .before .before .if1 .taken) _ (c .before .before .before .before .before .before .before .before .field .ensures) (c .before .before .before .before .field2 .ensures)
 
--- src/lib.rt:254:13
 skip-requires : tie.Need-skip-requires Inv-loop μ-loop
 skip-requires c κs = search needs
 
--- src/lib.rt:247:5
 loop-less-2 : tie.Need-loop-less-2 Inv-loop μ-loop
 loop-less-2 c = omega (arith, c .before .before .before .before .loop-test .taken)
 
--- src/lib.rt:247:5
 loop-again-2 : tie.Need-loop-again-2 Inv-loop μ-loop
 loop-again-2 c = going-missing _ _ _ _ _ _ _ _ _ _ _ _ _ (c .before .before .before .before .before .loop .inv) (omega (arith, c .before .before .before .before .loop-test .taken, c .before .before .before .before .before .before .pieces .ensures .0)) _ (c .before .before .before .piece-at .ensures) _ _ _ refl refl (c .before .if1 .left) (c .skip .ensures _ _ _)
 
--- src/lib.rt:230:1
 same-length : tie.Need-same-length Inv-loop μ-loop
 same-length c = c .before .loop .inv .work-long
 
--- src/lib.rt:230:1
 same-length-2 : tie.Need-same-length-2 Inv-loop μ-loop
 same-length-2 c = c .before .loop .inv .plan-long
 
--- src/lib.rt:230:1
 returns : tie.Need-returns Inv-loop μ-loop
 returns c = record-end _ _ _ _ _ _ _ _ _ _ _ (c .before .loop .inv) (omega (arith, c .loop-test .left, c .before .before .pieces .ensures .0)) (c .before .before .before .before .before .before .before .pre .1)
 

@@ -2,46 +2,31 @@ use Rattle.walk.proofs.Answered.{field-none, field-some}
 use borrow.Author.Needs.{needs}
 use Rattle.walk.proofs.whole_field.Statement.{statement}
 use Rattle.walk.proofs.whole_field.Tie as tie
-use Rattle.walk.proofs.whole_field.Reads as reads
-use Rattle.walk.proofs.whole_field.Lts as lts
-use Rattle.resolve.proofs.field_slot.Reads as field-slot-reads
-use Rattle.step.proofs.Walk.listed.Reads as listed-reads
-use Rattle.step.proofs.Walk.skip.Reads as skip-reads
-use Rattle.walk.proofs.matched.Reads as matched-reads
 
--- src/lib.rt:279:9
 field-slot-requires : tie.Need-field-slot-requires
 field-slot-requires c κs = search needs
 
--- src/lib.rt:280:9
 listed-requires : tie.Need-listed-requires
 listed-requires c κs = search needs
 
--- src/lib.rt:282:9
 matched-requires : tie.Need-matched-requires
 matched-requires c κs = search needs
 
--- src/lib.rt:282:9
 same-length : tie.Need-same-length
 same-length c = search needs
 
--- src/lib.rt:282:9
 same-length-2 : tie.Need-same-length-2
 same-length-2 c = search needs
 
--- src/lib.rt:282:9
 returns : tie.Need-returns
 returns c = field-some _ _ _ (c .before .before .before .before .before .before .before .before .before .before .before .field-slot .result) _ _ _ (c .before .before .before .before .before .before .before .before .listed .ensures _ _ _) _ _ _ _ _ _ _ (c .before .before .before .before .before .before .before .before .before .before .before .field-slot .ensures) (c .before .before .before .before .before .before .before .if1 .taken) (c .before .before .before .before .before .before .before .before .before .before .before .before .before .before .before .before .before .pre .1 .1 .known) (c .before .before .before .before .matched .ensures)
 
--- src/lib.rt:284:5
 skip-requires : tie.Need-skip-requires
 skip-requires c κs = search needs
 
--- src/lib.rt:261:1
 same-length-3 : tie.Need-same-length-3
 same-length-3 c = search needs
 
--- src/lib.rt:261:1
 returns-2 : tie.Need-returns-2
 returns-2 c = field-none _ _ _ (c .before .before .before .before .before .field-slot .result) _ _ _ (c .before .before .listed .ensures _ _ _) _ _ _ _ _ _ _ (c .before .before .before .before .before .field-slot .ensures) (c .before .if1 .left) (c .skip .ensures _ _ _)
 

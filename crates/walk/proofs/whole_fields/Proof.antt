@@ -1,23 +1,14 @@
-use mathlib.Core.Path.{sym, ap}
 use native.Mathlib.Omega.{arith}
 use Prim.Native.Nat.{_-_}
 use borrow.Author.Needs.{needs}
-use Rattle.rules.specs.Walk.{wholeFields}
-use Rattle.state.specs.Ops.{ops}
 use Rattle.file.specs.Tables.{tablesOf}
 use Rattle.slots.specs.Slots.{slotOf}
 use Rattle.step.specs.Step.{walkState}
 use Rattle.ready.proofs.Given.{sound-tables}
 use Rattle.walk.proofs.Keys.{fits-field}
-use Rattle.walk.proofs.Whole.{Matching, matching-first, matching-more, matching-end, matching-none, fields-inside, fields-count, field-is, field-known}
+use Rattle.walk.proofs.Whole.{Matching, matching-first, matching-turn, matching-end, matching-none, fields-inside, fields-count, field-known}
 use Rattle.walk.proofs.whole_fields.Statement.{statement}
 use Rattle.walk.proofs.whole_fields.Tie as tie
-use Rattle.walk.proofs.whole_fields.Reads as reads
-use Rattle.walk.proofs.whole_fields.Lts as lts
-use Rattle.lookups.proofs.record_ty.Reads as record-ty-reads
-use Rattle.paths.proofs.FieldPath.field.Reads as field-reads
-use Rattle.views.proofs.field_ty_at.Reads as field-ty-at-reads
-use Rattle.walk.proofs.whole_field.Reads as whole-field-reads
 
 abbrev Inv-loop : tie.InvT-loop
 Inv-loop file index work₀ plan₀ node slot ty address n at l₀ i₀ work plan l i = Matching (tablesOf file) (address .0) node ty (slotOf slot) i (walkState (tablesOf file) l₀ work₀ plan₀) (walkState (tablesOf file) l work plan) work₀ plan₀ work plan
@@ -25,65 +16,48 @@ Inv-loop file index work₀ plan₀ node slot ty address n at l₀ i₀ work pla
 abbrev μ-loop : tie.MeasureT-loop
 μ-loop file index work₀ plan₀ node slot ty address n at l₀ i₀ work plan l i = n - i
 
--- src/lib.rt:303:26
 record-ty-requires : tie.Need-record-ty-requires Inv-loop μ-loop
 record-ty-requires c κs = search needs
 
--- src/lib.rt:303:17
 enum-known-n : tie.Need-enum-known-n Inv-loop μ-loop
 enum-known-n c = search needs
 
--- src/lib.rt:304:9
 enum-told : tie.Need-enum-told Inv-loop μ-loop
 enum-told c = search needs
 
--- src/lib.rt:304:9
 returns : tie.Need-returns Inv-loop μ-loop
 returns c = matching-none _ _ _ _ (c .before .before .record-ty .ensures) (c .enum-told .given .1) _ _ _ _
 
--- src/lib.rt:308:5
 loop-holds : tie.Need-loop-holds Inv-loop μ-loop
 loop-holds c = matching-first _ _ _ _ _ _ _ _
 
--- src/lib.rt:309:13
 field-ty-at-requires : tie.Need-field-ty-at-requires Inv-loop μ-loop
 field-ty-at-requires c κs = omega (arith, c .loop-test .taken, fields-inside _ _ _ _ (c .before .before .before .before .before .record-ty .ensures) _ _ (c .before .before .before .n .given .1))
 
--- src/lib.rt:310:37
 cast-field : tie.Need-cast-field Inv-loop μ-loop
 cast-field c = omega (arith, c .before .loop-test .taken, fields-inside _ _ _ _ (c .before .before .before .before .before .before .record-ty .ensures) _ _ (c .before .before .before .before .n .given .1), c .before .before .before .before .before .before .before .before .before .before .before .pre .0 .indexed .small)
 
--- src/lib.rt:310:13
 field-requires : tie.Need-field-requires Inv-loop μ-loop
 field-requires c κs = search needs
 
--- src/lib.rt:311:9
 whole-field-requires : tie.Need-whole-field-requires Inv-loop μ-loop
 whole-field-requires c κs = (c .before .before .before .before .before .before .before .before .before .before .before .before .before .before .pre .0, (c .before .before .before .before .before .before .before .before .before .before .before .before .before .before .pre .1 .1, fits-field _ (sound-tables _ _ (c .before .before .before .before .before .before .before .before .before .before .before .before .before .before .pre .0)) _ (field-known _ _ _ _ (c .before .before .before .before .before .before .before .before .before .record-ty .ensures) _ _ (c .before .before .before .before .before .before .before .n .given .1) _ (c .before .before .before .before .loop-test .taken) _ (c .before .before .before .field-ty-at .ensures) (sound-tables _ _ (c .before .before .before .before .before .before .before .before .before .before .before .before .before .before .pre .0)) (c .before .before .before .before .before .before .before .before .before .before .before .before .before .before .pre .1 .0)) _ _ (c .before .before .field .ensures)))
 
--- src/lib.rt:312:9
 add-i : tie.Need-add-i Inv-loop μ-loop
 add-i c = omega (arith, c .before .before .before .before .before .before .before .before .before .loop-test .taken, fields-inside _ _ _ _ (c .before .before .before .before .before .before .before .before .before .before .before .before .before .before .record-ty .ensures) _ _ (c .before .before .before .before .before .before .before .before .before .before .before .before .n .given .1), c .before .before .before .before .before .before .before .before .before .before .before .before .before .before .before .before .before .before .before .pre .0 .indexed .small)
 
--- src/lib.rt:308:5
 loop-less : tie.Need-loop-less Inv-loop μ-loop
 loop-less c = omega (arith, c .before .before .before .before .before .before .before .before .before .loop-test .taken)
 
--- src/lib.rt:308:5
 loop-again : tie.Need-loop-again Inv-loop μ-loop
-loop-again c =
-    let k = fields-count _ _ _ _ (c .before .before .before .before .before .before .before .before .before .before .before .before .before .before .record-ty .ensures) _ _ (c .before .before .before .before .before .before .before .before .before .before .before .before .n .given .1) in
-    matching-more _ _ _ _ _ _ _ _ _ _ _ _ (c .before .before .before .before .before .before .before .before .before .before .loop .inv) (omega (arith, k, c .before .before .before .before .before .before .before .before .before .loop-test .taken)) _ (field-is _ _ _ _ (c .before .before .before .before .before .before .before .before .before .before .before .before .before .before .record-ty .ensures) _ _ (c .before .before .before .before .before .before .before .before .before .before .before .before .n .given .1) _ (c .before .before .before .before .before .before .before .before .before .loop-test .taken) _ (c .before .before .before .before .before .before .before .before .field-ty-at .ensures)) _ (c .before .before .before .before .before .before .before .field .ensures .is) _ _ _ (c .before .before .before .before .whole-field .ensures) (c .before .before .before .before .whole-field .kept .1 .1 .0) (c .before .before .before .before .whole-field .kept .1 .1 .1 .0)
+loop-again c = matching-turn _ _ _ _ (c .before .before .before .before .before .before .before .before .before .before .before .before .before .before .record-ty .ensures) _ _ (c .before .before .before .before .before .before .before .before .before .before .before .before .n .given .1) _ (c .before .before .before .before .before .before .before .before .before .loop-test .taken) _ (c .before .before .before .before .before .before .before .before .field-ty-at .ensures) _ _ _ _ _ _ _ _ _ (c .before .before .before .before .before .before .before .before .before .before .loop .inv) _ (c .before .before .before .before .before .before .before .field .ensures) _ _ _ (c .before .before .before .before .whole-field .ensures) (c .before .before .before .before .whole-field .kept .1 .1 .0) (c .before .before .before .before .whole-field .kept .1 .1 .1 .0)
 
--- src/lib.rt:287:1
 same-length : tie.Need-same-length Inv-loop μ-loop
 same-length c = c .before .loop .inv .work-long
 
--- src/lib.rt:287:1
 same-length-2 : tie.Need-same-length-2 Inv-loop μ-loop
 same-length-2 c = c .before .loop .inv .plan-long
 
--- src/lib.rt:287:1
 returns-2 : tie.Need-returns-2 Inv-loop μ-loop
 returns-2 c = matching-end _ _ _ _ _ _ _ _ _ _ _ _ (c .before .loop .inv) (omega (arith, c .loop-test .left, fields-count _ _ _ _ (c .before .before .before .before .before .record-ty .ensures) _ _ (c .before .before .before .n .given .1)))
 

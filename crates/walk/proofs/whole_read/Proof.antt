@@ -5,46 +5,31 @@ use Rattle.resolve.proofs.Answers.{rooms-of, rooms-from}
 use borrow.Author.Needs.{needs}
 use Rattle.walk.proofs.whole_read.Statement.{statement}
 use Rattle.walk.proofs.whole_read.Tie as tie
-use Rattle.walk.proofs.whole_read.Reads as reads
-use Rattle.walk.proofs.whole_read.Lts as lts
-use Rattle.resolve.proofs.resolve.Reads as resolve-reads
-use Rattle.step.proofs.Walk.listed.Reads as listed-reads
-use Rattle.step.proofs.Walk.skip.Reads as skip-reads
-use Rattle.walk.proofs.whole_fields.Reads as whole-fields-reads
 
--- src/lib.rt:332:9
 resolve-requires : tie.Need-resolve-requires
 resolve-requires c κs = search needs
 
--- src/lib.rt:333:9
 listed-requires : tie.Need-listed-requires
 listed-requires c κs = search needs
 
--- src/lib.rt:335:9
 whole-fields-requires : tie.Need-whole-fields-requires
 whole-fields-requires c κs = (c .before .before .before .before .before .before .before .before .before .before .before .before .pre .0, (c .before .before .before .before .before .before .before .before .before .before .before .before .pre .1, rooms-of _ (c .before .before .before .before .before .before .resolve .result) (c .before .before .if1 .taken) (rooms-from _ (c .before .before .before .before .before .before .resolve .ensures) (λ s. resolved-room (sound-tables _ _ (c .before .before .before .before .before .before .before .before .before .before .before .before .pre .0)) _ s))))
 
--- src/lib.rt:335:9
 same-length : tie.Need-same-length
 same-length c = search needs
 
--- src/lib.rt:335:9
 same-length-2 : tie.Need-same-length-2
 same-length-2 c = search needs
 
--- src/lib.rt:335:9
 returns : tie.Need-returns
 returns c = read-some _ _ _ (c .before .before .before .before .before .before .before .before .before .before .before .resolve .result) _ _ _ (c .before .before .before .before .before .before .before .before .listed .ensures _ _ _) _ _ _ _ (c .before .before .before .before .before .before .before .before .before .before .before .resolve .ensures) (c .before .before .before .before .before .before .before .if1 .taken) (c .before .before .before .before .whole-fields .ensures)
 
--- src/lib.rt:337:5
 skip-requires : tie.Need-skip-requires
 skip-requires c κs = search needs
 
--- src/lib.rt:318:1
 same-length-3 : tie.Need-same-length-3
 same-length-3 c = search needs
 
--- src/lib.rt:318:1
 returns-2 : tie.Need-returns-2
 returns-2 c = read-none _ _ _ (c .before .before .before .before .before .resolve .result) _ _ _ (c .before .before .listed .ensures _ _ _) _ _ _ _ (c .before .before .before .before .before .resolve .ensures) (c .before .if1 .left) (c .skip .ensures _ _ _)
 

@@ -4,52 +4,35 @@ use Rattle.step.specs.Step.{walkState}
 use borrow.Author.Needs.{needs}
 use Rattle.walk.proofs.whole_variable.Statement.{statement}
 use Rattle.walk.proofs.whole_variable.Tie as tie
-use Rattle.walk.proofs.whole_variable.Reads as reads
-use Rattle.walk.proofs.whole_variable.Lts as lts
-use Rattle.lists.proofs.lookup.Reads as lookup-reads
-use Rattle.slots.proofs.Slot.plain.Reads as plain-reads
-use Rattle.step.proofs.Walk.bind.Reads as bind-reads
-use Rattle.step.proofs.Walk.skip.Reads as skip-reads
-use Rattle.walk.proofs.whole_read.Reads as whole-read-reads
 
--- src/lib.rt:356:9
 lookup-requires : tie.Need-lookup-requires
 lookup-requires c κs = search needs
 
--- src/lib.rt:358:9
 whole-read-requires : tie.Need-whole-read-requires
 whole-read-requires c κs = search needs
 
--- src/lib.rt:358:9
 same-length : tie.Need-same-length
 same-length c = search needs
 
--- src/lib.rt:358:9
 same-length-2 : tie.Need-same-length-2
 same-length-2 c = search needs
 
--- src/lib.rt:358:9
 returns : tie.Need-returns
 unfolding walkState
 returns c = whole-bound _ _ _ _ _ _ _ (c .before .before .before .before .before .before .before .before .lookup .result) (c .before .before .before .before .before .before .before .before .lookup .ensures _ _ _) _ (c .before .before .before .before .before .before .before .if1 .taken) (c .before .before .before .before .whole-read .ensures)
 
--- src/lib.rt:360:9
 plain-requires : tie.Need-plain-requires
 plain-requires c κs = search needs
 
--- src/lib.rt:361:5
 skip-requires : tie.Need-skip-requires
 skip-requires c κs = search needs
 
--- src/lib.rt:361:5
 bind-requires : tie.Need-bind-requires
 bind-requires c κs = search needs
 
--- src/lib.rt:341:1
 same-length-3 : tie.Need-same-length-3
 same-length-3 c = search needs
 
--- src/lib.rt:341:1
 returns-2 : tie.Need-returns-2
 unfolding walkState
 returns-2 c = whole-new _ _ _ _ _ _ _ (c .before .before .before .before .before .before .before .lookup .result) (c .before .before .before .before .before .before .before .lookup .ensures _ _ _) _ (c .before .before .before .before .before .before .if1 .left) _ _ (kind-is _ _ (c .before .before .before .before .before .plain .ensures)) (c .before .before .before .before .skip .ensures _ _ _) (c .before .before .bind .ensures _ _)

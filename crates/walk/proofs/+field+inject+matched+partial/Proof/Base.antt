@@ -1,4 +1,4 @@
-use Prim.Native.Nat.{ℕ, _<_, _*_, _+_}
+use Prim.Native.Nat.{ℕ, _*_, _+_, _<_}
 use borrow.Fn.Kinds.{In}
 use borrow.Fn.PlainCycle.{Measures, is, falls, and}
 use Rattle.walk.proofs.field.Reads as field

@@ -2,109 +2,67 @@ use mathlib.Core.Path.{_∙_}
 use native.Mathlib.Omega.{arith}
 use borrow.Author.Needs.{needs}
 use Rattle.walk.proofs.Rounds.{field-done, field-matched, field-partial, field-inject}
-use Prim.Native.Nat.{ℕ, _<_}
-use borrow.Fn.Kinds.{In}
-use borrow.Fn.PlainCycle.{Measures, is, falls, and}
+use Prim.Native.Nat.{ℕ}
 use Rattle.walk.proofs.field.Reads as field
-use Rattle.walk.proofs.field.Kinds as field-kinds
 use Rattle.walk.proofs.+field+inject+matched+partial.Lts-field as field-lts
-use Rattle.walk.proofs.inject.Reads as inject
-use Rattle.walk.proofs.inject.Kinds as inject-kinds
-use Rattle.walk.proofs.+field+inject+matched+partial.Lts-inject as inject-lts
-use Rattle.walk.proofs.matched.Reads as matched
-use Rattle.walk.proofs.matched.Kinds as matched-kinds
-use Rattle.walk.proofs.+field+inject+matched+partial.Lts-matched as matched-lts
-use Rattle.walk.proofs.partial.Reads as partial
-use Rattle.walk.proofs.partial.Kinds as partial-kinds
-use Rattle.walk.proofs.+field+inject+matched+partial.Lts-partial as partial-lts
-use Rattle.begin.proofs.piece_at.Reads as piece-at-reads
-use Rattle.begin.proofs.pieces.Reads as pieces-reads
-use Rattle.paths.proofs.FieldPath.payload.Reads as payload-reads
-use Rattle.paths.proofs.FieldPath.then.Reads as then-reads
-use Rattle.step.proofs.Walk.closer.Reads as closer-reads
-use Rattle.step.proofs.Walk.skip.Reads as skip-reads
-use Rattle.step.proofs.Walk.tag.Reads as tag-reads
-use Rattle.begin.proofs.begin.Reads as begin-reads
-use Rattle.begin.proofs.choose.Reads as choose-reads
-use Rattle.begin.proofs.meet.Reads as meet-reads
-use Rattle.walk.proofs.+field+inject+matched+partial.Proof.Base.{μ-field, μ-inject, μ-matched, μ-partial, field-at, field-below, inject-at, inject-below, matched-at, matched-below, partial-at, partial-below, field-claims, inject-claims, matched-claims, partial-claims}
+use Rattle.walk.proofs.+field+inject+matched+partial.Proof.Base.{field-at, field-claims}
 
--- src/lib.rt:117:9
 pub field-begin-requires : (t : ℕ) → field-lts.Need-begin-requires (field-claims t) (field-at t) field.Post
 field-begin-requires t c κs = c .before .before .before .before .before .before .pre .1
 
--- src/lib.rt:120:23
 pub field-enum-told : (t : ℕ) → field-lts.Need-enum-told (field-claims t) (field-at t) field.Post
 field-enum-told t c = search needs
 
--- src/lib.rt:121:47
 pub field-enum-told-2 : (t : ℕ) → field-lts.Need-enum-told-2 (field-claims t) (field-at t) field.Post
 field-enum-told-2 t c = search needs
 
--- src/lib.rt:121:26
 pub field-matched-requires : (t : ℕ) → field-lts.Need-matched-requires (field-claims t) (field-at t) field.Post
 field-matched-requires t c κs = (omega (arith, c .before .before .before .before .before .before .before .before .before .before .before .before .before .before .before .pre .0), c .before .before .before .before .before .before .before .before .before .before .before .before .before .before .before .pre .1)
 
--- src/lib.rt:122:47
 pub field-enum-told-3 : (t : ℕ) → field-lts.Need-enum-told-3 (field-claims t) (field-at t) field.Post
 field-enum-told-3 t c = search needs
 
--- src/lib.rt:122:26
 pub field-partial-requires : (t : ℕ) → field-lts.Need-partial-requires (field-claims t) (field-at t) field.Post
 field-partial-requires t c κs = (omega (arith, c .before .before .before .before .before .before .before .before .before .before .before .before .before .before .before .pre .0), c .before .before .before .before .before .before .before .before .before .before .before .before .before .before .before .pre .1)
 
--- src/lib.rt:123:45
 pub field-enum-told-4 : (t : ℕ) → field-lts.Need-enum-told-4 (field-claims t) (field-at t) field.Post
 field-enum-told-4 t c = search needs
 
--- src/lib.rt:123:25
 pub field-inject-requires : (t : ℕ) → field-lts.Need-inject-requires (field-claims t) (field-at t) field.Post
 field-inject-requires t c κs = (omega (arith, c .before .before .before .before .before .before .before .before .before .before .before .before .before .before .before .pre .0), c .before .before .before .before .before .before .before .before .before .before .before .before .before .before .before .pre .1)
 
--- src/lib.rt:102:1
 pub field-same-length : (t : ℕ) → field-lts.Need-same-length (field-claims t) (field-at t) field.Post
 field-same-length t c = c .before .before .before .before .before .before .before .begin .kept .1 .1 .0
 
--- src/lib.rt:102:1
 pub field-same-length-2 : (t : ℕ) → field-lts.Need-same-length-2 (field-claims t) (field-at t) field.Post
 field-same-length-2 t c = c .before .before .before .before .before .before .before .begin .kept .1 .1 .1 .0
 
--- src/lib.rt:102:1
 pub field-returns : (t : ℕ) → field-lts.Need-returns (field-claims t) (field-at t) field.Post
 field-returns t c = field-done _ _ _ _ _ _ _ _ (c .before .before .before .before .before .before .before .begin .ensures) (c .before .enum-told .given .1)
 
--- src/lib.rt:102:1
 pub field-same-length-3 : (t : ℕ) → field-lts.Need-same-length-3 (field-claims t) (field-at t) field.Post
 field-same-length-3 t c = c .before .before .before .before .matched .kept .1 .1 .0 ∙ c .before .before .before .before .before .before .before .before .before .before .before .before .before .begin .kept .1 .1 .0
 
--- src/lib.rt:102:1
 pub field-same-length-4 : (t : ℕ) → field-lts.Need-same-length-4 (field-claims t) (field-at t) field.Post
 field-same-length-4 t c = c .before .before .before .before .matched .kept .1 .1 .1 .0 ∙ c .before .before .before .before .before .before .before .before .before .before .before .before .before .begin .kept .1 .1 .1 .0
 
--- src/lib.rt:102:1
 pub field-returns-2 : (t : ℕ) → field-lts.Need-returns-2 (field-claims t) (field-at t) field.Post
 field-returns-2 t c = field-matched _ _ _ _ _ _ _ _ (c .before .before .before .before .before .before .before .before .before .before .before .before .before .begin .ensures) (c .before .before .before .before .before .before .before .enum-told2 .given .1) _ (c .before .before .before .before .matched .ensures)
 
--- src/lib.rt:102:1
 pub field-same-length-5 : (t : ℕ) → field-lts.Need-same-length-5 (field-claims t) (field-at t) field.Post
 field-same-length-5 t c = c .before .before .before .before .partial .kept .1 .1 .0 ∙ c .before .before .before .before .before .before .before .before .before .before .before .before .before .begin .kept .1 .1 .0
 
--- src/lib.rt:102:1
 pub field-same-length-6 : (t : ℕ) → field-lts.Need-same-length-6 (field-claims t) (field-at t) field.Post
 field-same-length-6 t c = c .before .before .before .before .partial .kept .1 .1 .1 .0 ∙ c .before .before .before .before .before .before .before .before .before .before .before .before .before .begin .kept .1 .1 .1 .0
 
--- src/lib.rt:102:1
 pub field-returns-3 : (t : ℕ) → field-lts.Need-returns-3 (field-claims t) (field-at t) field.Post
 field-returns-3 t c = field-partial _ _ _ _ _ _ _ _ (c .before .before .before .before .before .before .before .before .before .before .before .before .before .begin .ensures) (c .before .before .before .before .before .before .before .enum-told3 .given .1) _ (c .before .before .before .before .partial .ensures)
 
--- src/lib.rt:102:1
 pub field-same-length-7 : (t : ℕ) → field-lts.Need-same-length-7 (field-claims t) (field-at t) field.Post
 field-same-length-7 t c = c .before .before .before .before .inject .kept .1 .1 .0 ∙ c .before .before .before .before .before .before .before .before .before .before .before .before .before .begin .kept .1 .1 .0
 
--- src/lib.rt:102:1
 pub field-same-length-8 : (t : ℕ) → field-lts.Need-same-length-8 (field-claims t) (field-at t) field.Post
 field-same-length-8 t c = c .before .before .before .before .inject .kept .1 .1 .1 .0 ∙ c .before .before .before .before .before .before .before .before .before .before .before .before .before .begin .kept .1 .1 .1 .0
 
--- src/lib.rt:102:1
 pub field-returns-4 : (t : ℕ) → field-lts.Need-returns-4 (field-claims t) (field-at t) field.Post
 field-returns-4 t c = field-inject _ _ _ _ _ _ _ _ (c .before .before .before .before .before .before .before .before .before .before .before .before .before .begin .ensures) (c .before .before .before .before .before .before .before .enum-told4 .given .1) _ (c .before .before .before .before .inject .ensures)

@@ -4,77 +4,44 @@ use borrow.Author.Needs.{needs}
 use Rattle.ready.proofs.Given.{sound-tables}
 use Rattle.walk.proofs.Deeper.{has-room, fits-payload}
 use Rattle.walk.proofs.Rounds.{building-is, inject-done, inject-goes}
-use Prim.Native.Nat.{ℕ, _<_}
-use borrow.Fn.Kinds.{In}
-use borrow.Fn.PlainCycle.{Measures, is, falls, and}
-use Rattle.walk.proofs.field.Reads as field
-use Rattle.walk.proofs.field.Kinds as field-kinds
-use Rattle.walk.proofs.+field+inject+matched+partial.Lts-field as field-lts
+use Prim.Native.Nat.{ℕ}
 use Rattle.walk.proofs.inject.Reads as inject
-use Rattle.walk.proofs.inject.Kinds as inject-kinds
 use Rattle.walk.proofs.+field+inject+matched+partial.Lts-inject as inject-lts
-use Rattle.walk.proofs.matched.Reads as matched
-use Rattle.walk.proofs.matched.Kinds as matched-kinds
-use Rattle.walk.proofs.+field+inject+matched+partial.Lts-matched as matched-lts
-use Rattle.walk.proofs.partial.Reads as partial
-use Rattle.walk.proofs.partial.Kinds as partial-kinds
-use Rattle.walk.proofs.+field+inject+matched+partial.Lts-partial as partial-lts
-use Rattle.begin.proofs.piece_at.Reads as piece-at-reads
-use Rattle.begin.proofs.pieces.Reads as pieces-reads
-use Rattle.paths.proofs.FieldPath.payload.Reads as payload-reads
-use Rattle.paths.proofs.FieldPath.then.Reads as then-reads
-use Rattle.step.proofs.Walk.closer.Reads as closer-reads
-use Rattle.step.proofs.Walk.skip.Reads as skip-reads
-use Rattle.step.proofs.Walk.tag.Reads as tag-reads
-use Rattle.begin.proofs.begin.Reads as begin-reads
-use Rattle.begin.proofs.choose.Reads as choose-reads
-use Rattle.begin.proofs.meet.Reads as meet-reads
-use Rattle.walk.proofs.+field+inject+matched+partial.Proof.Base.{μ-field, μ-inject, μ-matched, μ-partial, field-at, field-below, inject-at, inject-below, matched-at, matched-below, partial-at, partial-below, field-claims, inject-claims, matched-claims, partial-claims}
+use Rattle.walk.proofs.+field+inject+matched+partial.Proof.Base.{inject-at, inject-claims}
 
--- src/lib.rt:198:9
 pub inject-choose-requires : (t : ℕ) → inject-lts.Need-choose-requires (inject-claims t) (inject-at t) inject.Post
 inject-choose-requires t c κs = (c .before .before .before .before .before .before .pre .1 .0, c .before .before .before .before .before .before .pre .1 .1 .known)
 
--- src/lib.rt:202:13
 pub inject-payload-requires : (t : ℕ) → inject-lts.Need-payload-requires (inject-claims t) (inject-at t) inject.Post
 inject-payload-requires t c κs = has-room _ (sound-tables _ _ (c .before .before .before .before .before .before .before .before .before .before .before .before .before .before .pre .1 .0)) _ _ _ (c .before .before .before .before .before .before .before .before .before .before .before .before .before .before .pre .1 .1) (c .before .before .before .before .before .before .before .choose .ensures 0 .lower (c .before .if1 .taken))
 
--- src/lib.rt:203:13
 pub inject-tag-requires : (t : ℕ) → inject-lts.Need-tag-requires (inject-claims t) (inject-at t) inject.Post
 inject-tag-requires t c κs = search needs
 
--- src/lib.rt:204:13
 pub inject-field-requires : (t : ℕ) → inject-lts.Need-field-requires (inject-claims t) (inject-at t) inject.Post
 inject-field-requires t c κs =
     let l = c .before .before .before .before .before .before .before .before .before .before .before .before .before .before .choose .ensures 0 .lower (c .before .before .before .before .before .before .before .before .if1 .taken) in
     (omega (arith, l .lower, c .before .before .before .before .before .before .before .before .before .before .before .before .before .before .before .before .before .before .before .before .before .pre .0), (c .before .before .before .before .before .before .before .before .before .before .before .before .before .before .before .before .before .before .before .before .before .pre .1 .0, fits-payload _ (sound-tables _ _ (c .before .before .before .before .before .before .before .before .before .before .before .before .before .before .before .before .before .before .before .before .before .pre .1 .0)) _ _ _ (c .before .before .before .before .before .before .before .before .before .before .before .before .before .before .before .before .before .before .before .before .before .pre .1 .1) l _ _ (c .before .before .before .before .before .before .payload .ensures)))
 
--- src/lib.rt:205:9
 pub inject-closer-requires : (t : ℕ) → inject-lts.Need-closer-requires (inject-claims t) (inject-at t) inject.Post
 inject-closer-requires t c κs = search needs
 
--- src/lib.rt:205:9
 pub inject-same-length : (t : ℕ) → inject-lts.Need-same-length (inject-claims t) (inject-at t) inject.Post
 inject-same-length t c = c .before .before .before .before .before .before .before .before .field .kept .1 .1 .0 ∙ c .before .before .before .before .before .before .before .before .before .before .before .before .before .before .before .before .before .before .before .before .before .before .before .choose .kept .1 .1 .0
 
--- src/lib.rt:205:9
 pub inject-same-length-2 : (t : ℕ) → inject-lts.Need-same-length-2 (inject-claims t) (inject-at t) inject.Post
 inject-same-length-2 t c = c .before .before .closer .kept .1 .1 .0 ∙ c .before .before .before .before .before .before .before .before .field .kept .1 .1 .1 .0 ∙ c .before .before .before .before .before .before .before .before .before .before .before .before .before .tag .kept .1 .1 .1 .0 ∙ c .before .before .before .before .before .before .before .before .before .before .before .before .before .before .before .before .before .before .before .before .before .before .before .choose .kept .1 .1 .1 .0
 
--- src/lib.rt:205:9
 pub inject-returns : (t : ℕ) → inject-lts.Need-returns (inject-claims t) (inject-at t) inject.Post
 inject-returns t c =
     inject-goes _ _ _ _ _ _ _ (c .before .before .before .before .before .before .before .before .before .before .before .before .before .before .before .before .before .before .before .before .before .before .before .choose .ensures _) (c .before .before .before .before .before .before .before .before .before .before .before .before .before .before .before .before .before .if1 .taken) _ (c .before .before .before .before .before .before .before .before .before .before .before .before .before .before .before .payload .ensures) _ _ _ (c .before .before .before .before .before .before .before .before .before .before .before .before .before .tag .ensures _ _) (c .before .before .before .before .before .before .before .before .field .ensures)
     (c .before .before .closer .ensures _ _ _ (building-is _ _ _ _))
 
--- src/lib.rt:183:1
 pub inject-same-length-3 : (t : ℕ) → inject-lts.Need-same-length-3 (inject-claims t) (inject-at t) inject.Post
 inject-same-length-3 t c = c .before .before .before .before .before .before .choose .kept .1 .1 .0
 
--- src/lib.rt:183:1
 pub inject-same-length-4 : (t : ℕ) → inject-lts.Need-same-length-4 (inject-claims t) (inject-at t) inject.Post
 inject-same-length-4 t c = c .before .before .before .before .before .before .choose .kept .1 .1 .1 .0
 
--- src/lib.rt:183:1
 pub inject-returns-2 : (t : ℕ) → inject-lts.Need-returns-2 (inject-claims t) (inject-at t) inject.Post
 inject-returns-2 t c = inject-done _ _ _ _ _ _ _ (c .before .before .before .before .before .before .choose .ensures _) (c .if1 .left)

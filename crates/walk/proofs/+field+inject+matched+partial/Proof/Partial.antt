@@ -9,32 +9,10 @@ use Rattle.step.specs.Step.{walkState}
 use Rattle.walk.proofs.Deeper.{has-room, fits-then}
 use Rattle.walk.proofs.Rounds.{partial-end}
 use Rattle.walk.proofs.Going.{Going, going-first, going-missing, going-given}
-use Prim.Native.Nat.{ℕ, _<_, _-_}
-use borrow.Fn.Kinds.{In}
-use borrow.Fn.PlainCycle.{Measures, is, falls, and}
-use Rattle.walk.proofs.field.Reads as field
-use Rattle.walk.proofs.field.Kinds as field-kinds
-use Rattle.walk.proofs.+field+inject+matched+partial.Lts-field as field-lts
-use Rattle.walk.proofs.inject.Reads as inject
-use Rattle.walk.proofs.inject.Kinds as inject-kinds
-use Rattle.walk.proofs.+field+inject+matched+partial.Lts-inject as inject-lts
-use Rattle.walk.proofs.matched.Reads as matched
-use Rattle.walk.proofs.matched.Kinds as matched-kinds
-use Rattle.walk.proofs.+field+inject+matched+partial.Lts-matched as matched-lts
+use Prim.Native.Nat.{ℕ, _-_}
 use Rattle.walk.proofs.partial.Reads as partial
-use Rattle.walk.proofs.partial.Kinds as partial-kinds
 use Rattle.walk.proofs.+field+inject+matched+partial.Lts-partial as partial-lts
-use Rattle.begin.proofs.piece_at.Reads as piece-at-reads
-use Rattle.begin.proofs.pieces.Reads as pieces-reads
-use Rattle.paths.proofs.FieldPath.payload.Reads as payload-reads
-use Rattle.paths.proofs.FieldPath.then.Reads as then-reads
-use Rattle.step.proofs.Walk.closer.Reads as closer-reads
-use Rattle.step.proofs.Walk.skip.Reads as skip-reads
-use Rattle.step.proofs.Walk.tag.Reads as tag-reads
-use Rattle.begin.proofs.begin.Reads as begin-reads
-use Rattle.begin.proofs.choose.Reads as choose-reads
-use Rattle.begin.proofs.meet.Reads as meet-reads
-use Rattle.walk.proofs.+field+inject+matched+partial.Proof.Base.{μ-field, μ-inject, μ-matched, μ-partial, field-at, field-below, inject-at, inject-below, matched-at, matched-below, partial-at, partial-below, field-claims, inject-claims, matched-claims, partial-claims}
+use Rattle.walk.proofs.+field+inject+matched+partial.Proof.Base.{partial-at, partial-claims}
 
 abbrev pub partial-Inv-loop : partial-lts.InvT-loop
 partial-Inv-loop file index work₀ plan₀ node ty address path n l₀ i₀ work plan l i = Going (tablesOf file) (address .0) node ty (λ x. x) (then (pathOf path)) i (walkState (tablesOf file) l₀ work₀ plan₀) (walkState (tablesOf file) l work plan) work₀ plan₀ work plan
@@ -42,66 +20,51 @@ partial-Inv-loop file index work₀ plan₀ node ty address path n l₀ i₀ wor
 abbrev pub partial-μ-loop : partial-lts.MeasureT-loop
 partial-μ-loop file index work₀ plan₀ node ty address path n l₀ i₀ work plan l i = n - i
 
--- src/lib.rt:167:9
 pub partial-pieces-requires : (t : ℕ) → partial-lts.Need-pieces-requires (partial-claims t) (partial-at t) partial.Post partial-Inv-loop partial-μ-loop
 partial-pieces-requires t c κs = (c .before .before .before .before .pre .1 .0, c .before .before .before .before .pre .1 .1 .known)
 
--- src/lib.rt:168:9
 pub partial-skip-requires : (t : ℕ) → partial-lts.Need-skip-requires (partial-claims t) (partial-at t) partial.Post partial-Inv-loop partial-μ-loop
 partial-skip-requires t c κs = search needs
 
--- src/lib.rt:170:5
 pub partial-loop-holds : (t : ℕ) → partial-lts.Need-loop-holds (partial-claims t) (partial-at t) partial.Post partial-Inv-loop partial-μ-loop
 partial-loop-holds t c = going-first _ _ _ _ _ _ _ _ _
 
--- src/lib.rt:171:13
 pub partial-piece-at-requires : (t : ℕ) → partial-lts.Need-piece-at-requires (partial-claims t) (partial-at t) partial.Post partial-Inv-loop partial-μ-loop
 partial-piece-at-requires t c κs = (c .before .before .before .before .before .before .before .before .pre .1 .0, (c .before .before .before .before .before .before .before .before .pre .1 .1 .known, omega (arith, c .loop-test .taken, c .before .before .before .pieces .ensures .0)))
 
--- src/lib.rt:172:20
 pub partial-cast-step : (t : ℕ) → partial-lts.Need-cast-step (partial-claims t) (partial-at t) partial.Post partial-Inv-loop partial-μ-loop
 partial-cast-step t c = omega (arith, c .before .loop-test .taken, c .before .before .before .before .pieces .ensures .1)
 
--- src/lib.rt:173:9
 pub partial-add-i : (t : ℕ) → partial-lts.Need-add-i (partial-claims t) (partial-at t) partial.Post partial-Inv-loop partial-μ-loop
 partial-add-i t c = omega (arith, c .before .loop-test .taken, c .before .before .before .before .pieces .ensures .1)
 
--- src/lib.rt:175:17
 pub partial-then-requires : (t : ℕ) → partial-lts.Need-then-requires (partial-claims t) (partial-at t) partial.Post partial-Inv-loop partial-μ-loop
 partial-then-requires t c κs = has-room _ (sound-tables _ _ (c .before .before .before .before .before .before .before .before .before .before .pre .1 .0)) _ _ _ (c .before .before .before .before .before .before .before .before .before .before .pre .1 .1) (c .before .piece-at .ensures .lower)
 
--- src/lib.rt:176:13
 pub partial-field-requires : (t : ℕ) → partial-lts.Need-field-requires (partial-claims t) (partial-at t) partial.Post partial-Inv-loop partial-μ-loop
 partial-field-requires t c κs =
     let l = c .before .before .before .before .piece-at .ensures .lower in
     (omega (arith, l .lower, c .before .before .before .before .before .before .before .before .before .before .before .before .before .pre .0), (c .before .before .before .before .before .before .before .before .before .before .before .before .before .pre .1 .0, fits-then _ (sound-tables _ _ (c .before .before .before .before .before .before .before .before .before .before .before .before .before .pre .1 .0)) _ _ _ (c .before .before .before .before .before .before .before .before .before .before .before .before .before .pre .1 .1) l _ _ (c .before .before .then .ensures)))
 
--- src/lib.rt:170:5
 pub partial-loop-less : (t : ℕ) → partial-lts.Need-loop-less (partial-claims t) (partial-at t) partial.Post partial-Inv-loop partial-μ-loop
 partial-loop-less t c = omega (arith, c .before .before .before .before .before .before .before .before .before .before .loop-test .taken)
 
--- src/lib.rt:170:5
 pub partial-loop-again : (t : ℕ) → partial-lts.Need-loop-again (partial-claims t) (partial-at t) partial.Post partial-Inv-loop partial-μ-loop
 partial-loop-again t c =
     going-given _ _ _ _ _ _ _ _ _ _ _ _ _ (c .before .before .before .before .before .before .before .before .before .before .before .loop .inv) (omega (arith, c .before .before .before .before .before .before .before .before .before .before .loop-test .taken, c .before .before .before .before .before .before .before .before .before .before .before .before .before .pieces .ensures .0)) _ (c .before .before .before .before .before .before .before .before .before .piece-at .ensures) _ _ _ (c .before .before .before .before .field .kept .1 .1 .0) (c .before .before .before .before .field .kept .1 .1 .1 .0)
     (c .before .before .before .before .before .before .before .before .if1 .taken) _ (c .before .before .before .before .before .before .before .then .ensures) (c .before .before .before .before .field .ensures)
 
--- src/lib.rt:170:5
 pub partial-loop-less-2 : (t : ℕ) → partial-lts.Need-loop-less-2 (partial-claims t) (partial-at t) partial.Post partial-Inv-loop partial-μ-loop
 partial-loop-less-2 t c = omega (arith, c .before .before .loop-test .taken)
 
--- src/lib.rt:170:5
 pub partial-loop-again-2 : (t : ℕ) → partial-lts.Need-loop-again-2 (partial-claims t) (partial-at t) partial.Post partial-Inv-loop partial-μ-loop
 partial-loop-again-2 t c = going-missing _ _ _ _ _ _ _ _ _ _ _ _ _ (c .before .before .before .loop .inv) (omega (arith, c .before .before .loop-test .taken, c .before .before .before .before .before .pieces .ensures .0)) _ (c .before .piece-at .ensures) _ _ _ refl refl (c .if1 .left) refl
 
--- src/lib.rt:152:1
 pub partial-same-length : (t : ℕ) → partial-lts.Need-same-length (partial-claims t) (partial-at t) partial.Post partial-Inv-loop partial-μ-loop
 partial-same-length t c = c .before .loop .inv .work-long
 
--- src/lib.rt:152:1
 pub partial-same-length-2 : (t : ℕ) → partial-lts.Need-same-length-2 (partial-claims t) (partial-at t) partial.Post partial-Inv-loop partial-μ-loop
 partial-same-length-2 t c = c .before .loop .inv .plan-long
 
--- src/lib.rt:152:1
 pub partial-returns : (t : ℕ) → partial-lts.Need-returns (partial-claims t) (partial-at t) partial.Post partial-Inv-loop partial-μ-loop
 partial-returns t c = partial-end _ _ _ _ _ _ _ _ _ _ _ _ (c .before .loop .inv) (omega (arith, c .loop-test .left, c .before .before .before .pieces .ensures .0)) _ (c .before .before .skip .ensures _ _ _)
