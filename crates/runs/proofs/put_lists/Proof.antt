@@ -1,7 +1,6 @@
-use mathlib.Core.Path.{_≡_, ap, refl, _∙_}
+use mathlib.Core.Path.{ap, _∙_}
 use Prim.Native.Nat.{ℕ, _-_, _/_}
 use denote.Ref.{now}
-use native.Mathlib.Omega.{arith}
 use Rattle.lists.specs.Lists.{endsOf}
 use Rattle.runs.proofs.Copies.{lists-put, run-as}
 use borrow.Author.Needs.{needs}

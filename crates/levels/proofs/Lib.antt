@@ -1,0 +1,3 @@
+mod Between
+mod Walks
+mod Writes

@@ -1,0 +1,152 @@
+-- A measured level and the lists: written where they fit, else the plan is too long.
+use mathlib.Core.Bool.{Bool, true, false}
+use mathlib.Core.List.{List}
+use mathlib.Core.Path.{_≡_, refl, sym, ap, _∙_}
+use Prim.Native.Nat.{ℕ, _+_, _≤_, _<_, min}
+use native.Mathlib.Omega.{arith}
+use borrow.Author.Tests.{le-leb, lt-leb}
+use lib.Dec.{leb}
+use lib.ListN.{length}
+use lib.Seq.{sets}
+use Rattle.rules.specs.Limits.{planLimit}
+use Rattle.rules.specs.File.{Tables, LevelEntry}
+use Rattle.rules.specs.Plan.{u16}
+use Rattle.rules.proofs.Cases.{by-test, true≢false}
+use Rattle.state.specs.State.{State, Level, state, stop, noEnds, newLevel, measuring}
+use Rattle.state.specs.State as Memory
+use Rattle.state.specs.Levels as Kept
+use Rattle.state.specs.Levels.{written}
+use Rattle.records.specs.Records.{put}
+use Rattle.records.proofs.Stores.{put-sets}
+use Rattle.lists.specs.Lists.{endsOf, stateWith}
+use Rattle.lists.specs.declared.Lists.{Lists}
+use Rattle.lists.specs.declared.Ends.{Ends}
+use Rattle.seek.specs.Seek.{levelOf}
+use Rattle.runs.specs.Runs.{listsIn}
+use Rattle.step.specs.Step.{walkState}
+use Rattle.step.specs.declared.Walk.{Walk}
+use Rattle.levels.specs.Written.{unleveled, between, writtenOf}
+use Rattle.levels.specs.declared.Written.{Written}
+use Rattle.levels.proofs.Between.{settled}
+
+-- where the plan is too long, the lists stand as they were
+stopped-is : (r : Written) (l : Lists) (at : ℕ) (work plan : List ℕ) (level : Level) (t : Memory.Target) → (r .at ≡ at) × (r .lists .over ≡ true) × (r .lists .ends ≡ l .ends) → writtenOf r work plan ≡ between (written at (stop (stateWith l level t work plan)))
+unfolding writtenOf between unleveled stop
+stopped-is r l at work plan level t (ea, eo, ee) =
+    ap (λ (k : ℕ). written k (state (r .lists .over) (endsOf (r .lists .ends)) newLevel measuring work plan)) ea
+    ∙ ap (λ (o : Bool). written at (state o (endsOf (r .lists .ends)) newLevel measuring work plan)) eo
+    ∙ ap (λ (e : Ends). written at (state true (endsOf e) newLevel measuring work plan)) ee
+
+module _ (T : Tables) (v : LevelEntry) (e : Memory.Ends) (at : ℕ) where
+  measured-over : (m : State) → m .over ≡ true → Kept.measured T v e at m ≡ written at m
+  unfolding Kept.measured
+  measured-over m o = by-test (λ (r : Kept.Written). r ≡ written at m) (m .over) (λ q. refl) (λ q. absurd (true≢false (sym o ∙ q)))
+
+  measured-live : (m : State) → m .over ≡ false → Kept.measured T v e at m ≡ elim (leb (Kept.levelEnd at (m .level)) (min planLimit (length (m .plan)))) [ true ↦ written (Kept.levelEnd at (m .level)) (Kept.rewritten T v e at m) | false ↦ written at (stop m) ]
+  unfolding Kept.measured
+  measured-live m o =
+      by-test (λ (r : Kept.Written). r ≡ elim (leb (Kept.levelEnd at (m .level)) (min planLimit (length (m .plan)))) [ true ↦ written (Kept.levelEnd at (m .level)) (Kept.rewritten T v e at m) | false ↦ written at (stop m) ]) (m .over)
+      (λ q. absurd (true≢false (sym q ∙ o))) (λ q. refl)
+
+  measured-long : (m : State) → m .over ≡ false → leb (Kept.levelEnd at (m .level)) (min planLimit (length (m .plan))) ≡ false → Kept.measured T v e at m ≡ written at (stop m)
+  measured-long m o b =
+      measured-live m o
+      ∙ by-test (λ (r : Kept.Written). r ≡ written at (stop m)) (leb (Kept.levelEnd at (m .level)) (min planLimit (length (m .plan)))) (λ q. absurd (true≢false (sym q ∙ b))) (λ q. refl)
+
+  measured-fits : (m : State) → m .over ≡ false → leb (Kept.levelEnd at (m .level)) (min planLimit (length (m .plan))) ≡ true → Kept.measured T v e at m ≡ written (Kept.levelEnd at (m .level)) (Kept.rewritten T v e at m)
+  measured-fits m o b =
+      measured-live m o
+      ∙ by-test (λ (r : Kept.Written). r ≡ written (Kept.levelEnd at (m .level)) (Kept.rewritten T v e at m)) (leb (Kept.levelEnd at (m .level)) (min planLimit (length (m .plan)))) (λ q. refl) (λ q. absurd (true≢false (sym b ∙ q)))
+
+  -- a walk that was measured, in the code's form
+  module _ (m : Walk) (work plan : List ℕ) where
+    abbrev seen : State
+    seen = walkState T m work plan
+
+    abbrev room : Bool
+    room = leb (Kept.levelEnd at (levelOf T (m .level))) (min planLimit (length plan))
+
+    pub over-left : m .lists .over ≡ true → writtenOf (record { at = at; lists = m .lists }) work plan ≡ between (Kept.measured T v e at seen)
+    unfolding walkState writtenOf between unleveled
+    over-left o = ap between (sym (measured-over seen o))
+
+    pub long-left : (r : Written) → m .lists .over ≡ false → room ≡ false → (r .at ≡ at) × (r .lists .over ≡ true) × (r .lists .ends ≡ m .lists .ends) → writtenOf r work plan ≡ between (Kept.measured T v e at seen)
+    unfolding walkState
+    long-left r o b s = stopped-is r (m .lists) at work plan _ _ s ∙ ap between (sym (measured-long seen o b))
+
+    pub fits-left : (r : Written) (work₁ plan₁ : List ℕ) → m .lists .over ≡ false → room ≡ true → r .at ≡ Kept.levelEnd at (levelOf T (m .level))
+        → ((e₀ : Memory.Ends) (t₀ : Memory.Target) → stateWith (r .lists) newLevel measuring work₁ plan₁ ≡ unleveled (Kept.rewritten T v e at (state false e₀ (levelOf T (m .level)) t₀ work plan)))
+        → writtenOf r work₁ plan₁ ≡ between (Kept.measured T v e at seen)
+    unfolding walkState writtenOf between
+    fits-left r work₁ plan₁ o b ea s =
+        ap (λ (k : ℕ). written k (stateWith (r .lists) newLevel measuring work₁ plan₁)) ea
+        ∙ ap (written (Kept.levelEnd at (levelOf T (m .level)))) (s (seen .ends) (seen .target)
+        ∙ ap (λ (x : Bool). unleveled (Kept.rewritten T v e at (state x (seen .ends) (seen .level) (seen .target) work plan))) (sym o))
+        ∙ ap between (sym (measured-fits seen o b))
+
+-- a level from what the one before left
+pub level-is : (T : Tables) (v : LevelEntry) (w : Written) (work plan : List ℕ) (b m : State) (r : Kept.Written) → b ≡ state (w .lists .over) (endsOf (w .lists .ends)) newLevel (record { writing = false; joining = false; partsAt = 0; restAt = 0 }) work plan → m ≡ Kept.walked T v b
+    → r ≡ between (Kept.measured T v (endsOf (w .lists .ends)) (w .at) m) → r ≡ between (Kept.level T v (writtenOf w work plan))
+unfolding Kept.level Kept.begin writtenOf measuring
+level-is T v w work plan b m r eb em er =
+    er ∙ ap (λ (x : State). between (Kept.measured T v (endsOf (w .lists .ends)) (w .at) x)) (em ∙ ap (Kept.walked T v) eb)
+
+-- the lists after the levels
+module _ (w : Written) (work plan : List ℕ) where
+  abbrev bytes : List ℕ
+  bytes = listsIn (endsOf (w .lists .ends)) work
+
+  abbrev before : State
+  before = stateWith (w .lists) newLevel measuring work plan
+
+  finished-live : w .lists .over ≡ false → Kept.finished (writtenOf w work plan) ≡ elim (leb (w .at + length bytes) (min planLimit (length plan))) [ true ↦ written (w .at + length bytes) (state false (endsOf (w .lists .ends)) newLevel measuring work (sets plan (w .at) bytes)) | false ↦ written (w .at) (stop before) ]
+  unfolding Kept.finished Kept.lists writtenOf
+  finished-live o =
+      by-test (λ (r : Kept.Written). r ≡ elim (leb (w .at + length bytes) (min planLimit (length plan))) [ true ↦ written (w .at + length bytes) (state false (endsOf (w .lists .ends)) newLevel measuring work (sets plan (w .at) bytes)) | false ↦ written (w .at) (stop before) ]) (w .lists .over)
+      (λ q. absurd (true≢false (sym q ∙ o))) (λ q. refl)
+
+  pub finished-over : w .lists .over ≡ true → writtenOf w work plan ≡ between (Kept.finished (writtenOf w work plan))
+  unfolding Kept.finished writtenOf
+  finished-over o =
+      sym (settled w work plan)
+      ∙ ap between (by-test (λ (r : Kept.Written). writtenOf w work plan ≡ r) (writtenOf w work plan .state .over) (λ q. refl) (λ q. absurd (true≢false (sym o ∙ q))))
+
+  pub finished-long : (r : Written) (n : ℕ) → n ≡ length bytes → w .lists .over ≡ false → min planLimit (length plan) < w .at + n → (r .at ≡ w .at) × (r .lists .over ≡ true) × (r .lists .ends ≡ w .lists .ends) → writtenOf r work plan ≡ between (Kept.finished (writtenOf w work plan))
+  finished-long r n en o h s =
+      stopped-is r (w .lists) (w .at) work plan newLevel measuring s
+      ∙ ap between (sym (finished-live o ∙ by-test (λ (r : Kept.Written). r ≡ written (w .at) (stop before)) (leb (w .at + length bytes) (min planLimit (length plan)))
+      (λ q. absurd (true≢false (sym q ∙ lt-leb (w .at + length bytes) (min planLimit (length plan)) (omega (arith, h, en))))) (λ q. refl)))
+
+  pub finished-fits : (n : ℕ) (plan₁ : List ℕ) → n ≡ length bytes → w .lists .over ≡ false → w .at + n ≤ min planLimit (length plan) → plan₁ ≡ put plan (w .at) bytes → writtenOf (record { at = w .at + n; lists = w .lists }) work plan₁ ≡ between (Kept.finished (writtenOf w work plan))
+  unfolding writtenOf between unleveled
+  finished-fits n plan₁ en o h ep =
+      ap (λ (x : Bool). written (w .at + n) (state x (endsOf (w .lists .ends)) newLevel measuring work plan₁)) o
+      ∙ ap (λ (k : ℕ). written (w .at + k) (state false (endsOf (w .lists .ends)) newLevel measuring work plan₁)) en
+      ∙ ap (λ (p : List ℕ). written (w .at + length bytes) (state false (endsOf (w .lists .ends)) newLevel measuring work p)) (ep ∙ put-sets plan (w .at) bytes)
+      ∙ ap between (sym (finished-live o ∙ by-test (λ (r : Kept.Written). r ≡ written (w .at + length bytes) (state false (endsOf (w .lists .ends)) newLevel measuring work (sets plan (w .at) bytes))) (leb (w .at + length bytes) (min planLimit (length plan)))
+      (λ q. refl) (λ q. absurd (true≢false (sym (le-leb (w .at + length bytes) (min planLimit (length plan)) (omega (arith, h, en))) ∙ q)))))
+
+finished-between : (w : Kept.Written) → between (Kept.finished (between w)) ≡ between (Kept.finished w)
+unfolding Kept.finished Kept.lists between unleveled stop
+finished-between w = go (w .state .over) (leb (w .at + length (Kept.lists (w .state))) (min planLimit (length (w .state .plan))))
+  where
+    s : State
+    s = w .state
+
+    go : (o b : Bool) → between (elim o [ true ↦ between w | false ↦ elim b [ true ↦ written (w .at + length (Kept.lists s)) (state false (s .ends) newLevel measuring (s .work) (sets (s .plan) (w .at) (Kept.lists s))) | false ↦ written (w .at) (stop (unleveled s)) ] ]) ≡ between (elim o [ true ↦ w | false ↦ elim b [ true ↦ written (w .at + length (Kept.lists s)) (state false (s .ends) (s .level) (s .target) (s .work) (sets (s .plan) (w .at) (Kept.lists s))) | false ↦ written (w .at) (stop s) ] ])
+    go true b = refl
+    go false true = refl
+    go false false = refl
+
+-- the whole plan, after the count of its levels
+abbrev begins : Written
+begins = record { at = 2; lists = record { over = false; ends = record { bindings = 0; «binding_count» = 0; constrained = 16384; selects = 32768; «select_count» = 0; diagnostics = 49152 } } }
+
+pub write-is : (T : Tables) (n : ℕ) (w r : Written) (work plan plan₁ work₂ plan₂ plan₃ : List ℕ) → n ≡ length (T .levels) → plan₁ ≡ put plan 0 (u16 n)
+    → writtenOf w work₂ plan₂ ≡ between (Kept.levels T (T .levels) (writtenOf begins work plan₁)) → writtenOf r work₂ plan₃ ≡ between (Kept.finished (writtenOf w work₂ plan₂)) → writtenOf r work₂ plan₃ ≡ between (Kept.compiled T work plan)
+unfolding Kept.compiled Kept.started writtenOf noEnds
+write-is T n w r work plan plan₁ work₂ plan₂ plan₃ en ep ew er =
+    er ∙ ap (λ (x : Kept.Written). between (Kept.finished x)) ew
+    ∙ finished-between (Kept.levels T (T .levels) (writtenOf begins work plan₁))
+    ∙ ap (λ (p : List ℕ). between (Kept.finished (Kept.levels T (T .levels) (written 2 (state false noEnds newLevel measuring work p)))))
+    (ep ∙ put-sets plan 0 (u16 n) ∙ ap (λ (k : ℕ). sets plan 0 (u16 k)) en)

@@ -1,0 +1,45 @@
+use denote.Ref.{now}
+use Rattle.file.specs.Tables.{tablesOf}
+use Rattle.views.specs.Views.{levelAt}
+use Rattle.levels.proofs.Writes.{level-is}
+use borrow.Author.Needs.{needs}
+use Rattle.levels.proofs.level.Statement.{statement}
+use Rattle.levels.proofs.level.Tie as tie
+use Rattle.levels.proofs.level.Reads as reads
+use Rattle.levels.proofs.level.Lts as lts
+use Rattle.levels.proofs.begun.Reads as begun-reads
+use Rattle.levels.proofs.measured.Reads as measured-reads
+use Rattle.levels.proofs.walked.Reads as walked-reads
+
+-- src/lib.rt:181:48
+begun-requires : tie.Need-begun-requires
+begun-requires c κs = search needs
+
+-- src/lib.rt:181:9
+walked-requires : tie.Need-walked-requires
+walked-requires c κs = search needs
+
+-- src/lib.rt:182:5
+measured-requires : tie.Need-measured-requires
+measured-requires c κs = search needs
+
+-- src/lib.rt:168:1
+same-length : tie.Need-same-length
+same-length c = search needs
+
+-- src/lib.rt:168:1
+same-length-2 : tie.Need-same-length-2
+same-length-2 c = search needs
+
+-- src/lib.rt:168:1
+returns : tie.Need-returns
+returns c =
+    let a = c .before .before .before .before .before .before .before .before .before .before .before .before .before .before .before .before .before .before .before .before .before .args in
+    let T = tablesOf (now (a .file)) in
+    let m = c .before .before .before .before .measured .ensures in
+    (level-is T (levelAt T (a .k)) (a .w) (now (a .work)) (now (a .plan)) _ _ _ (c .before .before .before .before .before .before .before .before .before .before .before .before .begun .ensures T _ _) (c .before .before .before .before .before .before .before .before .before .before .before .walked .ensures) (m .0), m .1)
+
+pub level-spec : {M : Type 1} → statement M
+level-spec =
+    tie.close
+    (tie.spec begun-requires walked-requires measured-requires same-length same-length-2 returns)

@@ -1,0 +1,94 @@
+use denote.Ref.{now}
+use native.Mathlib.Omega.{arith}
+use Rattle.file.specs.Tables.{tablesOf}
+use Rattle.seek.specs.Seek.{levelOf}
+use Rattle.lists.specs.Lists.{endsOf}
+use Rattle.views.specs.Views.{levelAt}
+use Rattle.frame.proofs.Places.{past-limit, past-room, in-room, end-is}
+use Rattle.levels.proofs.Writes.{over-left, long-left, fits-left}
+use borrow.Author.Needs.{needs}
+use Rattle.levels.proofs.measured.Statement.{statement}
+use Rattle.levels.proofs.measured.Tie as tie
+use Rattle.levels.proofs.measured.Reads as reads
+use Rattle.levels.proofs.measured.Lts as lts
+use Rattle.frame.proofs.measure.Reads as measure-reads
+use Rattle.levels.proofs.rewritten.Reads as rewritten-reads
+use Rattle.levels.proofs.stopped.Reads as stopped-reads
+
+-- src/lib.rt:149:9
+returns : tie.Need-returns
+returns c =
+    let s = c .before .before .before .before .before .before in
+    let a = s .args in
+    let T = tablesOf (now (a .file)) in
+    (over-left T (levelAt T (a .k)) (endsOf (a .ends)) (a .at) (a .m) (now (a .work)) (now (a .plan)) (c .if1 .taken), s .pre .1 .1)
+
+-- src/lib.rt:152:9
+measure-requires : tie.Need-measure-requires
+measure-requires c κs = search needs
+
+-- src/lib.rt:155:9
+stopped-requires : tie.Need-stopped-requires
+stopped-requires c κs = search needs
+
+-- src/lib.rt:155:9
+returns-2 : tie.Need-returns-2
+returns-2 c =
+    let s = c .before .before .before .before .before .before .before .before .before .before in
+    let a = s .args in
+    let T = tablesOf (now (a .file)) in (
+      long-left T (levelAt T (a .k)) (endsOf (a .ends)) (a .at) (a .m) (now (a .work)) (now (a .plan)) _ (c .before .before .before .before .if1 .left) (past-limit (a .at) (levelOf T (a .m .level)) _ (c .before .before .measure .ensures) (c .before .if2 .taken) _) (c .stopped .ensures),
+      omega (arith, c .stopped .ensures .0, s .pre .1 .1),
+    )
+
+-- src/lib.rt:158:9
+stopped-requires-2 : tie.Need-stopped-requires-2
+stopped-requires-2 c κs = search needs
+
+-- src/lib.rt:158:9
+returns-3 : tie.Need-returns-3
+returns-3 c =
+    let s = c .before .before .before .before .before .before .before .before .before .before .before in
+    let a = s .args in
+    let T = tablesOf (now (a .file)) in (
+      long-left T (levelAt T (a .k)) (endsOf (a .ends)) (a .at) (a .m) (now (a .work)) (now (a .plan)) _ (c .before .before .before .before .before .if1 .left) (past-room (a .at) (levelOf T (a .m .level)) _ (c .before .before .before .measure .ensures) (c .before .before .if2 .left) _ (c .before .if3 .taken)) (c .stopped2 .ensures),
+      omega (arith, c .stopped2 .ensures .0, s .pre .1 .1),
+    )
+
+-- src/lib.rt:160:9
+rewritten-requires : tie.Need-rewritten-requires
+rewritten-requires c κs = let s = c .before .before .before .before .before .before .before .before .before .before .before .before in (s .pre .0, (s .pre .1 .0, (c .before .before .before .before .measure .ensures, c .before .before .before .if2 .left)))
+
+-- src/lib.rt:133:1
+same-length : tie.Need-same-length
+same-length c = search needs
+
+-- src/lib.rt:133:1
+same-length-2 : tie.Need-same-length-2
+same-length-2 c = search needs
+
+-- src/lib.rt:133:1
+returns-4 : tie.Need-returns-4
+returns-4 c =
+    let s = c .before .before .before .before .before .before .before .before .before .before .before .before .before .before .before .before .before in
+    let a = s .args in
+    let T = tablesOf (now (a .file)) in
+    let L = levelOf T (a .m .level) in
+    let ef = c .before .before .before .before .before .before .before .before .before .measure .ensures in
+    let h = c .before .before .before .before .before .before .before .before .if2 .left in
+    (fits-left T (levelAt T (a .k)) (endsOf (a .ends)) (a .at) (a .m) (now (a .work)) (now (a .plan)) _ _ _ (c .before .before .before .before .before .before .before .before .before .before .before .if1 .left) (in-room (a .at) L _ ef h _ (c .before .before .before .before .before .before .before .if3 .left)) (end-is (a .at) L _ ef h) (c .before .before .before .before .rewritten .ensures), h)
+
+pub measured-spec : {M : Type 1} → statement M
+measured-spec =
+    tie.close
+    (tie.spec
+    returns
+    measure-requires
+    stopped-requires
+    returns-2
+    stopped-requires-2
+    returns-3
+    rewritten-requires
+    same-length
+    same-length-2
+    returns-4)

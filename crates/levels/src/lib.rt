@@ -1,0 +1,231 @@
+// A level measured, then written at its place in the plan; the list of levels, each from exactly what the one before left; the four lists after them.
+ghost use mathlib.Core.Path.{_≡_};
+ghost use mathlib.Core.Bool.{true, false};
+ghost use mathlib.Core.List.{List};
+ghost use Prim.Native.Nat.{ℕ, _≤_, _<_};
+ghost use lib.ListN.{length};
+ghost use Rattle.rules.specs.Limits.{planLimit};
+ghost use Rattle.rules.specs.File.{Tables};
+ghost use Rattle.state.specs.State.{newLevel, measuring, state};
+ghost use Rattle.state.specs.State as Memory;
+ghost use Rattle.state.specs.Levels as Kept;
+ghost use Rattle.file.specs.Tables.{tablesOf};
+ghost use Rattle.views.specs.Views.{levelAt};
+ghost use Rattle.ready.specs.Ready.{Ready};
+ghost use Rattle.seek.specs.Seek.{levelOf, targetOf};
+ghost use Rattle.lists.specs.Lists.{endsOf, stateWith};
+ghost use Rattle.frame.specs.Frames.{frameOf};
+ghost use Rattle.step.specs.Step.{walkState};
+ghost use Rattle.levels.specs.Written.{unleveled, between, writtenOf};
+use entries::predicate_of;
+use frame::Frame;
+use frame::measure;
+use frame::put_frame;
+use frame::seek_number;
+use lists::Ends;
+use lists::Lists;
+use records::put16;
+use runs::lists_len;
+use runs::put_lists;
+use seek::SeekBuilder;
+use seek::Target;
+use step::Walk;
+use views::count_of;
+use views::level_at;
+use walk::key;
+
+const PLAN_LIMIT: usize = 16384;
+
+// How far the plan is written, and the lists so far.
+pub struct Written {
+    pub at: usize,
+    pub lists: Lists,
+}
+
+// A level's walk begins.
+fn begun(over: bool, ends: Ends, target: Target) -> Walk
+    ensures { λ r. ⌜ ((T : Tables) (w p : List ℕ) → walkState T r w p ≡ state over (endsOf ends) newLevel (targetOf target) w p) ⌝ }
+{
+    let level = SeekBuilder::new(target);
+    let lists = Lists { over, ends };
+    Walk { lists, level }
+}
+
+// The walk of level k.
+fn walked(file: &[u8], index: &[u16], work: &mut [u8], plan: &mut [u8], k: usize, w: Walk) -> Walk
+    requires { ⌜ Ready (now file) (now index) ⌝ }
+    requires { ⌜ k < length (tablesOf (now file) .levels) ⌝ }
+    ensures { λ r. ⌜ walkState (tablesOf (now (file .entry))) r (now (work .exit)) (now (plan .exit)) ≡ Kept.walked (tablesOf (now (file .entry))) (levelAt (tablesOf (now (file .entry))) k) (walkState (tablesOf (now (file .entry))) w (now (work .entry)) (now (plan .entry))) ⌝ }
+{
+    let e = level_at(file, index, k);
+    let p = predicate_of(file, index, e.predicate);
+    let address = e.address;
+    key(file, index, work, plan, e.node, p.key, address, w)
+}
+
+// A level's place in the plan, as it was measured.
+fn target(f: Frame, l: SeekBuilder) -> Target
+    requires { ⌜ (f .parts < 65536) × (f .rest < 65536) ⌝ }
+    ensures { λ r. ⌜ ((T : Tables) → targetOf r ≡ record { writing = true; joining = Kept.joining (levelOf T l); partsAt = f .parts; restAt = f .rest }) ⌝ }
+{
+    Target {
+        writing: true,
+        joining: seek_number(l) == 0,
+        parts: f.parts as u32,
+        rest: f.rest as u32,
+    }
+}
+
+// Measured, the level is walked once more from the lists as they were, and written.
+fn rewritten(
+    file: &[u8],
+    index: &[u16],
+    work: &mut [u8],
+    plan: &mut [u8],
+    k: usize,
+    at: usize,
+    f: Frame,
+    l: SeekBuilder,
+    ends: Ends,
+) -> Lists
+    requires { ⌜ Ready (now file) (now index) ⌝ }
+    requires { ⌜ k < length (tablesOf (now file) .levels) ⌝ }
+    requires { ⌜ (f ≡ frameOf at (levelOf (tablesOf (now file)) l)) × (f .end ≤ planLimit) ⌝ }
+    ensures { λ r. ⌜ ((e : Memory.Ends) (t : Memory.Target) → stateWith r newLevel measuring (now (work .exit)) (now (plan .exit)) ≡ unleveled (Kept.rewritten (tablesOf (now (file .entry))) (levelAt (tablesOf (now (file .entry))) k) (endsOf ends) at (state false e (levelOf (tablesOf (now (file .entry))) l) t (now (work .entry)) (now (plan .entry))))) ⌝ }
+{
+    put_frame(file, index, plan, at, f, l);
+    let w = begun(false, ends, target(f, l));
+    let r = walked(file, index, work, plan, k, w);
+    r.lists
+}
+
+// The plan is too long.
+fn stopped(at: usize, l: Lists) -> Written
+    ensures { λ r. ⌜ (r .at ≡ at) × (r .lists .over ≡ true) × (r .lists .ends ≡ l .ends) ⌝ }
+{
+    let mut lists = l;
+    lists.over = true;
+    Written { at, lists }
+}
+
+// A level that was walked to measure it: written where it fits.
+fn measured(
+    file: &[u8],
+    index: &[u16],
+    work: &mut [u8],
+    plan: &mut [u8],
+    k: usize,
+    at: usize,
+    ends: Ends,
+    m: Walk,
+) -> Written
+    requires { ⌜ Ready (now file) (now index) ⌝ }
+    requires { ⌜ (k < length (tablesOf (now file) .levels)) × (at ≤ planLimit) ⌝ }
+    ensures { λ r. ⌜ (writtenOf r (now (work .exit)) (now (plan .exit)) ≡ between (Kept.measured (tablesOf (now (file .entry))) (levelAt (tablesOf (now (file .entry))) k) (endsOf ends) at (walkState (tablesOf (now (file .entry))) m (now (work .entry)) (now (plan .entry))))) × (r .at ≤ planLimit) ⌝ }
+{
+    let lists = m.lists;
+    if lists.over {
+        return Written { at, lists };
+    }
+    let l = m.level;
+    let f = measure(file, index, at, l);
+    let end = f.end;
+    if end > PLAN_LIMIT {
+        return stopped(at, lists);
+    }
+    if end > plan.len() {
+        return stopped(at, lists);
+    }
+    let left = rewritten(file, index, work, plan, k, at, f, l, ends);
+    Written {
+        at: end,
+        lists: left,
+    }
+}
+
+// Level k: measured, then written.
+fn level(
+    file: &[u8],
+    index: &[u16],
+    work: &mut [u8],
+    plan: &mut [u8],
+    k: usize,
+    w: Written,
+) -> Written
+    requires { ⌜ Ready (now file) (now index) ⌝ }
+    requires { ⌜ (k < length (tablesOf (now file) .levels)) × (w .at ≤ planLimit) ⌝ }
+    ensures { λ r. ⌜ (writtenOf r (now (work .exit)) (now (plan .exit)) ≡ between (Kept.level (tablesOf (now (file .entry))) (levelAt (tablesOf (now (file .entry))) k) (writtenOf w (now (work .entry)) (now (plan .entry))))) × (r .at ≤ planLimit) ⌝ }
+{
+    let lists = w.lists;
+    let ends = lists.ends;
+    let t = Target {
+        writing: false,
+        joining: false,
+        parts: 0,
+        rest: 0,
+    };
+    let m = walked(file, index, work, plan, k, begun(lists.over, ends, t));
+    measured(file, index, work, plan, k, w.at, ends, m)
+}
+
+// The levels in order; once the plan is too long no level is walked.
+fn levels(file: &[u8], index: &[u16], work: &mut [u8], plan: &mut [u8], start: Written) -> Written
+    requires { ⌜ Ready (now file) (now index) ⌝ }
+    requires { ⌜ start .at ≤ planLimit ⌝ }
+    ensures { λ r. ⌜ (writtenOf r (now (work .exit)) (now (plan .exit)) ≡ between (Kept.levels (tablesOf (now (file .entry))) (tablesOf (now (file .entry)) .levels) (writtenOf start (now (work .entry)) (now (plan .entry))))) × (r .at ≤ planLimit) ⌝ }
+{
+    let n = count_of(file, index, 9);
+    let mut w = start;
+    let mut k: usize = 0;
+    while k < n {
+        let lists = w.lists;
+        if lists.over {
+            return w;
+        }
+        w = level(file, index, work, plan, k, w);
+        k += 1;
+    }
+    w
+}
+
+// The four lists after the levels, where they fit.
+fn finished(work: &[u8], plan: &mut [u8], w: Written) -> Written
+    requires { ⌜ w .at ≤ planLimit ⌝ }
+    ensures { λ r. ⌜ writtenOf r (now (work .entry)) (now (plan .exit)) ≡ between (Kept.finished (writtenOf w (now (work .entry)) (now (plan .entry)))) ⌝ }
+{
+    let lists = w.lists;
+    if lists.over {
+        return w;
+    }
+    let ends = lists.ends;
+    let at = w.at;
+    let last = at + lists_len(work, ends);
+    if last > PLAN_LIMIT {
+        return stopped(at, lists);
+    }
+    if last > plan.len() {
+        return stopped(at, lists);
+    }
+    put_lists(work, plan, at, ends);
+    Written { at: last, lists }
+}
+
+// The whole plan.
+pub fn write(file: &[u8], index: &[u16], work: &mut [u8], plan: &mut [u8]) -> Written
+    requires { ⌜ Ready (now file) (now index) ⌝ }
+    ensures { λ r. ⌜ writtenOf r (now (work .exit)) (now (plan .exit)) ≡ between (Kept.compiled (tablesOf (now (file .entry))) (now (work .entry)) (now (plan .entry))) ⌝ }
+{
+    put16(plan, 0, count_of(file, index, 9));
+    let ends = Ends {
+        bindings: 0,
+        binding_count: 0,
+        constrained: 16384,
+        selects: 32768,
+        select_count: 0,
+        diagnostics: 49152,
+    };
+    let lists = Lists { over: false, ends };
+    let start = Written { at: 2, lists };
+    let w = levels(file, index, work, plan, start);
+    finished(&work[..], plan, w)
+}
