@@ -17,9 +17,10 @@ ghost use Rattle.views.specs.Views.{patternAt, predicateOption};
 ghost use Rattle.slots.specs.Slots.{slotOf};
 ghost use Rattle.ready.specs.Ready.{Ready};
 ghost use Rattle.lookups.specs.Lookups.{SeenRun};
+ghost use Rattle.lists.specs.Lists.{codeOf};
 ghost use Rattle.step.specs.Step.{walkState};
 ghost use Rattle.begin.specs.Pieces.{Fits, fieldsFor, Pieced};
-ghost use Rattle.begin.specs.Begin.{injectAt, injectFields, recordWalk, Begins, Meets, Chooses};
+ghost use Rattle.begin.specs.Begin.{diagnosed, injectAt, injectFields, recordWalk, Begins, Meets, Chooses};
 use constrain::constrain;
 use constrain::narrow;
 use constrain::ranged;
@@ -159,6 +160,16 @@ fn done(w: Walk) -> Begun
     }
 }
 
+// A diagnostic. `falls` says whether building falls with it.
+fn diagnose(work: &mut [u8], node: usize, code: Code, falls: bool, w: Walk) -> Walk
+    ensures { λ r. ⌜ ((T : File.Tables) (plan : List ℕ) → walkState T r (now (work .exit)) plan ≡ diagnosed node (codeOf code) falls (walkState T w (now (work .entry)) plan)) ⌝ }
+{
+    if falls {
+        return w.decline(work, node, code);
+    }
+    w.report(work, node, code)
+}
+
 // The kinds that another phase reports.
 fn is_deferred(file: &[u8], index: &[u16], node: usize) -> bool
     requires { ⌜ Indexed (now file) (now index) ⌝ }
@@ -184,7 +195,7 @@ fn unresolved(file: &[u8], index: &[u16], work: &mut [u8], node: usize, mark: u3
     let lists = w.lists;
     let ends = lists.ends;
     if ends.diagnostics == mark {
-        return w.decline(work, node, Code::RejectUnresolvedAccess);
+        return diagnose(work, node, Code::RejectUnresolvedAccess, true, w);
     }
     w.skip()
 }
@@ -218,9 +229,10 @@ fn begin_read(file: &[u8], index: &[u16], work: &mut [u8], node: usize, w: Walk)
     ensures { λ r. ⌜ ((address ty : ℕ) (path : File.FieldPath) (plan : List ℕ) → Begins (tablesOf (now (file .entry))) address node ty path (λ below. Rules.read (ops (tablesOf (now (file .entry)))) (tablesOf (now (file .entry))) address below node ty path (walkState (tablesOf (now (file .entry))) w (now (work .entry)) plan)) r (walkState (tablesOf (now (file .entry))) (r .walk) (now (work .exit)) plan)) ⌝ }
 {
     let lists = w.lists;
-    let ends = lists.ends;
     let a = resolve(file, index, work, node, lists);
-    let walk = w.listed(a.lists);
+    let after = a.lists;
+    let mark = lists.ends;
+    let walk = w.listed(after);
     if a.some {
         let slot = a.slot;
         return Begun {
@@ -229,7 +241,7 @@ fn begin_read(file: &[u8], index: &[u16], work: &mut [u8], node: usize, w: Walk)
             walk,
         };
     }
-    begin_pieces(file, index, work, node, ends.diagnostics, walk)
+    begin_pieces(file, index, work, node, mark.diagnostics, walk)
 }
 
 // A variable binds while it is new, before its constraints are read; else it is a read.
@@ -305,11 +317,11 @@ pub fn begin(
     match node_of(file, index, node) {
         NodeView::Var(x) => begin_variable(file, index, work, plan, x, node, ty, address, path, w),
         NodeView::Wildcard => done(w.skip()),
-        NodeView::Never => done(w.decline(work, node, Code::NyiNever)),
+        NodeView::Never => done(diagnose(work, node, Code::NyiNever, true, w)),
         NodeView::Prefix(_) => done(ranged(file, index, work, plan, node, ty, path, w)),
         NodeView::Fuzzy(_, _, _) => done(ranged(file, index, work, plan, node, ty, path, w)),
         NodeView::Record(_, _) => begin_record(file, index, work, node, ty, w),
-        NodeView::Disjunction => done(w.decline(work, node, Code::NyiDisjunction)),
+        NodeView::Disjunction => done(diagnose(work, node, Code::NyiDisjunction, true, w)),
         _ => begin_read(file, index, work, node, w),
     }
 }
@@ -344,10 +356,11 @@ fn meet_row(
     requires { ⌜ Indexed (now file) (now index) ⌝ }
     ensures { λ r. ⌜ ((address : ℕ) (below : FieldWalk State) → (walkState (tablesOf (now (file .entry))) r (now (work .exit)) (now (plan .exit))) ≡ Rules.matched (ops (tablesOf (now (file .entry)))) (tablesOf (now (file .entry))) address below node (File.Slot.Row (from .0) (predicateOption predicate)) ty (pathOf path) (walkState (tablesOf (now (file .entry))) w (now (work .entry)) (now (plan .entry)))) ⌝ }
 {
-    if refers_to(predicate, fact_ty(file, index, ty)) {
+    let referenced = fact_ty(file, index, ty);
+    if refers_to(predicate, referenced) {
         return w.fact_id(path, from, plan);
     }
-    w.report(work, node, Code::RejectTypeMismatch)
+    diagnose(work, node, Code::RejectTypeMismatch, false, w)
 }
 
 // A register's field. The level's own register is the row at hand: reported, and building stays.
@@ -364,7 +377,7 @@ fn meet_field(
     ensures { λ r. ⌜ ((T : File.Tables) (below : FieldWalk State) (ty t : ℕ) → walkState T r (now (work .exit)) (now (plan .exit)) ≡ Rules.matched (ops T) T (address .0) below node (File.Slot.Field (from .0) (pathOf at) ty) t (pathOf path) (walkState T w (now (work .entry)) (now (plan .entry)))) ⌝ }
 {
     if from.0 == address.0 {
-        return w.report(work, node, Code::NyiRepeatedVariable);
+        return diagnose(work, node, Code::NyiRepeatedVariable, false, w);
     }
     w.register_field(path, from, at, plan)
 }
@@ -436,8 +449,8 @@ pub fn meet(
             path,
             w,
         )),
-        SlotKind::Key(_, _) => unopened(w.decline(work, node, Code::NyiWholeKey)),
-        SlotKind::Derived(_) => unopened(w.decline(work, node, Code::NyiValueMatch)),
+        SlotKind::Key(_, _) => unopened(diagnose(work, node, Code::NyiWholeKey, true, w)),
+        SlotKind::Derived(_) => unopened(diagnose(work, node, Code::NyiValueMatch, true, w)),
         SlotKind::Field(from, _) => unopened(meet_field(
             work,
             plan,
@@ -448,7 +461,7 @@ pub fn meet(
             path,
             w,
         )),
-        SlotKind::Value(_, _) => unopened(w.report(work, node, Code::NyiValueMatch)),
+        SlotKind::Value(_, _) => unopened(diagnose(work, node, Code::NyiValueMatch, false, w)),
         SlotKind::Const(n) => meet_const(file, index, plan, n, ty, path, w),
     }
 }
@@ -485,11 +498,11 @@ fn choose_alternative(
         return unchosen(w);
     };
     if k != 1 {
-        return unchosen(w.decline(work, node, Code::RejectUnionArity));
+        return unchosen(diagnose(work, node, Code::RejectUnionArity, true, w));
     }
     let p = field_pattern_at(file, at, 0);
     let MaybeAlternative::Just(a) = alternative_of(file, from, m, p.name) else {
-        return unchosen(w.decline(work, node, Code::RejectUnknownAlternative));
+        return unchosen(diagnose(work, node, Code::RejectUnknownAlternative, true, w));
     };
     Chosen {
         go: true,

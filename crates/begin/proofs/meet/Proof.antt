@@ -4,134 +4,133 @@ use Rattle.begin.proofs.meet.Statement.{statement}
 use Rattle.begin.proofs.meet.Tie as tie
 use Rattle.begin.proofs.meet.Reads as reads
 use Rattle.begin.proofs.meet.Lts as lts
+use Rattle.begin.proofs.diagnose.Reads as diagnose-reads
 use Rattle.begin.proofs.meet_const.Reads as meet-const-reads
 use Rattle.begin.proofs.meet_field.Reads as meet-field-reads
 use Rattle.begin.proofs.meet_row.Reads as meet-row-reads
 use Rattle.begin.proofs.unopened.Reads as unopened-reads
-use Rattle.step.proofs.Walk.decline.Reads as decline-reads
-use Rattle.step.proofs.Walk.report.Reads as report-reads
 
--- src/lib.rt:413:23
+-- src/lib.rt:440:23
 enum-known-kind : tie.Need-enum-known-kind
 enum-known-kind c = search needs
 
--- src/lib.rt:413:44
+-- src/lib.rt:440:44
 meet-row-requires : tie.Need-meet-row-requires
 meet-row-requires c κs = search needs
 
--- src/lib.rt:413:35
+-- src/lib.rt:440:35
 unopened-requires : tie.Need-unopened-requires
 unopened-requires c κs = search needs
 
--- src/lib.rt:414:51
+-- src/lib.rt:452:50
 enum-told : tie.Need-enum-told
 enum-told c = search needs
 
--- src/lib.rt:414:41
-decline-requires : tie.Need-decline-requires
-decline-requires c κs = search needs
+-- src/lib.rt:452:41
+diagnose-requires : tie.Need-diagnose-requires
+diagnose-requires c κs = search needs
 
--- src/lib.rt:414:32
+-- src/lib.rt:452:32
 unopened-requires-2 : tie.Need-unopened-requires-2
 unopened-requires-2 c κs = search needs
 
--- src/lib.rt:415:52
+-- src/lib.rt:453:51
 enum-told-2 : tie.Need-enum-told-2
 enum-told-2 c = search needs
 
--- src/lib.rt:415:42
-decline-requires-2 : tie.Need-decline-requires-2
-decline-requires-2 c κs = search needs
+-- src/lib.rt:453:42
+diagnose-requires-2 : tie.Need-diagnose-requires-2
+diagnose-requires-2 c κs = search needs
 
--- src/lib.rt:415:33
+-- src/lib.rt:453:33
 unopened-requires-3 : tie.Need-unopened-requires-3
 unopened-requires-3 c κs = search needs
 
--- src/lib.rt:416:25
+-- src/lib.rt:454:25
 enum-known-kind-2 : tie.Need-enum-known-kind-2
 enum-known-kind-2 c = search needs
 
--- src/lib.rt:416:46
+-- src/lib.rt:454:46
 meet-field-requires : tie.Need-meet-field-requires
 meet-field-requires c κs = search needs
 
--- src/lib.rt:416:37
+-- src/lib.rt:454:37
 unopened-requires-4 : tie.Need-unopened-requires-4
 unopened-requires-4 c κs = search needs
 
--- src/lib.rt:417:52
+-- src/lib.rt:464:52
 enum-told-3 : tie.Need-enum-told-3
 enum-told-3 c = search needs
 
--- src/lib.rt:417:43
-report-requires : tie.Need-report-requires
-report-requires c κs = search needs
+-- src/lib.rt:464:43
+diagnose-requires-3 : tie.Need-diagnose-requires-3
+diagnose-requires-3 c κs = search needs
 
--- src/lib.rt:417:34
+-- src/lib.rt:464:34
 unopened-requires-5 : tie.Need-unopened-requires-5
 unopened-requires-5 c κs = search needs
 
--- src/lib.rt:418:25
+-- src/lib.rt:465:25
 enum-known-kind-3 : tie.Need-enum-known-kind-3
 enum-known-kind-3 c = search needs
 
--- src/lib.rt:418:31
+-- src/lib.rt:465:31
 meet-const-requires : tie.Need-meet-const-requires
 meet-const-requires c κs = search needs
 
--- src/lib.rt:395:1
+-- src/lib.rt:422:1
 same-length : tie.Need-same-length
 same-length c = search needs
 
--- src/lib.rt:395:1
+-- src/lib.rt:422:1
 same-length-2 : tie.Need-same-length-2
 same-length-2 c = search needs
 
--- src/lib.rt:395:1
+-- src/lib.rt:422:1
 returns : tie.Need-returns
 returns c = meets-done _ _ _ _ _ _ _ _ _ (c .unopened .ensures) (of-row _ _ _ _ _ (c .before .before .before .before .before .before .before .before .before .before .before .before .before .before .before .args .slot) _ _ _ (c .before .before .before .before .before .before .before .before .before .kind .given .1) _ (c .before .before .before .before .before .meet-row .ensures))
 
--- src/lib.rt:395:1
+-- src/lib.rt:422:1
 same-length-3 : tie.Need-same-length-3
 same-length-3 c = search needs
 
--- src/lib.rt:395:1
+-- src/lib.rt:422:1
 returns-2 : tie.Need-returns-2
-returns-2 c = meets-done _ _ _ _ _ _ _ _ _ (c .unopened2 .ensures) (of-key _ _ _ _ _ (c .before .before .before .before .before .before .before .before .before .before .before .args .slot) _ _ _ (c .before .before .before .before .before .enum-told .given .1) _ (c .before .before .before .decline .ensures _ _))
+returns-2 c = meets-done _ _ _ _ _ _ _ _ _ (c .unopened2 .ensures) (of-key _ _ _ _ _ (c .before .before .before .before .before .before .before .before .before .before .before .args .slot) _ _ _ (c .before .before .before .before .before .enum-told .given .1) _ (c .before .before .before .diagnose .ensures _ _))
 
--- src/lib.rt:395:1
+-- src/lib.rt:422:1
 same-length-4 : tie.Need-same-length-4
 same-length-4 c = search needs
 
--- src/lib.rt:395:1
+-- src/lib.rt:422:1
 returns-3 : tie.Need-returns-3
-returns-3 c = meets-done _ _ _ _ _ _ _ _ _ (c .unopened3 .ensures) (of-derived _ _ _ _ _ (c .before .before .before .before .before .before .before .before .before .before .before .args .slot) _ _ (c .before .before .before .before .before .enum-told2 .given .1) _ (c .before .before .before .decline2 .ensures _ _))
+returns-3 c = meets-done _ _ _ _ _ _ _ _ _ (c .unopened3 .ensures) (of-derived _ _ _ _ _ (c .before .before .before .before .before .before .before .before .before .before .before .args .slot) _ _ (c .before .before .before .before .before .enum-told2 .given .1) _ (c .before .before .before .diagnose2 .ensures _ _))
 
--- src/lib.rt:395:1
+-- src/lib.rt:422:1
 same-length-5 : tie.Need-same-length-5
 same-length-5 c = search needs
 
--- src/lib.rt:395:1
+-- src/lib.rt:422:1
 same-length-6 : tie.Need-same-length-6
 same-length-6 c = search needs
 
--- src/lib.rt:395:1
+-- src/lib.rt:422:1
 returns-4 : tie.Need-returns-4
 returns-4 c = meets-done _ _ _ _ _ _ _ _ _ (c .unopened4 .ensures) (of-field _ _ _ _ _ (c .before .before .before .before .before .before .before .before .before .before .before .before .before .before .before .args .slot) _ _ _ (c .before .before .before .before .before .before .before .before .before .kind2 .given .1) _ (c .before .before .before .before .before .meet-field .ensures _))
 
--- src/lib.rt:395:1
+-- src/lib.rt:422:1
 same-length-7 : tie.Need-same-length-7
 same-length-7 c = search needs
 
--- src/lib.rt:395:1
+-- src/lib.rt:422:1
 returns-5 : tie.Need-returns-5
-returns-5 c = meets-done _ _ _ _ _ _ _ _ _ (c .unopened5 .ensures) (of-value _ _ _ _ _ (c .before .before .before .before .before .before .before .before .before .before .before .args .slot) _ _ _ (c .before .before .before .before .before .enum-told3 .given .1) _ (c .before .before .before .report .ensures _ _))
+returns-5 c = meets-done _ _ _ _ _ _ _ _ _ (c .unopened5 .ensures) (of-value _ _ _ _ _ (c .before .before .before .before .before .before .before .before .before .before .before .args .slot) _ _ _ (c .before .before .before .before .before .enum-told3 .given .1) _ (c .before .before .before .diagnose3 .ensures _ _))
 
--- src/lib.rt:395:1
+-- src/lib.rt:422:1
 same-length-8 : tie.Need-same-length-8
 same-length-8 c = search needs
 
--- src/lib.rt:395:1
+-- src/lib.rt:422:1
 returns-6 : tie.Need-returns-6
 returns-6 c = of-const _ _ _ _ _ (c .before .before .before .before .before .before .before .before .before .before .before .args .slot) _ _ (c .before .before .before .before .before .kind3 .given .1) _ _ (c .before .before .meet-const .ensures _ _ _)
 
@@ -143,16 +142,16 @@ meet-spec =
     meet-row-requires
     unopened-requires
     enum-told
-    decline-requires
+    diagnose-requires
     unopened-requires-2
     enum-told-2
-    decline-requires-2
+    diagnose-requires-2
     unopened-requires-3
     enum-known-kind-2
     meet-field-requires
     unopened-requires-4
     enum-told-3
-    report-requires
+    diagnose-requires-3
     unopened-requires-5
     enum-known-kind-3
     meet-const-requires

@@ -4,34 +4,40 @@ use Rattle.begin.proofs.meet_field.Statement.{statement}
 use Rattle.begin.proofs.meet_field.Tie as tie
 use Rattle.begin.proofs.meet_field.Reads as reads
 use Rattle.begin.proofs.meet_field.Lts as lts
+use Rattle.begin.proofs.diagnose.Reads as diagnose-reads
 use Rattle.step.proofs.Walk.register_field.Reads as register-field-reads
-use Rattle.step.proofs.Walk.report.Reads as report-reads
 
--- src/lib.rt:291:9
-report-requires : tie.Need-report-requires
-report-requires c κs = search needs
+-- src/lib.rt:380:9
+diagnose-requires : tie.Need-diagnose-requires
+diagnose-requires c κs = search needs
 
--- src/lib.rt:291:9
+-- src/lib.rt:380:9
 same-length : tie.Need-same-length
 same-length c = search needs
 
--- src/lib.rt:291:9
+-- src/lib.rt:380:9
 returns : tie.Need-returns
-returns c = λ T below ty t. field-own T _ below _ _ _ _ _ _ _ (c .before .before .before .before .if1 .taken) _ (c .before .before .report .ensures T _)
+returns c = λ T below ty t. field-own T _ below _ _ _ _ _ _ _ (c .before .before .before .before .if1 .taken) _ (c .before .before .diagnose .ensures T _)
 
--- src/lib.rt:293:5
+-- src/lib.rt:382:5
 register-field-requires : tie.Need-register-field-requires
 register-field-requires c κs = search needs
 
--- src/lib.rt:278:1
+-- src/lib.rt:367:1
 same-length-2 : tie.Need-same-length-2
 same-length-2 c = search needs
 
--- src/lib.rt:278:1
+-- src/lib.rt:367:1
 returns-2 : tie.Need-returns-2
 returns-2 c = λ T below ty t. field-other T _ below _ _ _ _ _ _ _ (c .before .before .before .before .if1 .left) _ (c .before .before .register-field .ensures T _)
 
 pub meet-field-spec : {M : Type 1} → statement M
 meet-field-spec =
     tie.close
-    (tie.spec report-requires same-length returns register-field-requires same-length-2 returns-2)
+    (tie.spec
+    diagnose-requires
+    same-length
+    returns
+    register-field-requires
+    same-length-2
+    returns-2)
