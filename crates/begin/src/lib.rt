@@ -436,31 +436,12 @@ pub fn meet(
     ensures { λ r. ⌜ Meets (tablesOf (now (file .entry))) (address .0) ty (pathOf path) (λ below. Rules.matched (ops (tablesOf (now (file .entry)))) (tablesOf (now (file .entry))) (address .0) below node (slotOf slot) ty (pathOf path) (walkState (tablesOf (now (file .entry))) w (now (work .entry)) (now (plan .entry)))) r (walkState (tablesOf (now (file .entry))) (r .walk) (now (work .exit)) (now (plan .exit))) ⌝ }
 {
     let kind = slot.kind;
+    let at = slot.path;
     match kind {
-        SlotKind::Row(from, p) => unopened(meet_row(
-            file,
-            index,
-            work,
-            plan,
-            node,
-            from,
-            p,
-            ty,
-            path,
-            w,
-        )),
+        SlotKind::Row(a, p) => unopened(meet_row(file, index, work, plan, node, a, p, ty, path, w)),
         SlotKind::Key(_, _) => unopened(diagnose(work, node, Code::NyiWholeKey, true, w)),
         SlotKind::Derived(_) => unopened(diagnose(work, node, Code::NyiValueMatch, true, w)),
-        SlotKind::Field(from, _) => unopened(meet_field(
-            work,
-            plan,
-            node,
-            from,
-            slot.path,
-            address,
-            path,
-            w,
-        )),
+        SlotKind::Field(a, _) => unopened(meet_field(work, plan, node, a, at, address, path, w)),
         SlotKind::Value(_, _) => unopened(diagnose(work, node, Code::NyiValueMatch, false, w)),
         SlotKind::Const(n) => meet_const(file, index, plan, n, ty, path, w),
     }

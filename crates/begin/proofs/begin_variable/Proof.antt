@@ -26,9 +26,7 @@ same-length c = search needs
 
 -- src/lib.rt:247:9
 returns : tie.Need-returns
-returns c =
-    let m = c .before .before .before .before .before .lookup in
-    variable-bound _ _ _ _ _ _ _ (m .result) (looked-up _ _ (m .result) _ _ _ (m .ensures)) (c .before .before .before .before .if1 .taken) _ _ (c .before .before .begin-read .ensures _ _ _ _)
+returns c = variable-bound _ _ _ _ _ _ _ (c .before .before .before .before .before .lookup .result) (looked-up _ _ (c .before .before .before .before .before .lookup .result) _ _ _ (c .before .before .before .before .before .lookup .ensures)) (c .before .before .before .before .if1 .taken) _ _ (c .before .before .begin-read .ensures _ _ _ _)
 
 -- src/lib.rt:249:9
 field-requires : tie.Need-field-requires
@@ -56,9 +54,7 @@ same-length-3 c = search needs
 
 -- src/lib.rt:229:1
 returns-2 : tie.Need-returns-2
-returns-2 c =
-    let m = c .before .before .before .before .before .before .before .before .before .before .before .before .before .before .lookup in
-    begins-done _ _ _ _ _ _ _ _ _ _ (c .done .ensures) (variable-new _ _ _ _ _ _ _ (m .result) (looked-up _ _ (m .result) _ _ _ (m .ensures)) (c .before .before .before .before .before .before .before .before .before .before .before .before .before .if1 .left) _ _ _ (c .before .before .before .before .before .before .before .before .before .before .before .before .field .ensures) (c .before .before .before .before .before .before .before .before .before .before .bind .ensures _ _) (c .before .before .before .before .before .constrain .ensures))
+returns-2 c = begins-done _ _ _ _ _ _ _ _ _ _ (c .done .ensures) (variable-new _ _ _ _ _ _ _ (c .before .before .before .before .before .before .before .before .before .before .before .before .before .before .lookup .result) (looked-up _ _ (c .before .before .before .before .before .before .before .before .before .before .before .before .before .before .lookup .result) _ _ _ (c .before .before .before .before .before .before .before .before .before .before .before .before .before .before .lookup .ensures)) (c .before .before .before .before .before .before .before .before .before .before .before .before .before .if1 .left) _ _ _ (c .before .before .before .before .before .before .before .before .before .before .before .before .field .ensures) (c .before .before .before .before .before .before .before .before .before .before .bind .ensures _ _) (c .before .before .before .before .before .constrain .ensures))
 
 pub begin-variable-spec : {M : Type 1} → statement M
 begin-variable-spec =
