@@ -1,0 +1,3 @@
+pub mod Zeroes
+pub mod Ends
+pub mod Verdicts

@@ -1,0 +1,49 @@
+use mathlib.Core.Path.{_≡_, refl, sym, _∙_}
+use native.Mathlib.Omega.{arith}
+use lib.ListN.{length, length-set}
+use Prim.Native.Nat.{_-_}
+use Rattle.compile.specs.Endings.{zeroed}
+use Rattle.compile.proofs.Zeroes.{zero-more, zero-end}
+use Rattle.compile.proofs.zero.Statement.{statement}
+use Rattle.compile.proofs.zero.Tie as tie
+
+abbrev Inv-loop : tie.InvT-loop
+Inv-loop buf₀ from i₀ buf i = (length buf ≡ length buf₀) × (zeroed buf₀ from ≡ zeroed buf i)
+
+abbrev μ-loop : tie.MeasureT-loop
+μ-loop buf₀ from i₀ buf i = length buf - i
+
+loop-holds : tie.Need-loop-holds Inv-loop μ-loop
+loop-holds c = (refl, refl)
+
+slice-write-buf : tie.Need-slice-write-buf Inv-loop μ-loop
+slice-write-buf c = omega arith
+
+add-i : tie.Need-add-i Inv-loop μ-loop
+add-i c = omega arith
+
+loop-less : tie.Need-loop-less Inv-loop μ-loop
+loop-less c = simp length-set (omega arith)
+
+loop-again : tie.Need-loop-again Inv-loop μ-loop
+loop-again c = (simp length-set (c .before .loop .inv .0), c .before .loop .inv .1 ∙ zero-more _ _ (c .loop-test .taken))
+
+same-length : tie.Need-same-length Inv-loop μ-loop
+same-length c = c .before .loop .inv .0
+
+returns : tie.Need-returns Inv-loop μ-loop
+returns c = sym (c .before .loop .inv .1 ∙ zero-end _ _ (c .loop-test .left))
+
+pub zero-spec : {M : Type 1} → statement M
+zero-spec =
+    tie.close
+    (tie.spec
+    Inv-loop
+    μ-loop
+    loop-holds
+    slice-write-buf
+    add-i
+    loop-less
+    loop-again
+    same-length
+    returns)

@@ -1,0 +1,116 @@
+// The compile of a rule file: one function for the engine.
+ghost use mathlib.Core.Path.{_≡_};
+ghost use mathlib.Core.List.{List};
+ghost use Prim.Native.Nat.{ℕ, _≤_};
+ghost use lib.ListN.{length};
+ghost use Rattle.rules.specs.Limits.{fileLimit, workLimit};
+ghost use Rattle.rules.specs.Compile as Rules;
+ghost use Rattle.rules.specs.Demand3.{Demand3};
+ghost use Rattle.state.specs.Levels as Kept;
+ghost use Rattle.file.specs.Tables.{tablesOf};
+ghost use Rattle.ready.specs.Ready.{Ready};
+ghost use Rattle.compile.specs.Endings.{zeroed, outcomeOf, lengthOf, answerOf, Within, callVerdict, memory, memoryBy};
+ghost use Rattle.checks.specs.Checked.{fileVerdict};
+use checks::Verdict;
+use checks::verify;
+use file::INDEX;
+use levels::write;
+
+const FILE_LIMIT: usize = 32768;
+
+const WORK_LIMIT: usize = 65536;
+
+// The plan's length, or the number of the refusal.
+pub enum Ending {
+    Planned(usize),
+    Refused(u8),
+}
+
+// The bytes from a place on, all zero.
+fn zero(buf: &mut [u8], from: usize)
+    ensures { λ _. ⌜ now (buf .exit) ≡ zeroed (now (buf .entry)) from ⌝ }
+{
+    let mut i = from;
+    while i < buf.len() {
+        buf[i] = 0;
+        i += 1;
+    }
+}
+
+// What an accepted file comes to.
+fn accepted(file: &[u8], index: &[u16], plan: &mut [u8], work: &mut [u8]) -> Ending
+    requires { ⌜ Ready (now file) (now index) ⌝ }
+    ensures { λ r. ⌜ (outcomeOf r (now (plan .exit)) ≡ Kept.outcomeOf (Kept.compiled (tablesOf (now (file .entry))) (now (work .entry)) (now (plan .entry)))) × Within r (now (plan .exit)) ⌝ }
+    ensures { λ _. ⌜ memory (now (work .exit)) (now (plan .exit)) ≡ memoryBy Verdict.Accepted (tablesOf (now (file .entry))) (now (work .entry)) (now (plan .entry)) ⌝ }
+{
+    let w = write(file, index, work, plan);
+    let lists = w.lists;
+    if lists.over {
+        Ending::Refused(15)
+    } else {
+        Ending::Planned(w.at)
+    }
+}
+
+// Reading and the whole-file checks first.
+fn checked(file: &[u8], plan: &mut [u8], work: &mut [u8]) -> Ending
+    requires { ⌜ (length (now file) ≤ fileLimit) × (workLimit ≤ length (now work)) ⌝ }
+    ensures { λ r. ⌜ (outcomeOf r (now (plan .exit)) ≡ Rules.outcome (now (file .entry)) (length (now (plan .entry))) (length (now (work .entry)))) × Within r (now (plan .exit)) ⌝ }
+    ensures { λ _. ⌜ memory (now (work .exit)) (now (plan .exit)) ≡ memoryBy (fileVerdict (now (file .entry))) (tablesOf (now (file .entry))) (now (work .entry)) (now (plan .entry)) ⌝ }
+{
+    let mut index = [0u16; INDEX];
+    match verify(file, &mut index) {
+        Verdict::Accepted => accepted(file, &index, plan, work),
+        Verdict::Refused(n) => Ending::Refused(n),
+    }
+}
+
+// The call but for its zeroes: the lent memory first.
+fn decide(file: &[u8], plan: &mut [u8], work: &mut [u8]) -> Ending
+    ensures { λ r. ⌜ (outcomeOf r (now (plan .exit)) ≡ Rules.outcome (now (file .entry)) (length (now (plan .entry))) (length (now (work .entry)))) × Within r (now (plan .exit)) ⌝ }
+    ensures { λ _. ⌜ memory (now (work .exit)) (now (plan .exit)) ≡ memoryBy (callVerdict (now (file .entry)) (length (now (work .entry)))) (tablesOf (now (file .entry))) (now (work .entry)) (now (plan .entry)) ⌝ }
+{
+    if file.len() > FILE_LIMIT {
+        return Ending::Refused(1);
+    }
+    if work.len() < WORK_LIMIT {
+        return Ending::Refused(2);
+    }
+    checked(file, plan, work)
+}
+
+impl Ending {
+    // How many bytes the plan has.
+    fn length(self) -> usize
+        ensures { λ r. ⌜ r ≡ lengthOf self ⌝ }
+    {
+        match self {
+            Ending::Planned(n) => n,
+            Ending::Refused(_) => 0,
+        }
+    }
+
+    // What the engine is told: the refusal's number × 65,536 + the plan's length.
+    fn answer(self) -> u64
+        ensures { λ r. ⌜ r ≡ answerOf self ⌝ }
+    {
+        match self {
+            Ending::Planned(n) => n as u64,
+            Ending::Refused(n) => (n as u64) * 65536,
+        }
+    }
+}
+
+// The plan of a rule file, written to the front of the plan buffer; afterwards the work area is all zero, and so is the rest of the plan buffer.
+#[no_mangle]
+pub extern "C" fn sinalvento_compile(file: &[u8], plan: &mut [u8], work: &mut [u8]) -> u64
+    ensures { λ r. ⌜ r ≡ Rules.compile (now (file .entry)) (now (plan .entry)) (now (work .entry)) .result ⌝ }
+    ensures { λ _. ⌜ now (plan .exit) ≡ Rules.compile (now (file .entry)) (now (plan .entry)) (now (work .entry)) .plan ⌝ }
+    ensures { λ _. ⌜ now (work .exit) ≡ Rules.compile (now (file .entry)) (now (plan .entry)) (now (work .entry)) .work ⌝ }
+    ensures { λ _. ⌜ ((out : List ℕ) → Rules.outcome (now (file .entry)) (length (now (plan .entry))) (length (now (work .entry))) ≡ Rules.Outcome.planned out → Demand3 (now (file .entry)) out) ⌝ }
+{
+    let e = decide(file, plan, work);
+    zero(work, 0);
+    zero(plan, e.length());
+    e.answer()
+}

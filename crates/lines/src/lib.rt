@@ -1,0 +1,86 @@
+// The line that program `plan` prints, and hex read back.
+ghost use mathlib.Core.Path.{_≡_};
+ghost use Prim.Native.Nat.{_*_, _≤_, _<_};
+ghost use lib.ListN.{length};
+ghost use lib.Seq.{sets};
+ghost use Rattle.lines.specs.Lines as Lines;
+
+// 0 to 9, then a to f, as text.
+fn digit(n: u8) -> u8
+    requires { ⌜ n < 16 ⌝ }
+    ensures { λ r. ⌜ r ≡ Lines.digit n ⌝ }
+{
+    if n < 10 { 48 + n } else { 87 + n }
+}
+
+// Two digits for each byte.
+pub fn put_hex(bytes: &[u8], out: &mut [u8])
+    requires { ⌜ length (now bytes) * 2 ≤ length (now out) ⌝ }
+    ensures { λ _. ⌜ now (out .exit) ≡ sets (now (out .entry)) 0 (Lines.hex (now (bytes .entry))) ⌝ }
+{
+    let mut i = 0;
+    while i < bytes.len() {
+        let b = bytes[i];
+        out[i * 2] = digit(b / 16);
+        out[i * 2 + 1] = digit(b % 16);
+        i += 1;
+    }
+}
+
+// `refused ` and the number; how many bytes that is.
+pub fn put_refusal(n: u8, out: &mut [u8]) -> usize
+    requires { ⌜ (n < 100) × (10 ≤ length (now out)) ⌝ }
+    ensures { λ r. ⌜ r ≡ length (Lines.refusal n) ⌝ }
+    ensures { λ _. ⌜ now (out .exit) ≡ sets (now (out .entry)) 0 (Lines.refusal n) ⌝ }
+{
+    out[0] = b'r';
+    out[1] = b'e';
+    out[2] = b'f';
+    out[3] = b'u';
+    out[4] = b's';
+    out[5] = b'e';
+    out[6] = b'd';
+    out[7] = b' ';
+    if n < 10 {
+        out[8] = 48 + n;
+        return 9;
+    }
+    out[8] = 48 + n / 10;
+    out[9] = 48 + n % 10;
+    10
+}
+
+// What a digit stands for.
+fn value(c: u8) -> u8
+    ensures { λ r. ⌜ r ≡ Lines.value c ⌝ }
+{
+    if c < 48 {
+        return 0;
+    }
+    if c < 58 {
+        return c - 48;
+    }
+    if c < 87 {
+        return 0;
+    }
+    c - 87
+}
+
+fn byte(h: u8, l: u8) -> u8
+    ensures { λ r. ⌜ r ≡ Lines.byte h l ⌝ }
+{
+    let n = (value(h) as usize) * 16 + (value(l) as usize);
+    (n % 256) as u8
+}
+
+// Hex read back.
+pub fn unhex(text: &[u8], out: &mut [u8])
+    requires { ⌜ length (now text) ≤ length (now out) * 2 ⌝ }
+    ensures { λ _. ⌜ now (out .exit) ≡ sets (now (out .entry)) 0 (Lines.unhex (now (text .entry))) ⌝ }
+{
+    let mut i = 0;
+    while i < text.len() / 2 {
+        out[i] = byte(text[i * 2], text[i * 2 + 1]);
+        i += 1;
+    }
+}
