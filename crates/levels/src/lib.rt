@@ -64,7 +64,7 @@ fn walked(file: &[u8], index: &[u16], work: &mut [u8], plan: &mut [u8], k: usize
 }
 
 // A level's place in the plan, as it was measured.
-fn target(f: Frame, l: SeekBuilder) -> Target
+fn writing(f: Frame, l: SeekBuilder) -> Target
     requires { ⌜ (f .parts < 65536) × (f .rest < 65536) ⌝ }
     ensures { λ r. ⌜ ((T : Tables) → targetOf r ≡ record { writing = true; joining = Kept.joining (levelOf T l); partsAt = f .parts; restAt = f .rest }) ⌝ }
 {
@@ -94,7 +94,7 @@ fn rewritten(
     ensures { λ r. ⌜ ((e : Memory.Ends) (t : Memory.Target) → stateWith r newLevel measuring (now (work .exit)) (now (plan .exit)) ≡ unleveled (Kept.rewritten (tablesOf (now (file .entry))) (levelAt (tablesOf (now (file .entry))) k) (endsOf ends) at (state false e (levelOf (tablesOf (now (file .entry))) l) t (now (work .entry)) (now (plan .entry))))) ⌝ }
 {
     put_frame(file, index, plan, at, f, l);
-    let w = begun(false, ends, target(f, l));
+    let w = begun(false, ends, writing(f, l));
     let r = walked(file, index, work, plan, k, w);
     r.lists
 }

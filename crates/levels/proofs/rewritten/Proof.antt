@@ -12,7 +12,7 @@ use Rattle.levels.proofs.rewritten.Reads as reads
 use Rattle.levels.proofs.rewritten.Lts as lts
 use Rattle.frame.proofs.put_frame.Reads as put-frame-reads
 use Rattle.levels.proofs.begun.Reads as begun-reads
-use Rattle.levels.proofs.target.Reads as target-reads
+use Rattle.levels.proofs.writing.Reads as writing-reads
 use Rattle.levels.proofs.walked.Reads as walked-reads
 
 -- src/lib.rt:117:5
@@ -20,8 +20,8 @@ put-frame-requires : tie.Need-put-frame-requires
 put-frame-requires c κs = search needs
 
 -- src/lib.rt:118:32
-target-requires : tie.Need-target-requires
-target-requires c κs =
+writing-requires : tie.Need-writing-requires
+writing-requires c κs =
     let s = c .before .before .before .before .before .before .before .before in
     let L = levelOf (tablesOf (now (s .args .file))) (s .args .l) in
     (omega (arith, parts-near (s .args .at) L (s .args .f) (s .pre .1 .1 .0) (s .pre .1 .1 .1)), omega (arith, rest-near (s .args .at) L (s .args .f) (s .pre .1 .1 .0) (s .pre .1 .1 .1)))
@@ -48,14 +48,14 @@ returns c e t =
     let s = c .before .before .before .before .before .before .before .before .before .before .before .before .before .before .before .before .before .before in
     let T = tablesOf (now (s .args .file)) in
     sym (lists-left T (c .before .before .before .before .before .walked .result) _ _)
-    ∙ rewritten-is (s .args .at) (levelOf T (s .args .l)) (s .args .f) (s .pre .1 .1 .0) (s .pre .1 .1 .1) T _ _ _ _ _ (c .before .before .before .before .before .before .before .before .before .before .before .before .put-frame .ensures) _ (c .before .before .before .before .before .before .before .before .before .target .ensures T) _ _ (c .before .before .before .before .before .before .before .before .begun .ensures T _ _) (c .before .before .before .before .before .walked .ensures) e t
+    ∙ rewritten-is (s .args .at) (levelOf T (s .args .l)) (s .args .f) (s .pre .1 .1 .0) (s .pre .1 .1 .1) T _ _ _ _ _ (c .before .before .before .before .before .before .before .before .before .before .before .before .put-frame .ensures) _ (c .before .before .before .before .before .before .before .before .before .writing .ensures T) _ _ (c .before .before .before .before .before .before .before .before .begun .ensures T _ _) (c .before .before .before .before .before .walked .ensures) e t
 
 pub rewritten-spec : {M : Type 1} → statement M
 rewritten-spec =
     tie.close
     (tie.spec
     put-frame-requires
-    target-requires
+    writing-requires
     begun-requires
     walked-requires
     same-length
