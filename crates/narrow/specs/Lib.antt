@@ -1,0 +1,2 @@
+-- A level narrowed by a constant.
+pub mod Narrow
