@@ -1,6 +1,6 @@
 -- What is known of a constant that the code carries, by its form, and what follows for a level that it narrows.
-use Prim.Native.Nat.{ℕ, _≤_, _<_}
-use mathlib.Core.Path.{_≡_, refl, sym, ap, _∙_}
+use Prim.Native.Nat.{ℕ, _<_}
+use mathlib.Core.Path.{_≡_, sym, ap, _∙_}
 use mathlib.Core.List.{List, []}
 use mathlib.Core.Option.{Option, none, some, Option·getD}
 use native.Mathlib.Omega.{arith}
@@ -23,7 +23,7 @@ use Rattle.seek.specs.Seek.{constantBytes}
 use Rattle.constant.specs.Sizes.{viewOf, constView}
 use Rattle.constant.specs.declared.Const.{Const}
 use Rattle.constant.specs.declared.Const.the-variants as Co
-use Rattle.constant.proofs.Known.{AsBytes, known-bytes, known-prefix}
+use Rattle.constant.proofs.Known.{known-nothing, known-bytes, known-prefix, known-fuzzy}
 use Rattle.narrow.specs.Narrow.{constOf, narrowedBy, IsConstant}
 
 -- bytes stand where the node and the type say
@@ -56,6 +56,16 @@ module _ (T : Tables) (c : Const) (k : IsConstant T c) where
 -- the name of a prefix is the file's
 pub in-names : (f ix : List ℕ) → Ready f ix → (c : Const) (k : IsConstant (tablesOf f) c) (x : ℕ) → c ≡ Co.Prefix x → x < length (tablesOf f .names)
 in-names f ix r c k x e = known-prefix (tablesOf f) (passed f ix r) (few-nodes f ix (r .indexed)) (k .node) (k .type) (k .in-nodes) (k .in-types) x (sym (k .is) ∙ e) .in-names
+
+-- what the code carries is the rules' constant
+pub const-is : (f ix : List ℕ) → Ready f ix → (n t : ℕ) → n < length (tablesOf f .nodes) → t < length (tablesOf f .types) → (c : Const) → c ≡ constView (tablesOf f) n t → constOf (tablesOf f) c ≡ Rules.constant (tablesOf f) n t
+unfolding constOf
+const-is f ix r n t h g Co.Nothing e = sym (known-nothing (tablesOf f) n t (sym e))
+const-is f ix r n t h g (Co.Bytes m u l) e =
+    let p = view-place (tablesOf f) n t m u l (sym e) in
+    ap (λ (k : ℕ). Rules.constant (tablesOf f) k u) (sym (p .0)) ∙ ap (Rules.constant (tablesOf f) n) (sym (p .1))
+const-is f ix r n t h g (Co.Prefix x) e = sym (known-prefix (tablesOf f) (passed f ix r) (few-nodes f ix (r .indexed)) n t h g x (sym e) .is)
+const-is f ix r n t h g (Co.Fuzzy x d a) e = sym (known-fuzzy (tablesOf f) n t x d a (sym e))
 
 module _ (T : Tables) (path : File.FieldPath) (c : Const) (s s₀ : State) where
   by-rules : (o : Option Rules.Const) → constOf T c ≡ o → s ≡ narrowedBy T o path s₀ → s ≡ narrowedBy T (constOf T c) path s₀

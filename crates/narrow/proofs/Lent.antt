@@ -1,6 +1,5 @@
 -- What the walks of the functions over a lent level share: the machine values of what they pass, and a local level as memory that is lent and comes back. No line names a field.
 -- Assumes nothing.
-use mathlib.Core.Path.{refl}
 use Prim.Native.Nat.{ℕ}
 use mathlib.Core.List.{[], _∷_, List}
 use lib.ListN.{length}
