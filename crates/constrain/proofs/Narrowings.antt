@@ -2,32 +2,26 @@
 use Prim.Native.Nat.{ℕ, _≤_, _<_}
 use mathlib.Core.Path.{_≡_, refl, sym, ap, _∙_}
 use mathlib.Core.Bool.{Bool, true, false}
-use mathlib.Core.List.{List, []}
-use mathlib.Core.Option.{Option, none, some, Option·getD}
+use mathlib.Core.Option.{Option, none, some}
 use lib.ListN.{length, List·getD-eq-default}
-use Rattle.rules.specs.Base.{_>>=_}
 use Rattle.rules.specs.File as File
-use Rattle.rules.specs.File.{Tables, Node, nameAt, typeAt, nodeAt, varName}
+use Rattle.rules.specs.File.{Tables, Node, typeAt, nodeAt, varName}
 use Rattle.rules.specs.Constant as Rules
-use Rattle.rules.specs.Constant.{constant, constantNode, bytesOnly, encodePrefix}
-use Rattle.rules.specs.Events.{Code, Narrowing}
+use Rattle.rules.specs.Constant.{constant, constantNode}
+use Rattle.rules.specs.Events.{Code}
 use Rattle.rules.specs.Walk.{FieldWalk, narrowing, narrowBy, ranged}
+use Rattle.rules.proofs.Cases.{true≢false}
 use Rattle.rules.proofs.Sound.{Sound}
 use Rattle.state.specs.State.{State}
 use Rattle.state.specs.Ops.{ops, narrow, report, skip}
-use Rattle.views.specs.Views.{anchorOf}
-use Rattle.views.specs.declared.Anchor.{Anchor}
 use Rattle.lookups.proofs.Searches.{stands-self}
-use Rattle.ready.specs.Ready.{Ready}
-use Rattle.ready.proofs.Given.{passed, sound-tables, few-nodes}
 use Rattle.ready.proofs.Constants.{constant-is}
-use Rattle.file.specs.Tables.{tablesOf}
-use Rattle.seek.specs.Seek.{constantBytes}
 use Rattle.constant.specs.Sizes.{viewOf, constView}
 use Rattle.constant.specs.declared.Const.{Const}
 use Rattle.constant.specs.declared.Const.the-variants as Co
-use Rattle.constant.proofs.Known.{AsBytes, known-bytes, known-nothing, AsPrefix, known-prefix, known-fuzzy}
-use Rattle.constrain.specs.Constrain.{orElse, Narrows, mistyped, narrowOr}
+use Rattle.constant.proofs.Known.{known-nothing}
+use Rattle.narrow.specs.Narrow.{constOf, narrowedBy}
+use Rattle.constrain.specs.Constrain.{isNothing, orElse, Narrows, mistyped, narrowOr}
 
 -- a number past the nodes is no constant
 error-at : (T : Tables) (n : ℕ) → length (T .nodes) ≤ n → nodeAt T n ≡ Node.Error
@@ -40,6 +34,23 @@ past-nodes T S n t h g =
     constant-is T S n t h
     ∙ ap (λ (m : ℕ). constantNode T (constant T) (nodeAt T m) (typeAt T t)) (sym (stands-self T n (sym (ap varName (error-at T n g)))))
     ∙ ap (λ (node : Node). constantNode T (constant T) node (typeAt T t)) (error-at T n g)
+
+nothing-is : (r : Const) → isNothing r ≡ true → r ≡ Co.Nothing
+nothing-is Co.Nothing e = refl
+nothing-is (Co.Bytes n t l) e = absurd (true≢false (sym e))
+nothing-is (Co.Prefix x) e = absurd (true≢false (sym e))
+nothing-is (Co.Fuzzy x d a) e = absurd (true≢false (sym e))
+
+something : (r : Const) → r ≡ Co.Nothing → isNothing r ≡ true
+something r e = ap isNothing e
+
+view-none : (T : Tables) (n t : ℕ) → constant T n t ≡ none → constView T n t ≡ Co.Nothing
+unfolding constView
+view-none T n t e = ap (viewOf T n t) e
+
+by-some : (T : Tables) (path : File.FieldPath) (c : Rules.Const) (s : State) → narrowedBy T (some c) path s ≡ narrow path (narrowing c) s
+unfolding narrowedBy narrowBy
+by-some T path c s = refl
 
 module _ (T : Tables) (n t : ℕ) (path : File.FieldPath) (s₀ : State) where
   abbrev after : (State → State) → Option Rules.Const → State
@@ -56,24 +67,15 @@ module _ (T : Tables) (n t : ℕ) (path : File.FieldPath) (s₀ : State) where
   pub narrows-past : Sound T → t < length (T .types) → length (T .nodes) ≤ n → Narrows T n t path s₀ false s₀
   narrows-past S h g = narrows-none (past-nodes T S n t h g)
 
-  pub narrows-nothing : (r : Const) → r ≡ constView T n t → r ≡ Co.Nothing → Narrows T n t path s₀ false s₀
-  narrows-nothing r e q = narrows-none (known-nothing T n t (sym e ∙ q))
+  pub narrows-nothing : (r : Const) → r ≡ constView T n t → isNothing r ≡ true → Narrows T n t path s₀ false s₀
+  narrows-nothing r e q = narrows-none (known-nothing T n t (sym e ∙ nothing-is r q))
 
-  pub narrows-bytes : (r : Const) (m u len : ℕ) → r ≡ constView T n t → r ≡ Co.Bytes m u len → (s s₁ : State) → s ≡ narrow path (Narrowing.Bytes (constantBytes T n t)) s₁ → s₁ ≡ s₀ → Narrows T n t path s₀ true s
-  unfolding narrowing constantBytes _>>=_ bytesOnly
-  narrows-bytes r m u len e q s s₁ g w =
-      let k = known-bytes T n t m u len (sym e ∙ q) in
-      narrows-by (Rules.Const.Bytes (k .bytes)) s (k .is)
-      (g ∙ ap (narrow path (Narrowing.Bytes (constantBytes T n t))) w
-      ∙ ap (λ (o : Option Rules.Const). narrow path (Narrowing.Bytes (Option·getD (o >>= bytesOnly) [])) s₀) (k .is))
-
-  pub narrows-fuzzy : (r : Const) (x d : ℕ) (a : Anchor) → r ≡ constView T n t → r ≡ Co.Fuzzy x d a → (s s₁ : State) → s ≡ narrow path (Narrowing.Fuzzy x d (anchorOf a)) s₁ → s₁ ≡ s₀ → Narrows T n t path s₀ true s
-  unfolding narrowing
-  narrows-fuzzy r x d a e q s s₁ g w = narrows-by (Rules.Const.Fuzzy x d (anchorOf a)) s (known-fuzzy T n t x d a (sym e ∙ q)) (g ∙ ap (narrow path (Narrowing.Fuzzy x d (anchorOf a))) w)
-
-  pub narrows-prefix : (x : ℕ) → AsPrefix T n t x → (s s₁ : State) → s ≡ narrow path (Narrowing.Prefix (encodePrefix (nameAt T x))) s₁ → s₁ ≡ s₀ → Narrows T n t path s₀ true s
-  unfolding narrowing
-  narrows-prefix x k s s₁ g w = narrows-by (Rules.Const.Prefix (encodePrefix (nameAt T x))) s (k .is) (g ∙ ap (narrow path (Narrowing.Prefix (encodePrefix (nameAt T x)))) w)
+  pub narrows-constant : (r : Const) → r ≡ constView T n t → constOf T r ≡ constant T n t → isNothing r ≡ false → (s s₁ : State) → s ≡ narrowedBy T (constOf T r) path s₁ → s₁ ≡ s₀ → Narrows T n t path s₀ true s
+  narrows-constant r v e h s s₁ q w = go (constant T n t) refl
+    where
+      go : (o : Option Rules.Const) → constant T n t ≡ o → Narrows T n t path s₀ true s
+      go none g = absurd (true≢false (sym (something r (v ∙ view-none T n t g)) ∙ h))
+      go (some c) g = narrows-by c s g (q ∙ ap (λ (x : Option Rules.Const). narrowedBy T x path s₁) (e ∙ g) ∙ by-some T path c s₁ ∙ ap (narrow path (narrowing c)) w)
 
   module _ (b : Bool) (s : State) (g : Narrows T n t path s₀ b s) where
     pub or-yes : b ≡ true → (falls : Bool) → s ≡ narrowOr T n t path falls s₀
@@ -95,13 +97,3 @@ module _ (T : Tables) (n t : ℕ) (path : File.FieldPath) (s₀ : State) where
   pub ranged-is : (s : State) → s ≡ narrowOr T n t path false s₀ → (a : ℕ) (below : FieldWalk State) → s ≡ ranged (ops T) T a below n t path s₀
   unfolding ranged narrowOr mistyped
   ranged-is s e a below = e
-
--- where the bytes are found, and the name of a prefix
-pub same-place : (T : Tables) (n t m u len : ℕ) (r : Const) → r ≡ constView T n t → r ≡ Co.Bytes m u len → constView T n t ≡ Co.Bytes n t len
-unfolding constView
-same-place T n t m u len r e q =
-    let k = known-bytes T n t m u len (sym e ∙ q) in
-    ap (viewOf T n t) (k .is) ∙ ap (Co.Bytes n t) (sym (k .size))
-
-pub prefix-of : (f ix : List ℕ) → Ready f ix → (n t x : ℕ) → n < length (tablesOf f .nodes) → t < length (tablesOf f .types) → (r : Const) → r ≡ constView (tablesOf f) n t → r ≡ Co.Prefix x → AsPrefix (tablesOf f) n t x
-prefix-of f ix k n t x h g r e q = known-prefix (tablesOf f) (passed f ix k) (few-nodes f ix (k .indexed)) n t h g x (sym e ∙ q)

@@ -12,6 +12,14 @@ use Rattle.rules.specs.Events.{Code}
 use Rattle.rules.specs.Walk.{narrowBy, rank}
 use Rattle.state.specs.State.{State}
 use Rattle.state.specs.Ops.{ops, report, skip}
+use Rattle.constant.specs.declared.Const.{Const}
+use Rattle.constant.specs.declared.Const.the-variants as Co
+
+abbrev pub isNothing : Const → Bool
+isNothing Co.Nothing = true
+isNothing (Co.Bytes n t len) = false
+isNothing (Co.Prefix x) = false
+isNothing (Co.Fuzzy x d a) = false
 
 -- what is done where nothing narrowed the walk
 unfoldable pub orElse : Bool → (State → State) → State → State

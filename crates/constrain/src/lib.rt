@@ -15,16 +15,15 @@ ghost use Rattle.views.specs.Views.{anchorOf, constraintAt};
 ghost use Rattle.ready.specs.Ready.{Ready};
 ghost use Rattle.lookups.specs.Lookups.{foundOption};
 ghost use Rattle.step.specs.Step.{walkState};
-ghost use Rattle.constrain.specs.Constrain.{Narrows, narrowOr, patternFor, isConstrained};
+ghost use Rattle.constrain.specs.Constrain.{isNothing, Narrows, narrowOr, patternFor, isConstrained};
 use constant::Const;
 use constant::constant;
 use entries::node_of;
 use lists::Code;
 use lookups::Found;
+use narrow::narrowed;
 use paths::FieldPath;
 use place::bound;
-use place::bytes;
-use place::prefix;
 use step::Walk;
 use views::Anchor;
 use views::NodeView;
@@ -35,6 +34,17 @@ use views::count_of;
 pub struct Narrowed {
     pub some: bool,
     pub walk: Walk,
+}
+
+fn is_nothing(c: Const) -> bool
+    ensures { λ r. ⌜ r ≡ isNothing c ⌝ }
+{
+    match c {
+        Const::Nothing => true,
+        Const::Bytes(_, _, _) => false,
+        Const::Prefix(_) => false,
+        Const::Fuzzy(_, _, _) => false,
+    }
 }
 
 // Narrowed by the constant of a node at a type, if it has one.
@@ -57,28 +67,16 @@ pub fn narrow(
             walk: w,
         };
     }
-    let level = w.builder();
-    match constant(file, index, node, ty) {
-        Const::Nothing => Narrowed {
+    let c = constant(file, index, node, ty);
+    if is_nothing(c) {
+        return Narrowed {
             some: false,
             walk: w,
-        },
-        Const::Bytes(_, _, len) => {
-            let l = bytes(file, index, level, path, node, ty, len, plan);
-            let walk = w.placed(l);
-            Narrowed { some: true, walk }
-        }
-        Const::Prefix(x) => {
-            let l = prefix(file, index, level, path, x, plan);
-            let walk = w.placed(l);
-            Narrowed { some: true, walk }
-        }
-        Const::Fuzzy(x, d, a) => {
-            let l = level.fuzzy(path, x, d, a, plan);
-            let walk = w.placed(l);
-            Narrowed { some: true, walk }
-        }
+        };
     }
+    let l = narrowed(file, index, c, path, w.builder(), plan);
+    let walk = w.placed(l);
+    Narrowed { some: true, walk }
 }
 
 // Narrowed by a node's constant. Without one the node is mistyped; `falls` says whether building falls there.

@@ -16,6 +16,7 @@ use lists::Lists;
 use lists::bind;
 use lists::constrained;
 use lists::report;
+use narrow::tagged;
 use paths::Address;
 use paths::FieldPath;
 use seek::SeekBuilder;
@@ -65,7 +66,7 @@ impl Walk {
     pub fn tag(self, path: FieldPath, disc: u32, plan: &mut [u8]) -> Walk
         ensures { λ r. ⌜ ((T : Tables) (w : List ℕ) → walkState T r w (now (plan .exit)) ≡ Ops.narrow (pathOf path) (Narrowing.Tag disc) (walkState T self w (now (plan .entry)))) ⌝ }
     {
-        let l = self.builder().tag(path, disc, plan);
+        let l = tagged(disc, path, self.builder(), plan);
         self.placed(l)
     }
 

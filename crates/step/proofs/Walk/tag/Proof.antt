@@ -3,19 +3,14 @@ use Rattle.state.specs.Ops.{narrow}
 use borrow.Author.Needs.{needs}
 use Rattle.step.proofs.Walk.tag.Statement.{statement}
 use Rattle.step.proofs.Walk.tag.Tie as tie
-use Rattle.step.proofs.Walk.tag.Reads as reads
-use Rattle.step.proofs.Walk.tag.Lts as lts
-use Rattle.seek.proofs.SeekBuilder.tag.Reads as tag-reads
-use Rattle.step.proofs.Walk.builder.Reads as builder-reads
-use Rattle.step.proofs.Walk.placed.Reads as placed-reads
 
 -- src/lib.rt:68:17
 builder-requires : tie.Need-builder-requires
 builder-requires c κs = search needs
 
 -- src/lib.rt:68:13
-tag-requires : tie.Need-tag-requires
-tag-requires c κs = search needs
+tagged-requires : tie.Need-tagged-requires
+tagged-requires c κs = search needs
 
 -- src/lib.rt:69:9
 placed-requires : tie.Need-placed-requires
@@ -27,7 +22,7 @@ same-length c = search needs
 
 -- src/lib.rt:65:5
 returns : tie.Need-returns
-returns c = λ T w. c .placed .ensures T w _ ∙ c .before .before .before .tag .ensures T _ w ∙ ap (narrow _ _) (c .before .before .before .before .before .builder .ensures T w _)
+returns c = λ T w. c .placed .ensures T w _ ∙ c .before .before .before .tagged .ensures T _ w ∙ ap (narrow _ _) (c .before .before .before .before .before .builder .ensures T w _)
 
 pub tag-spec : {M : Type 1} → statement M
-tag-spec = tie.close (tie.spec builder-requires tag-requires placed-requires same-length returns)
+tag-spec = tie.close (tie.spec builder-requires tagged-requires placed-requires same-length returns)
