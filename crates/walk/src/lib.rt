@@ -31,6 +31,7 @@ use resolve::resolve;
 use slots::Slot;
 use slots::SlotKind;
 use step::Walk;
+use views::FieldTy;
 use views::NodeView;
 use views::field_ty_at;
 
@@ -193,21 +194,31 @@ fn whole_field(
     plan: &mut [u8],
     node: usize,
     slot: Slot,
-    name: usize,
-    ty: usize,
+    field: FieldTy,
     address: Address,
     path: FieldPath,
     w: Walk,
 ) -> Walk
     requires { ⌜ Ready (now file) (now index) ⌝ }
     requires { ⌜ Roomy (tablesOf (now file)) (slotOf slot) ⌝ }
-    requires { ⌜ Fits (tablesOf (now file)) path ty ⌝ }
-    ensures { λ r. ⌜ walkState (tablesOf (now (file .entry))) r (now (work .exit)) (now (plan .exit)) ≡ wholeField (tablesOf (now (file .entry))) (address .0) node (slotOf slot) name ty (pathOf path) (walkState (tablesOf (now (file .entry))) w (now (work .entry)) (now (plan .entry))) ⌝ }
+    requires { ⌜ Fits (tablesOf (now file)) path (field .ty) ⌝ }
+    ensures { λ r. ⌜ walkState (tablesOf (now (file .entry))) r (now (work .exit)) (now (plan .exit)) ≡ wholeField (tablesOf (now (file .entry))) (address .0) node (slotOf slot) (field .name) (field .ty) (pathOf path) (walkState (tablesOf (now (file .entry))) w (now (work .entry)) (now (plan .entry))) ⌝ }
 {
-    let a = field_slot(file, index, work, node, slot, name, w.lists);
+    let a = field_slot(file, index, work, node, slot, field.name, w.lists);
     let l = w.listed(a.lists);
     if a.some {
-        return matched(file, index, work, plan, node, a.slot, ty, address, path, l);
+        return matched(
+            file,
+            index,
+            work,
+            plan,
+            node,
+            a.slot,
+            field.ty,
+            address,
+            path,
+            l,
+        );
     }
     l.skip()
 }
@@ -236,19 +247,7 @@ fn whole_fields(
     while i < n {
         let f = field_ty_at(file, at, i);
         let path = FieldPath::field(i as u16);
-        l = whole_field(
-            file,
-            index,
-            work,
-            plan,
-            node,
-            slot,
-            f.name,
-            f.ty,
-            address,
-            path,
-            l,
-        );
+        l = whole_field(file, index, work, plan, node, slot, f, address, path, l);
         i += 1;
     }
     l
