@@ -32,7 +32,7 @@ use Rattle.lookups.specs.Lookups.{SeenSlot}
 use Rattle.lookups.specs.declared.MaybeSlot.the-variants as Ms
 use Rattle.views.specs.Views.{slotOf, SlotInside}
 use Rattle.views.specs.declared.SlotView.{SlotView}
-use Rattle.lists.specs.Lists.{bindingRead, bindingAt, slotAt, slotFrom, later, Readable, FoundReads, SeenAt, SeenView}
+use Rattle.lists.specs.Lists.{bindingRead, bindingAt, slotAt, slotFrom, placeOf, later, Readable, FoundReads, SeenAt, SeenView}
 
 -- a binding that was read at p: its name, then its slot
 pub binding-read : (f : List ℕ) (p : ℕ) (b : Binding) (rest : List ℕ) → readAt f binding p ≡ got b rest → BindingRead f p b
@@ -66,6 +66,9 @@ module _ (f : List ℕ) (o : Option Slot) (r : Found) (s : SeenAt f o r) where
   pub found-none : r ≡ Fo.Nothing → SeenSlot f o Ms.Nothing
   unfolding slotAt bindingAt _>>=_
   found-none e = record { is = ap (slotAt f) (sym e) ∙ s .is; inside = tt }
+
+pub seen-as : (f : List ℕ) (o : Option Slot) (r found : Found) → r ≡ found → SeenAt f o found → SeenAt f o r
+seen-as f o r found e s = subst (SeenAt f o) (sym e) s
 
 -- it ends past its name
 pub past-name : (f : List ℕ) (p q : ℕ) (b : Binding) → p ≤ length f → q ≤ length f → readAt f binding p ≡ got b (drop q f) → p + 2 ≤ q
@@ -101,15 +104,24 @@ nothing-read : Read.binding [] ≡ refused 3
 unfolding binding u16 u8 Read._>>=_ follow
 nothing-read = refl
 
--- the place p, or what was found before it
-module _ (f : List ℕ) (p x : ℕ) (found : Found) (w : ℕ) (e : w ≡ word f p) where
-  pub later-hit : w ≡ x → Fo.At p ≡ later f p x found
-  unfolding later
-  later-hit h = sym (ap (λ (t : Bool). elim t as (λ _. Found) [ true ↦ Fo.At p | false ↦ found ]) (eq-eqb (word f p) x (sym e ∙ h)))
+-- a place and one, or 0 for none
+pub place-none : (n : ℕ) → n ≡ 0 → Fo.Nothing ≡ placeOf n
+unfolding placeOf
+place-none n e = sym (ap placeOf e)
 
-  pub later-miss : (w ≡ x → ⊥) → found ≡ later f p x found
+pub place-next : (n p : ℕ) → n ≡ suc p → Fo.At p ≡ placeOf n
+unfolding placeOf
+place-next n p e = sym (ap placeOf e)
+
+-- the place p, or what was found before it
+module _ (f : List ℕ) (p x : ℕ) (found : ℕ) (w : ℕ) (e : w ≡ word f p) where
+  pub later-hit : (n : ℕ) → n ≡ suc p → w ≡ x → placeOf n ≡ later f p x (placeOf found)
   unfolding later
-  later-miss h = sym (ap (λ (t : Bool). elim t as (λ _. Found) [ true ↦ Fo.At p | false ↦ found ]) (ne-eqb (word f p) x (λ g. h (e ∙ g))))
+  later-hit n g h = sym (place-next n p g) ∙ sym (ap (λ (t : Bool). elim t as (λ _. Found) [ true ↦ Fo.At p | false ↦ placeOf found ]) (eq-eqb (word f p) x (sym e ∙ h)))
+
+  pub later-miss : (w ≡ x → ⊥) → placeOf found ≡ later f p x (placeOf found)
+  unfolding later
+  later-miss h = sym (ap (λ (t : Bool). elim t as (λ _. Found) [ true ↦ Fo.At p | false ↦ placeOf found ]) (ne-eqb (word f p) x (λ g. h (e ∙ g))))
 
 module _ (f : List ℕ) (x : ℕ) where
   abbrev all : Option Binding
@@ -123,8 +135,8 @@ module _ (f : List ℕ) (x : ℕ) where
     pub same : all ≡ lastOr (bindingAt f found) (λ b. eqb (b .name) x) (bindingsIn fuel (drop p f))
     pub reads : FoundReads f found
 
-  pub scan-start : Scanning 0 Fo.Nothing
-  unfolding bindingAt
+  pub scan-start : Scanning 0 (placeOf 0)
+  unfolding bindingAt placeOf
   scan-start = record { within = omega arith; fuel = length f; enough = omega arith; same = refl; reads = tt }
 
   module _ (p : ℕ) (found : Found) (s : Scanning p found) where

@@ -1,5 +1,5 @@
 -- What the code's lists stand for in the state that the compiler keeps (crate state).
-use Prim.Native.Nat.{ℕ, _+_, _≤_}
+use Prim.Native.Nat.{ℕ, zero, suc, _+_, _≤_}
 use mathlib.Core.Path.{_≡_}
 use mathlib.Core.Bool.{Bool, true, false}
 use mathlib.Core.List.{List}
@@ -64,6 +64,11 @@ slotAt f r = bindingAt f r >>= λ b. some (b .slot)
 -- the slot of the binding that is read at p
 abbrev pub slotFrom : List ℕ → ℕ → Option Slot
 slotFrom f p = slotAt f (Fo.At p)
+
+-- a place and one, or 0 for none
+unfoldable pub placeOf : ℕ → Found
+placeOf zero = Fo.Nothing
+placeOf (suc p) = Fo.At p
 
 -- the place p if the binding there has the name, else what was found before it
 unfoldable pub later : List ℕ → ℕ → ℕ → Found → Found

@@ -26,7 +26,7 @@ ghost use Rattle.ready.specs.Ready.{Ready};
 ghost use Rattle.lookups.specs.Lookups.{SeenSlot};
 ghost use Rattle.slots.specs.Slots.{slotOf, slotOption};
 ghost use Rattle.records.specs.Records.{put, reach};
-ghost use Rattle.lists.specs.Lists.{stateWith, overrun, codeOf, fitsTables, isBound, later, slotFrom, Readable, SeenAt, SeenView, ShortSlot};
+ghost use Rattle.lists.specs.Lists.{stateWith, overrun, codeOf, fitsTables, isBound, placeOf, later, slotFrom, Readable, SeenAt, SeenView, ShortSlot};
 use file::DEPTHS;
 use file::Step;
 use file::binding_end;
@@ -282,13 +282,23 @@ pub fn bind(work: &mut [u8], l: Lists, name: usize, slot: Slot) -> Lists
     r
 }
 
+// What was found, as one number for the loop that carries it: a place and one, or 0 for none.
+fn place(found: usize) -> Found
+    ensures { λ r. ⌜ r ≡ placeOf found ⌝ }
+{
+    if found == 0 {
+        return Found::Nothing;
+    }
+    Found::At(found - 1)
+}
+
 // The binding at p if it has the name, else what was found before it.
-fn later(bytes: &[u8], p: usize, name: usize, found: Found) -> Found
+fn later(bytes: &[u8], p: usize, name: usize, found: usize) -> usize
     requires { ⌜ p + 2 ≤ length (now bytes) ⌝ }
-    ensures { λ r. ⌜ r ≡ later (now (bytes .entry)) p name found ⌝ }
+    ensures { λ r. ⌜ placeOf r ≡ later (now (bytes .entry)) p name (placeOf found) ⌝ }
 {
     if word_at(bytes, p) == name {
-        Found::At(p)
+        p + 1
     } else {
         found
     }
@@ -298,7 +308,7 @@ fn later(bytes: &[u8], p: usize, name: usize, found: Found) -> Found
 fn find(bytes: &[u8], name: usize) -> Found
     ensures { λ r. ⌜ SeenAt (now (bytes .entry)) (Constant.lookup (bindingsIn (length (now (bytes .entry))) (now (bytes .entry))) name) r ⌝ }
 {
-    let mut found = Found::Nothing;
+    let mut found: usize = 0;
     let mut p: usize = 0;
     while p < bytes.len() {
         match binding_end(bytes, p) {
@@ -307,11 +317,11 @@ fn find(bytes: &[u8], name: usize) -> Found
                 p = q;
             }
             Step::Refused(x) => {
-                return found;
+                return place(found);
             }
         }
     }
-    found
+    place(found)
 }
 
 fn register_at(bytes: &[u8], p: usize) -> Address
