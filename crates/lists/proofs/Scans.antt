@@ -32,7 +32,7 @@ use Rattle.lookups.specs.Lookups.{SeenSlot}
 use Rattle.lookups.specs.declared.MaybeSlot.the-variants as Ms
 use Rattle.views.specs.Views.{slotOf, SlotInside}
 use Rattle.views.specs.declared.SlotView.{SlotView}
-use Rattle.lists.specs.Lists.{bindingRead, bindingAt, slotAt, slotFrom, placeOf, later, Readable, FoundReads, SeenAt, SeenView}
+use Rattle.lists.specs.Lists.{bindingRead, bindingAt, slotAt, slotFrom, placeOf, endOf, later, Readable, FoundReads, SeenAt, SeenView}
 
 -- a binding that was read at p: its name, then its slot
 pub binding-read : (f : List ℕ) (p : ℕ) (b : Binding) (rest : List ℕ) → readAt f binding p ≡ got b rest → BindingRead f p b
@@ -151,12 +151,24 @@ module _ (f : List ℕ) (x : ℕ) where
     pub scan-end : length f ≤ p → SeenAt f (lookup (bindingsIn (length f) f) x) found
     scan-end h = stopped 3 (ap Read.binding (drop-of-length-le f h) ∙ nothing-read)
 
-    pub scan-fault : (k : ℕ) (r : Step) → r ≡ stepAt f binding p → r ≡ Refused k → SeenAt f (lookup (bindingsIn (length f) f) x) found
-    unfolding readAt
-    scan-fault k r e g = stopped k (faulted f binding p k (sym e ∙ g))
+    module _ (q : ℕ) (e : q ≡ endOf (stepAt f binding p)) where
+      pub scan-none : q ≡ 0 → SeenAt f (lookup (bindingsIn (length f) f) x) found
+      unfolding readAt endOf
+      scan-none z = go (stepAt f binding p) refl e
+        where
+          go : (r : Step) → stepAt f binding p ≡ r → q ≡ endOf r → SeenAt f (lookup (bindingsIn (length f) f) x) found
+          go (Next y) g h =
+              let n = ended f binding p y suffix-binding (s .within) g in
+              absurd (omega (arith, h, z, past-name f p y (n .value) (s .within) (n .within) (n .is)))
+          go (Refused k) g h = stopped k (faulted f binding p k g)
 
-    pub scan-ended : (q : ℕ) (r : Step) → r ≡ stepAt f binding p → r ≡ Next q → Ended f binding p q
-    scan-ended q r e g = ended f binding p q suffix-binding (s .within) (sym e ∙ g)
+      pub scan-ended : (q ≡ 0 → ⊥) → Ended f binding p q
+      unfolding endOf
+      scan-ended z = go (stepAt f binding p) refl e
+        where
+          go : (r : Step) → stepAt f binding p ≡ r → q ≡ endOf r → Ended f binding p q
+          go (Next y) g h = ended f binding p q suffix-binding (s .within) (g ∙ ap Next (sym h))
+          go (Refused k) g h = absurd (z h)
 
     module _ (q : ℕ) (n : Ended f binding p q) where
       pub forward : p + 2 ≤ q

@@ -2,7 +2,7 @@
 use Prim.Native.Nat.{ℕ, zero, suc, _+_, _≤_}
 use mathlib.Core.Path.{_≡_}
 use mathlib.Core.Bool.{Bool, true, false}
-use mathlib.Core.List.{List}
+use mathlib.Core.List.{List, [], _∷_}
 use mathlib.Core.Option.{Option, none, some}
 use lib.Dec.{eqb}
 use lib.ListN.{length, getD}
@@ -14,6 +14,8 @@ use Rattle.rules.specs.Events as Events
 use Rattle.rules.specs.Read as Read
 use Rattle.rules.specs.Read.Read.{got, refused}
 use Rattle.file.specs.Steps.{word, readAt}
+use Rattle.file.specs.declared.Step.{Step}
+use Rattle.file.specs.declared.Step.the-variants.{Next, Refused}
 use Rattle.state.specs.State as Kept
 use Rattle.state.specs.State.{Level, Target, State, state, ends}
 use Rattle.views.specs.Views.{slotOf, SlotInside}
@@ -64,6 +66,15 @@ slotAt f r = bindingAt f r >>= λ b. some (b .slot)
 -- the slot of the binding that is read at p
 abbrev pub slotFrom : List ℕ → ℕ → Option Slot
 slotFrom f p = slotAt f (Fo.At p)
+
+-- the bytes after the kind of a slot that is no field
+abbrev pub plainSizes : List ℕ
+plainSizes = 4 ∷ 4 ∷ 2 ∷ 4 ∷ 4 ∷ 2 ∷ []
+
+-- where a reading ended, or 0 for a refusal
+unfoldable pub endOf : Step → ℕ
+endOf (Next q) = q
+endOf (Refused n) = 0
 
 -- a place and one, or 0 for none
 unfoldable pub placeOf : ℕ → Found

@@ -17,7 +17,8 @@ ghost use Rattle.rules.specs.Plan as Plan;
 ghost use Rattle.state.specs.State.{Level, Target, bindingsIn, made};
 ghost use Rattle.state.specs.Ops as Ops;
 ghost use Rattle.state.specs.Ops.{fitting, ops};
-ghost use Rattle.file.specs.Steps.{word};
+ghost use Rattle.rules.specs.Read.{binding};
+ghost use Rattle.file.specs.Steps.{word, stepAt};
 ghost use Rattle.file.specs.Tables.{tablesOf};
 ghost use Rattle.paths.specs.Paths.{pathOf};
 ghost use Rattle.views.specs.Views as Views;
@@ -26,10 +27,8 @@ ghost use Rattle.ready.specs.Ready.{Ready};
 ghost use Rattle.lookups.specs.Lookups.{SeenSlot};
 ghost use Rattle.slots.specs.Slots.{slotOf, slotOption};
 ghost use Rattle.records.specs.Records.{put, reach};
-ghost use Rattle.lists.specs.Lists.{stateWith, overrun, codeOf, fitsTables, isBound, placeOf, later, slotFrom, Readable, SeenAt, SeenView, ShortSlot};
+ghost use Rattle.lists.specs.Lists.{stateWith, overrun, codeOf, fitsTables, isBound, placeOf, plainSizes, endOf, later, slotFrom, Readable, SeenAt, SeenView, ShortSlot};
 use file::DEPTHS;
-use file::Step;
-use file::binding_end;
 use file::wide;
 use file::wide16;
 use file::word_at;
@@ -304,6 +303,57 @@ fn later(bytes: &[u8], p: usize, name: usize, found: usize) -> usize
     }
 }
 
+// The bytes after the kind of a slot that is no field.
+fn plain_size(k: usize) -> usize
+    ensures { λ r. ⌜ r ≡ getD plainSizes k 4 ⌝ }
+{
+    if k == 2 {
+        return 2;
+    }
+    if k == 5 {
+        return 2;
+    }
+    4
+}
+
+fn field_end(bytes: &[u8], p: usize) -> usize
+    requires { ⌜ (p + 3 ≤ length (now bytes)) × (getD (now bytes) (p + 2) 0 ≡ 3) ⌝ }
+    ensures { λ r. ⌜ r ≡ endOf (stepAt (now (bytes .entry)) binding p) ⌝ }
+{
+    let left = bytes.len() - p;
+    if left < 8 {
+        return 0;
+    }
+    let n = 10 + 4 * wide(bytes[p + 7]);
+    if n > left {
+        return 0;
+    }
+    p + n
+}
+
+// Where the binding at p ends, or 0 where none is read: one number, by few tests, since the search asks for it at each record.
+fn end_at(bytes: &[u8], p: usize) -> usize
+    requires { ⌜ p ≤ length (now bytes) ⌝ }
+    ensures { λ r. ⌜ r ≡ endOf (stepAt (now (bytes .entry)) binding p) ⌝ }
+{
+    let left = bytes.len() - p;
+    if left < 3 {
+        return 0;
+    }
+    let k = wide(bytes[p + 2]);
+    if k == 3 {
+        return field_end(bytes, p);
+    }
+    if k > 5 {
+        return 0;
+    }
+    let n = 3 + plain_size(k);
+    if n > left {
+        return 0;
+    }
+    p + n
+}
+
 // The last binding of a name among records one after another, up to the first that is none.
 fn find(bytes: &[u8], name: usize) -> Found
     ensures { λ r. ⌜ SeenAt (now (bytes .entry)) (Constant.lookup (bindingsIn (length (now (bytes .entry))) (now (bytes .entry))) name) r ⌝ }
@@ -311,15 +361,12 @@ fn find(bytes: &[u8], name: usize) -> Found
     let mut found: usize = 0;
     let mut p: usize = 0;
     while p < bytes.len() {
-        match binding_end(bytes, p) {
-            Step::Next(q) => {
-                found = later(bytes, p, name, found);
-                p = q;
-            }
-            Step::Refused(x) => {
-                return place(found);
-            }
+        let q = end_at(bytes, p);
+        if q == 0 {
+            return place(found);
         }
+        found = later(bytes, p, name, found);
+        p = q;
     }
     place(found)
 }
