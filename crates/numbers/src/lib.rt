@@ -398,6 +398,29 @@ fn all_distinct(file: &[u8], long: bool, w: usize, n: usize, p: usize) -> bool
     true
 }
 
+// Whether n names differ: each is marked where it is first met. A number that has no mark belongs to no name; then each is compared with each.
+fn names_distinct(file: &[u8], w: usize, n: usize, p: usize) -> bool
+    requires { ⌜ Words (now file) 4 w n p ⌝ }
+    ensures { λ r. ⌜ r ≡ distinct (run (word (now (file .entry))) w n p) ⌝ }
+{
+    let mut marks = [0u8; 512];
+    let mut left = n;
+    let mut q = p;
+    while left > 0 {
+        let x = word_at(file, q);
+        if x >= 512 {
+            return all_distinct(file, false, w, n, p);
+        }
+        if marks[x] != 0 {
+            return false;
+        }
+        marks[x] = 1;
+        q += w;
+        left -= 1;
+    }
+    true
+}
+
 fn type_distinct(file: &[u8], index: &[u16], t: usize) -> bool
     requires { ⌜ Indexed (now file) (now index) ⌝ }
     requires { ⌜ t < length (tablesOf (now file) .types) ⌝ }
@@ -408,9 +431,9 @@ fn type_distinct(file: &[u8], index: &[u16], t: usize) -> bool
         TypeView::Str => true,
         TypeView::Bytes => true,
         TypeView::Fact(_) => true,
-        TypeView::Record(n, at) => all_distinct(file, false, 4, n, at),
+        TypeView::Record(n, at) => names_distinct(file, 4, n, at),
         TypeView::Union(n, at) => {
-            if !all_distinct(file, false, 8, n, at) {
+            if !names_distinct(file, 8, n, at) {
                 return false;
             }
             all_distinct(file, true, 8, n, at + 2)

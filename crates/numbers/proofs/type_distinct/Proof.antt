@@ -16,6 +16,7 @@ use Rattle.numbers.proofs.type_distinct.Tie as tie
 use Rattle.numbers.proofs.type_distinct.Reads as reads
 use Rattle.numbers.proofs.type_distinct.Lts as lts
 use Rattle.numbers.proofs.all_distinct.Reads as all-distinct-reads
+use Rattle.numbers.proofs.names_distinct.Reads as names-distinct-reads
 use Rattle.views.proofs.type_at.Reads as type-at-reads
 
 -- src/lib.rt:354:11
@@ -43,29 +44,29 @@ enum-known-n : tie.Need-enum-known-n
 enum-known-n c = search needs
 
 -- src/lib.rt:359:36
-all-distinct-requires : tie.Need-all-distinct-requires
-all-distinct-requires c κs = let i = type-as (c .before .before .before .type-at .ensures) (c .before .n .given .1) .inside in words-4-first _ (c .before .before .before .before .before .before .pre .0 .small) _ _ 4 i (omega arith)
+names-distinct-requires : tie.Need-names-distinct-requires
+names-distinct-requires c κs = let i = type-as (c .before .before .before .type-at .ensures) (c .before .n .given .1) .inside in words-4-first _ (c .before .before .before .before .before .before .pre .0 .small) _ _ 4 i (omega arith)
 
 -- src/lib.rt:360:25
 enum-known-n-2 : tie.Need-enum-known-n-2
 enum-known-n-2 c = search needs
 
 -- src/lib.rt:361:17
-all-distinct-requires-2 : tie.Need-all-distinct-requires-2
-all-distinct-requires-2 c κs = let i = type-as (c .before .before .before .type-at .ensures) (c .before .n2 .given .1) .inside in words-8-first _ (c .before .before .before .before .before .before .pre .0 .small) _ _ 4 i (omega arith)
+names-distinct-requires-2 : tie.Need-names-distinct-requires-2
+names-distinct-requires-2 c κs = let i = type-as (c .before .before .before .type-at .ensures) (c .before .n2 .given .1) .inside in words-8-first _ (c .before .before .before .before .before .before .pre .0 .small) _ _ 4 i (omega arith)
 
 -- src/lib.rt:362:17
 returns : tie.Need-returns
 unfolding typeDistinct
-returns c = sym (both-false _ _ (ap distinct (sym (union-names _ _ _)) ∙ sym (c .before .all-distinct2 .ensures) ∙ not-true _ (c .if1 .taken))) ∙ by-type typeDistinct (c .before .before .before .before .before .type-at .ensures) (c .before .before .before .n2 .given .1)
+returns c = sym (both-false _ _ (ap distinct (sym (union-names _ _ _)) ∙ sym (c .before .names-distinct2 .ensures) ∙ not-true _ (c .if1 .taken))) ∙ by-type typeDistinct (c .before .before .before .before .before .type-at .ensures) (c .before .before .before .n2 .given .1)
 
 -- src/lib.rt:364:44
 add-all-distinct : tie.Need-add-all-distinct
 add-all-distinct c = let i = type-as (c .before .before .before .before .before .type-at .ensures) (c .before .before .before .n2 .given .1) .inside in omega (arith, i, c .before .before .before .before .before .before .before .before .pre .0 .small)
 
 -- src/lib.rt:364:13
-all-distinct-requires-3 : tie.Need-all-distinct-requires-3
-all-distinct-requires-3 c κs = let i = type-as (c .before .before .before .before .before .type-at .ensures) (c .before .before .before .n2 .given .1) .inside in words-8 _ (c .before .before .before .before .before .before .before .before .pre .0 .small) _ _ 4 2 i (omega arith)
+all-distinct-requires : tie.Need-all-distinct-requires
+all-distinct-requires c κs = let i = type-as (c .before .before .before .before .before .type-at .ensures) (c .before .before .before .n2 .given .1) .inside in words-8 _ (c .before .before .before .before .before .before .before .before .pre .0 .small) _ _ 4 2 i (omega arith)
 
 -- src/lib.rt:349:1
 returns-2 : tie.Need-returns-2
@@ -90,12 +91,12 @@ returns-5 c = by-type typeDistinct (c .before .before .type-at .ensures) (c .enu
 -- src/lib.rt:349:1
 returns-6 : tie.Need-returns-6
 unfolding typeDistinct
-returns-6 c = c .all-distinct .ensures ∙ ap distinct (record-names _ _ _) ∙ by-type typeDistinct (c .before .before .before .before .type-at .ensures) (c .before .before .n .given .1)
+returns-6 c = c .names-distinct .ensures ∙ ap distinct (record-names _ _ _) ∙ by-type typeDistinct (c .before .before .before .before .type-at .ensures) (c .before .before .n .given .1)
 
 -- src/lib.rt:349:1
 returns-7 : tie.Need-returns-7
 unfolding typeDistinct
-returns-7 c = c .all-distinct3 .ensures ∙ ap distinct (union-discs _ _ _) ∙ sym (both-then _ _ (ap distinct (sym (union-names _ _ _)) ∙ sym (c .before .before .all-distinct2 .ensures) ∙ not-false _ (c .before .if1 .left))) ∙ by-type typeDistinct (c .before .before .before .before .before .before .type-at .ensures) (c .before .before .before .before .n2 .given .1)
+returns-7 c = c .all-distinct .ensures ∙ ap distinct (union-discs _ _ _) ∙ sym (both-then _ _ (ap distinct (sym (union-names _ _ _)) ∙ sym (c .before .before .names-distinct2 .ensures) ∙ not-false _ (c .before .if1 .left))) ∙ by-type typeDistinct (c .before .before .before .before .before .before .type-at .ensures) (c .before .before .before .before .n2 .given .1)
 
 pub type-distinct-spec : {M : Type 1} → statement M
 type-distinct-spec =
@@ -107,12 +108,12 @@ type-distinct-spec =
     enum-told-3
     enum-told-4
     enum-known-n
-    all-distinct-requires
+    names-distinct-requires
     enum-known-n-2
-    all-distinct-requires-2
+    names-distinct-requires-2
     returns
     add-all-distinct
-    all-distinct-requires-3
+    all-distinct-requires
     returns-2
     returns-3
     returns-4
