@@ -1,3 +1,4 @@
 pub mod Every
 pub mod Seen
 pub mod Marks
+pub mod Rising

@@ -15,10 +15,10 @@ use Rattle.file.proofs.Readers.{lt-or-le, down}
 use Rattle.views.specs.Views.{run}
 use Rattle.numbers.proofs.Every.{if-both, both-true, both-no}
 
-absent : ℕ → List ℕ → Bool
+unfoldable pub absent : ℕ → List ℕ → Bool
 absent c l = elim (first (eqb c) l) [ none ↦ true | some y ↦ false ]
 
-distinct-cons : (c : ℕ) (l : List ℕ) → distinct (c ∷ l) ≡ both (absent c l) (distinct l)
+pub distinct-cons : (c : ℕ) (l : List ℕ) → distinct (c ∷ l) ≡ both (absent c l) (distinct l)
 unfolding distinct absent
 distinct-cons c l = go (first (eqb c) l)
   where
@@ -26,7 +26,7 @@ distinct-cons c l = go (first (eqb c) l)
     go none = refl
     go (some y) = refl
 
-absent-cons : (c d : ℕ) (l : List ℕ) → absent c (d ∷ l) ≡ elim (eqb c d) as (λ _. Bool) [ true ↦ false | false ↦ absent c l ]
+pub absent-cons : (c d : ℕ) (l : List ℕ) → absent c (d ∷ l) ≡ elim (eqb c d) as (λ _. Bool) [ true ↦ false | false ↦ absent c l ]
 unfolding absent first
 absent-cons c d l = go (eqb c d)
   where
@@ -100,17 +100,17 @@ unfolding fresh
 fresh-stop m c l h = both-no (distinct (c ∷ l)) (clear m (c ∷ l)) (clear-cons m c l ∙ ap (λ (b : Bool). both b (clear m l)) (ne-eqb _ _ h))
 
 -- over a run
+pub run-is : (g : ℕ → ℕ) (w n q c : ℕ) → 0 < n → c ≡ g q → run g w n q ≡ c ∷ run g w (n - 1) (q + w)
+unfolding run
+run-is g w n q c h e = ap (λ (k : ℕ). run g w k q) (down n h) ∙ ap (λ (k : ℕ). k ∷ run g w (n - 1) (q + w)) (sym e)
+
 module _ (g : ℕ → ℕ) (w : ℕ) (m : List ℕ) (n q : ℕ) where
   pub fresh-end : n ≡ 0 → fresh m (run g w n q) ≡ true
   unfolding run
   fresh-end h = ap (λ (k : ℕ). fresh m (run g w k q)) h ∙ fresh-none m
 
-  run-is : (c : ℕ) → 0 < n → c ≡ g q → run g w n q ≡ c ∷ run g w (n - 1) (q + w)
-  unfolding run
-  run-is c h e = ap (λ (k : ℕ). run g w k q) (down n h) ∙ ap (λ (k : ℕ). k ∷ run g w (n - 1) (q + w)) (sym e)
-
   pub fresh-on : (c : ℕ) → 0 < n → c ≡ g q → c < length m → getD m c 0 ≡ 0 → fresh m (run g w n q) ≡ fresh (set m c 1) (run g w (n - 1) (q + w))
-  fresh-on c h e b z = ap (fresh m) (run-is c h e) ∙ fresh-more m c (run g w (n - 1) (q + w)) b z
+  fresh-on c h e b z = ap (fresh m) (run-is g w n q c h e) ∙ fresh-more m c (run g w (n - 1) (q + w)) b z
 
   pub fresh-met : (c : ℕ) → 0 < n → c ≡ g q → (getD m c 0 ≡ 0 → ⊥) → fresh m (run g w n q) ≡ false
-  fresh-met c h e z = ap (fresh m) (run-is c h e) ∙ fresh-stop m c (run g w (n - 1) (q + w)) z
+  fresh-met c h e z = ap (fresh m) (run-is g w n q c h e) ∙ fresh-stop m c (run g w (n - 1) (q + w)) z

@@ -30,6 +30,11 @@ numberAt f false p = word f p
 unfoldable pub among : ℕ → List ℕ → Bool
 among x l = elim (first (eqb x) l) [ none ↦ false | some y ↦ true ]
 
+-- the numbers rise, the first of them past x
+unfoldable pub rising : ℕ → List ℕ → Bool
+rising x [] = true
+rising x (y ∷ l) = elim (ltb x y) [ true ↦ rising y l | false ↦ false ]
+
 -- 8: record t of section s, and all of section s
 unfoldable pub recordIn : Tables → ℕ → ℕ → Bool
 recordIn T s t =

@@ -11,7 +11,7 @@ ghost use Rattle.rules.specs.Checks.{typeIn, predicateIn, nodeIn, bindingIn, ho
 ghost use Rattle.file.specs.Steps.{word};
 ghost use Rattle.file.specs.Tables.{Indexed, tablesOf};
 ghost use Rattle.views.specs.Views.{sizeOf, run, bindingAt, hoistedAt, constraintAt, comparisonAt, levelAt};
-ghost use Rattle.numbers.specs.Numbers.{Words, pairsIn, numberAt, among, recordIn, sectionIn, typesLower, nodesLower};
+ghost use Rattle.numbers.specs.Numbers.{Words, pairsIn, numberAt, among, rising, recordIn, sectionIn, typesLower, nodesLower};
 use file::wide16;
 use file::word_at;
 use paths::PredicateId;
@@ -382,10 +382,37 @@ fn is_among(file: &[u8], long: bool, w: usize, n: usize, p: usize, x: u32) -> bo
     false
 }
 
+// Whether n numbers rise, the first of them past x.
+fn is_rising(file: &[u8], long: bool, w: usize, n: usize, p: usize, x: u32) -> bool
+    requires { ⌜ Words (now file) 4 w n p ⌝ }
+    ensures { λ r. ⌜ r ≡ rising x (run (numberAt (now (file .entry)) long) w n p) ⌝ }
+{
+    let mut last = x;
+    let mut left = n;
+    let mut q = p;
+    while left > 0 {
+        let y = number_at(file, long, q);
+        if y <= last {
+            return false;
+        }
+        last = y;
+        q += w;
+        left -= 1;
+    }
+    true
+}
+
+// Numbers that rise differ; others are compared each with each.
 fn all_distinct(file: &[u8], long: bool, w: usize, n: usize, p: usize) -> bool
     requires { ⌜ Words (now file) 4 w n p ⌝ }
     ensures { λ r. ⌜ r ≡ distinct (run (numberAt (now (file .entry)) long) w n p) ⌝ }
 {
+    if n == 0 {
+        return true;
+    }
+    if is_rising(file, long, w, n - 1, p + w, number_at(file, long, p)) {
+        return true;
+    }
     let mut left = n;
     let mut q = p;
     while left > 0 {
