@@ -2,13 +2,17 @@
 use mathlib.Core.Bool.{Bool, true, false}
 use mathlib.Core.List.{List}
 use mathlib.Core.Path.{_≡_, refl, sym, ap, _∙_}
-use Prim.Native.Nat.{ℕ, _≤_, _<_}
+use Prim.Native.Nat.{ℕ, _+_, _≤_, _<_}
+use native.Mathlib.Omega.{arith}
+use borrow.Author.Tests.{eq-eqb, ne-eqb}
 use lib.Dec.{eqb}
 use lib.ListN.{length}
+use Rattle.rules.specs.Base.{both}
 use Rattle.rules.specs.Limits.{planLimit}
 use Rattle.rules.specs.File.{Tables, predicateAt}
 use Rattle.rules.specs.File as File
 use Rattle.rules.specs.Walk as Rules
+use Rattle.rules.proofs.Cases.{by-test, true≢false}
 use Rattle.rules.proofs.Each.{each-at}
 use Rattle.rules.proofs.Sound.{Sound}
 use Rattle.state.specs.State.{State, Level, state, newLevel, measuring}
@@ -22,7 +26,7 @@ use Rattle.views.specs.declared.LevelEntry.{LevelEntry}
 use Rattle.views.specs.declared.Predicate.{Predicate}
 use Rattle.ready.specs.Ready.{Ready}
 use Rattle.ready.proofs.Given.{sound-tables}
-use Rattle.seek.specs.Seek.{levelOf, stateOf}
+use Rattle.seek.specs.Seek.{sumsOf, countsOf, levelOf, stateOf}
 use Rattle.seek.specs.declared.SeekBuilder.{SeekBuilder}
 use Rattle.lists.specs.Lists.{endsOf, stateWith}
 use Rattle.lists.specs.declared.Ends.{Ends}
@@ -70,13 +74,40 @@ pub lists-left : (T : Tables) (r : Walk) (work plan : List ℕ) → unleveled (w
 unfolding unleveled walkState
 lists-left T r work plan = refl
 
+-- whether a level is bare
+some-parts : (n r : ℕ) → 0 < n → false ≡ both (eqb n 0) (eqb r 0)
+some-parts n r h = ap (λ (b : Bool). both b (eqb r 0)) (sym (ne-eqb n 0 (λ e. omega (arith, h, e))))
+
+no-parts : (n r : ℕ) → n ≤ 0 → eqb r 0 ≡ both (eqb n 0) (eqb r 0)
+no-parts n r h = ap (λ (b : Bool). both b (eqb r 0)) (sym (eq-eqb n 0 (omega (arith, h))))
+
+pub parted-is : (T : Tables) (l : SeekBuilder) → 0 < l .counts .closers + l .counts .others → false ≡ Kept.bare (levelOf T l)
+unfolding Kept.bare levelOf countsOf sumsOf
+parted-is T l h = some-parts (l .counts .closers + l .counts .others) (l .counts .residuals) h
+
+pub bare-is : (T : Tables) (l : SeekBuilder) → l .counts .closers + l .counts .others ≤ 0 → eqb (l .counts .residuals) 0 ≡ Kept.bare (levelOf T l)
+unfolding Kept.bare levelOf countsOf sumsOf
+bare-is T l h = no-parts (l .counts .closers + l .counts .others) (l .counts .residuals) h
+
+-- a bare level: its frame written, the lists as the walk left them
+pub framed-is : (T : Tables) (v : File.LevelEntry) (e : Memory.Ends) (at : ℕ) (m : Walk) (work plan plan₁ : List ℕ) → plan₁ ≡ Kept.frame at (levelOf T (m .level)) plan → Kept.bare (levelOf T (m .level)) ≡ true
+    → stateWith (m .lists) newLevel measuring work plan₁ ≡ unleveled (Kept.rewritten T v e at (walkState T m work plan))
+unfolding Kept.rewritten Kept.framed walkState unleveled
+framed-is T v e at m work plan plan₁ ep q =
+    ap (stateWith (m .lists) newLevel measuring work) ep
+    ∙ by-test (λ (r : State). stateWith (m .lists) newLevel measuring work (Kept.frame at (levelOf T (m .level)) plan) ≡ unleveled r) (Kept.bare (levelOf T (m .level))) (λ _. refl) (λ p. absurd (true≢false (sym q ∙ p)))
+
 -- the second walk
-module _ (at : ℕ) (l : Level) (f : Frame) (ef : f ≡ frameOf at l) (h : f .end ≤ planLimit) where
-  pub rewritten-is : (T : Tables) (v : File.LevelEntry) (e : Memory.Ends) (work plan plan₁ : List ℕ) → plan₁ ≡ Kept.frame at l plan
-      → (t : Memory.Target) → t ≡ place (Kept.joining l) (f .parts) (f .rest) → (b r : State) → b ≡ state false e newLevel t work plan₁ → r ≡ Kept.walked T v b
-      → (e₀ : Memory.Ends) (t₀ : Memory.Target) → unleveled r ≡ unleveled (Kept.rewritten T v e at (state false e₀ l t₀ work plan))
-  unfolding Kept.rewritten Kept.begin
-  rewritten-is T v e work plan plan₁ ep t et b r eb er e₀ t₀ =
-      ap unleveled (er ∙ ap (Kept.walked T v) (eb ∙ ap (λ (q : Memory.Target). state false e newLevel q work plan₁)
+module _ (T : Tables) (at : ℕ) (m : Walk) (f : Frame) (ef : f ≡ frameOf at (levelOf T (m .level))) (h : f .end ≤ planLimit) where
+  abbrev l : Level
+  l = levelOf T (m .level)
+
+  pub rewritten-is : (v : File.LevelEntry) (e : Memory.Ends) (work plan plan₁ : List ℕ) → plan₁ ≡ Kept.frame at l plan → Kept.bare l ≡ false
+      → (t : Memory.Target) → t ≡ place (Kept.joining l) (f .parts) (f .rest) → (b r : State) → b ≡ state (m .lists .over) e newLevel t work plan₁ → r ≡ Kept.walked T v b
+      → unleveled r ≡ unleveled (Kept.rewritten T v e at (walkState T m work plan))
+  unfolding Kept.rewritten Kept.framed Kept.begin walkState
+  rewritten-is v e work plan plan₁ ep q t et b r eb er =
+      ap unleveled (er ∙ ap (Kept.walked T v) (eb ∙ ap (λ (x : Memory.Target). state (m .lists .over) e newLevel x work plan₁)
       (et ∙ ap (λ (k : ℕ). place (Kept.joining l) k (f .rest)) (parts-is at l f ef) ∙ ap (λ (k : ℕ). place (Kept.joining l) (Kept.partsAt at l) k) (rest-is at l f ef h))
-      ∙ ap (λ (p : List ℕ). state false e newLevel (place (Kept.joining l) (Kept.partsAt at l) (Kept.restAt at l)) work p) ep))
+      ∙ ap (λ (p : List ℕ). state (m .lists .over) e newLevel (place (Kept.joining l) (Kept.partsAt at l) (Kept.restAt at l)) work p) ep)
+      ∙ by-test (λ (x : State). Kept.walked T v (state (m .lists .over) e newLevel (place (Kept.joining l) (Kept.partsAt at l) (Kept.restAt at l)) work (Kept.frame at l plan)) ≡ x) (Kept.bare l) (λ p. absurd (true≢false (sym p ∙ q))) (λ _. refl))

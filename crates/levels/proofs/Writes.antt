@@ -75,13 +75,12 @@ module _ (T : Tables) (v : LevelEntry) (e : Memory.Ends) (at : ℕ) where
     long-left r o b s = stopped-is r (m .lists) at work plan _ _ s ∙ ap between (sym (measured-long seen o b))
 
     pub fits-left : (r : Written) (work₁ plan₁ : List ℕ) → m .lists .over ≡ false → room ≡ true → r .at ≡ Kept.levelEnd at (levelOf T (m .level))
-        → ((e₀ : Memory.Ends) (t₀ : Memory.Target) → stateWith (r .lists) newLevel measuring work₁ plan₁ ≡ unleveled (Kept.rewritten T v e at (state false e₀ (levelOf T (m .level)) t₀ work plan)))
+        → stateWith (r .lists) newLevel measuring work₁ plan₁ ≡ unleveled (Kept.rewritten T v e at seen)
         → writtenOf r work₁ plan₁ ≡ between (Kept.measured T v e at seen)
     unfolding walkState writtenOf between
     fits-left r work₁ plan₁ o b ea s =
         ap (λ (k : ℕ). written k (stateWith (r .lists) newLevel measuring work₁ plan₁)) ea
-        ∙ ap (written (Kept.levelEnd at (levelOf T (m .level)))) (s (seen .ends) (seen .target)
-        ∙ ap (λ (x : Bool). unleveled (Kept.rewritten T v e at (state x (seen .ends) (seen .level) (seen .target) work plan))) (sym o))
+        ∙ ap (written (Kept.levelEnd at (levelOf T (m .level)))) s
         ∙ ap between (sym (measured-fits seen o b))
 
 -- a level from what the one before left

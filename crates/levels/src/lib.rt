@@ -7,7 +7,6 @@ ghost use lib.ListN.{length};
 ghost use Rattle.rules.specs.Limits.{planLimit};
 ghost use Rattle.rules.specs.File.{Tables};
 ghost use Rattle.state.specs.State.{newLevel, measuring, state};
-ghost use Rattle.state.specs.State as Memory;
 ghost use Rattle.state.specs.Levels as Kept;
 ghost use Rattle.file.specs.Tables.{tablesOf};
 ghost use Rattle.views.specs.Views.{levelAt};
@@ -25,6 +24,7 @@ use frame::seek_number;
 use lists::Ends;
 use lists::Lists;
 use records::put16;
+use records::wide32;
 use runs::lists_len;
 use runs::put_lists;
 use seek::SeekBuilder;
@@ -76,7 +76,18 @@ fn writing(f: Frame, l: SeekBuilder) -> Target
     }
 }
 
-// Measured, the level is walked once more from the lists as they were, and written.
+// Whether a level has neither parts nor residuals: then its frame is all of its bytes.
+fn bare(l: SeekBuilder) -> bool
+    ensures { λ r. ⌜ ((T : Tables) → r ≡ Kept.bare (levelOf T l)) ⌝ }
+{
+    let c = l.counts;
+    if wide32(c.closers) + wide32(c.others) > 0 {
+        return false;
+    }
+    c.residuals == 0
+}
+
+// Measured, the level is walked once more from the lists as they were, and written; a bare one has nothing more to write.
 fn rewritten(
     file: &[u8],
     index: &[u16],
@@ -85,16 +96,21 @@ fn rewritten(
     k: usize,
     at: usize,
     f: Frame,
-    l: SeekBuilder,
+    m: Walk,
     ends: Ends,
 ) -> Lists
     requires { ⌜ Ready (now file) (now index) ⌝ }
     requires { ⌜ k < length (tablesOf (now file) .levels) ⌝ }
-    requires { ⌜ (f ≡ frameOf at (levelOf (tablesOf (now file)) l)) × (f .end ≤ planLimit) ⌝ }
-    ensures { λ r. ⌜ ((e : Memory.Ends) (t : Memory.Target) → stateWith r newLevel measuring (now (work .exit)) (now (plan .exit)) ≡ unleveled (Kept.rewritten (tablesOf (now (file .entry))) (levelAt (tablesOf (now (file .entry))) k) (endsOf ends) at (state false e (levelOf (tablesOf (now (file .entry))) l) t (now (work .entry)) (now (plan .entry))))) ⌝ }
+    requires { ⌜ (f ≡ frameOf at (levelOf (tablesOf (now file)) (m .level))) × (f .end ≤ planLimit) ⌝ }
+    ensures { λ r. ⌜ stateWith r newLevel measuring (now (work .exit)) (now (plan .exit)) ≡ unleveled (Kept.rewritten (tablesOf (now (file .entry))) (levelAt (tablesOf (now (file .entry))) k) (endsOf ends) at (walkState (tablesOf (now (file .entry))) m (now (work .entry)) (now (plan .entry)))) ⌝ }
 {
+    let l = m.level;
+    let lists = m.lists;
     put_frame(file, index, plan, at, f, l);
-    let w = begun(false, ends, writing(f, l));
+    if bare(l) {
+        return lists;
+    }
+    let w = begun(lists.over, ends, writing(f, l));
     let r = walked(file, index, work, plan, k, w);
     r.lists
 }
@@ -136,7 +152,7 @@ fn measured(
     if end > plan.len() {
         return stopped(at, lists);
     }
-    let left = rewritten(file, index, work, plan, k, at, f, l, ends);
+    let left = rewritten(file, index, work, plan, k, at, f, m, ends);
     Written {
         at: end,
         lists: left,

@@ -1,12 +1,12 @@
 -- One level in the memory, measured and then written: it stands in the plan as the written rules have it, or the rules' plan is really too long.
 use mathlib.Core.Bool.{true, false}
-use mathlib.Core.List.{List, [], _++_}
+use mathlib.Core.List.{List, [], _∷_, _++_}
 use mathlib.Core.Path.{_≡_, refl, sym, ap, _∙_, subst}
 use Prim.Native.Nat.{ℕ, _+_, _<_, min}
 use native.Mathlib.Nat.{zero-add}
 use native.Mathlib.Omega.{arith}
-use borrow.Author.Tests.{leb-false}
-use lib.Dec.{leb}
+use borrow.Author.Tests.{leb-false, eqb-true}
+use lib.Dec.{leb, eqb}
 use lib.ListN.{length, length-append}
 use lib.Seq.{sets, length-sets}
 use Rattle.rules.specs.Base.{Each, done, all, concatMap}
@@ -18,20 +18,20 @@ use Rattle.rules.specs.Placement.{SeekBuilder, new, placeAll}
 use Rattle.rules.specs.Levels as Rules
 use Rattle.rules.specs.Plan as Plan
 use Rattle.rules.specs.Demand3.{Adds, number}
-use Rattle.rules.proofs.Cases.{by-test, true≢false}
+use Rattle.rules.proofs.Cases.{by-test, true≢false, both-left, both-right}
 use Rattle.rules.proofs.Alone.{walk-keeps}
 use Rattle.rules.proofs.Lists.{AddsTo, adds-keeps}
 use Rattle.rules.proofs.Numbers.{Bounded}
 use Rattle.rules.proofs.Runs.{goes-key}
 use Rattle.rules.proofs.Sound.{BindingOk, Sound}
-use Rattle.state.specs.State.{Ends, Target, State, state, newLevel, measuring, stop}
+use Rattle.state.specs.State.{Ends, Target, State, newLevel, measuring, stop}
 use Rattle.state.specs.Ops.{ops}
-use Rattle.state.specs.Levels.{levelEnd, frame, Written, written, begin, walked, rewritten, measured, level}
+use Rattle.state.specs.Levels.{levelEnd, frame, bare, framed, Written, written, begin, walked, rewritten, measured, level}
 use Rattle.state.proofs.Seqs.{sets-append}
 use Rattle.state.proofs.Mem.{Mem, mem-back}
 use Rattle.state.proofs.Sizes.{summary, weight, Sane}
 use Rattle.state.proofs.Growth.{built, met, listSize, Grew, grew-keeps}
-use Rattle.state.proofs.Rel.{planAs, Good, Rel, of-good}
+use Rattle.state.proofs.Rel.{formAs, planAs, Good, Rel, of-good}
 use Rattle.state.proofs.Sim.{PathWithin, Name, numbers, simulates}
 use Rattle.state.proofs.Frame.{leveled, writeAt, level-written, level-end, level-weight}
 
@@ -64,6 +64,20 @@ rel-begin T t l e s o m = of-good T t (s .plan) l 0 new (begin e t s) o sane-new
 unmeasured : (base : List ℕ) (b : SeekBuilder) → planAs measuring base b ≡ base
 unfolding measuring planAs
 unmeasured base b = refl
+
+none-of : {A : Type 0} (xs : List A) → eqb (length xs) 0 ≡ true → xs ≡ []
+none-of [] e = refl
+none-of (x ∷ xs) e = absurd (omega (arith, eqb-true (length (x ∷ xs)) 0 e))
+
+-- what has no parts and no residuals writes nothing
+bare-plan : (t : Target) (base : List ℕ) (n : ℕ) (b : SeekBuilder) → bare (summary n b) ≡ true → base ≡ planAs t base b
+unfolding bare summary planAs concatMap
+bare-plan t base n b e =
+    let parts = none-of (b .parts) (both-left (eqb (length (b .parts)) 0) (eqb (length (b .residuals)) 0) e) in
+    let rest = none-of (b .residuals) (both-right (eqb (length (b .parts)) 0) (eqb (length (b .residuals)) 0) e) in
+    by-test (λ (p : List ℕ). base ≡ p) (t .writing)
+    (λ _. sym (λ i. sets (sets base (t .partsAt) (concatMap (formAs (t .joining)) (parts i))) (t .restAt) (concatMap Plan.residual (rest i))))
+    (λ _. refl)
 
 -- Between levels: the lists in the work area, and the plan written up to `front`.
 pub record Between (T : Tables) (base : List ℕ) (l : Lists) (front : List ℕ) (w : Written) : Type 0 where
@@ -106,34 +120,37 @@ module _ (T : Tables) (S : Sound T) (bounded : Bounded T) where
     adds = walk-keeps T S AddsTo (adds-keeps T) entry (ok .predicate) l fit .0
 
     -- measured, and then written
-    ends-rewritten : (e : Ends) (at : ℕ) (work : List ℕ) (m : State) → at ≡ length front → Mem T l e work → m .over ≡ false → Good T measuring (sets base 0 front) (W .lists) (met W) (built T W) m → Ends′ (written (levelEnd at (m .level)) (rewritten T entry e at m))
-    unfolding rewritten
-    ends-rewritten e at work m eat mem o g =
-        record {
-          live = λ q.
-              let h = again .live q in
-              record {
-                mem = h .mem;
-                at = omega (arith, eat, ap (levelEnd at) (g .level), level-end at (met W) (built T W), length-append front bytes);
-                plan = h .plan
-                    ∙ (λ i. planAs (writeAt at (g .level i)) (frame at (g .level i) (measured-plan i)) (built T W))
-                    ∙ level-written (sets base 0 front) at (met W) (built T W)
-                    ∙ ap (λ (k : ℕ). sets (sets base 0 front) k bytes) (eat ∙ sym (zero-add (length front)))
-                    ∙ sym (sets-append base 0 front bytes);
-              };
-          dead = λ q. too-long (again .dead q);
-        }
-      where
-        framed : State
-        framed = state (m .over) (m .ends) (m .level) (m .target) (m .work) (frame at (m .level) (m .plan))
+    module _ (e : Ends) (at : ℕ) (work : List ℕ) (m : State) (eat : at ≡ length front) (mem : Mem T l e work) (o : m .over ≡ false) (g : Good T measuring (sets base 0 front) (W .lists) (met W) (built T W) m) where
+      ends-at : levelEnd at (m .level) ≡ length (front ++ bytes)
+      ends-at = omega (arith, eat, ap (levelEnd at) (g .level), level-end at (met W) (built T W), length-append front bytes)
 
-        again : Rel T (writeAt at (m .level)) (frame at (m .level) (m .plan)) W (walked T entry (begin e (writeAt at (m .level)) framed))
-        again =
-            walk-related entry ok (writeAt at (m .level)) (frame at (m .level) (m .plan)) l fit (begin e (writeAt at (m .level)) framed)
-            (rel-begin T (writeAt at (m .level)) l e framed o (mem-back T l (W .lists) e (m .ends) work (m .work) mem (g .mem) adds))
+      whole-plan : planAs (writeAt at (m .level)) (frame at (m .level) (m .plan)) (built T W) ≡ sets base 0 (front ++ bytes)
+      whole-plan =
+          (λ i. planAs (writeAt at (g .level i)) (frame at (g .level i) ((g .plan ∙ unmeasured (sets base 0 front) (built T W)) i)) (built T W))
+          ∙ level-written (sets base 0 front) at (met W) (built T W)
+          ∙ ap (λ (k : ℕ). sets (sets base 0 front) k bytes) (eat ∙ sym (zero-add (length front)))
+          ∙ sym (sets-append base 0 front bytes)
 
-        measured-plan : m .plan ≡ sets base 0 front
-        measured-plan = g .plan ∙ unmeasured (sets base 0 front) (built T W)
+      -- a bare level: its frame is all of it, and the lists stand
+      ends-framed : bare (m .level) ≡ true → Ends′ (written (levelEnd at (m .level)) (framed at m))
+      unfolding framed
+      ends-framed q =
+          record {
+            live = λ _. record { mem = g .mem; at = ends-at; plan = bare-plan (writeAt at (m .level)) (frame at (m .level) (m .plan)) (met W) (built T W) (ap bare (sym (g .level)) ∙ q) ∙ whole-plan };
+            dead = λ p. absurd (true≢false (sym p ∙ o));
+          }
+
+      again : Rel T (writeAt at (m .level)) (frame at (m .level) (m .plan)) W (walked T entry (begin e (writeAt at (m .level)) (framed at m)))
+      unfolding framed
+      again =
+          walk-related entry ok (writeAt at (m .level)) (frame at (m .level) (m .plan)) l fit (begin e (writeAt at (m .level)) (framed at m))
+          (rel-begin T (writeAt at (m .level)) l e (framed at m) o (mem-back T l (W .lists) e (m .ends) work (m .work) mem (g .mem) adds))
+
+      ends-rewritten : Ends′ (written (levelEnd at (m .level)) (rewritten T entry e at m))
+      unfolding rewritten
+      ends-rewritten =
+          by-test (λ (s : State). Ends′ (written (levelEnd at (m .level)) s)) (bare (m .level)) ends-framed
+          (λ _. record { live = λ q. record { mem = again .live q .mem; at = ends-at; plan = again .live q .plan ∙ whole-plan }; dead = λ q. too-long (again .dead q) })
 
     ends-measured : (e : Ends) (at : ℕ) (work : List ℕ) (m : State) → at ≡ length front → Mem T l e work → Rel T measuring (sets base 0 front) W m → Ends′ (measured T entry e at m)
     unfolding measured stop

@@ -4,8 +4,9 @@ use mathlib.Core.List.{List, [], _∷_, _++_}
 use mathlib.Core.Option.{Option, none, some}
 use Prim.Native.Nat.{ℕ, _+_, _*_, _-_, _/_, min}
 use lib.ListN.{length, take}
-use lib.Dec.{leb}
+use lib.Dec.{leb, eqb}
 use lib.Seq.{sets, slice}
+use Rattle.rules.specs.Base.{both}
 use Rattle.rules.specs.Limits.{planLimit}
 use Rattle.rules.specs.File.{Tables, LevelEntry, predicateAt}
 use Rattle.rules.specs.Walk.{key}
@@ -89,11 +90,20 @@ walked T l s = key (ops T) T (l .address) (l .node) (predicateAt T (l .predicate
 unfoldable pub frame : ℕ → Level → List ℕ → List ℕ
 frame at l plan = sets (sets (sets plan at (head l)) (middleAt at l) (middle l)) (tailAt at l) (tail l)
 
--- measured, it is walked once more from the lists as they were, and written
+-- whether a level has neither parts nor residuals: then its frame is all of its bytes
+unfoldable pub bare : Level → Bool
+bare l = both (eqb (l .counts .parts) 0) (eqb (l .counts .residuals) 0)
+
+-- the measured state, with the level's frame in the plan
+unfoldable pub framed : ℕ → State → State
+framed at m = state (m .over) (m .ends) (m .level) (m .target) (m .work) (frame at (m .level) (m .plan))
+
+-- Measured, it is walked once more from the lists as they were, and written. A bare one has nothing more to write, and its lists are made already: it
+-- is not walked again.
 unfoldable pub rewritten : Tables → LevelEntry → Ends → ℕ → State → State
 rewritten T l e at m =
     let target : Target = record { writing = true; joining = joining (m .level); partsAt = partsAt at (m .level); restAt = restAt at (m .level) } in
-    walked T l (begin e target (state (m .over) (m .ends) (m .level) (m .target) (m .work) (frame at (m .level) (m .plan))))
+    elim (bare (m .level)) [ true ↦ framed at m | false ↦ walked T l (begin e target (framed at m)) ]
 
 unfoldable pub measured : Tables → LevelEntry → Ends → ℕ → State → Written
 measured T l e at m =
@@ -143,5 +153,5 @@ unfoldable pub outcomeOf : Written → Outcome
 outcomeOf w = elim (w .state .over) [ true ↦ Outcome.refused 15 | false ↦ Outcome.planned (take (w .at) (w .state .plan)) ]
 
 unfoldable pub openLevels : Unit {0}
-unfolding seekNumber seekOf joins joining head between middle tail partsAt middleAt restAt tailAt levelEnd begin walked frame rewritten measured level levels lists finished started compiled outcomeOf
+unfolding seekNumber seekOf joins joining head between middle tail partsAt middleAt restAt tailAt levelEnd begin walked frame bare framed rewritten measured level levels lists finished started compiled outcomeOf
 openLevels = tt
