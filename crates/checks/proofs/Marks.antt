@@ -1,22 +1,22 @@
 -- 12: marks, one after another, tell whether all children differ.
 use Prim.Native.Nat.{ℕ, zero, suc, _+_, _*_, _-_, _≤_, _<_}
 use mathlib.Core.Path.{_≡_, refl, sym, ap, ap₂, _∙_, subst}
-use mathlib.Core.Bool.{Bool, true, false, not}
+use mathlib.Core.Bool.{Bool, true, false}
 use mathlib.Core.List.{List, [], _∷_, _++_, map}
-use mathlib.Core.Option.{Option, none, some}
 use mathlib.Core.Logic.{⊎-elim, _⊎_, inl, inr}
 use native.Mathlib.Omega.{arith}
 use native.Mathlib.Numerals.{add-one}
 use lib.Dec.{ltb, eqb}
-use lib.ListN.{length, getD, set, drop, replicate, length-set, drop-of-length-le, length-replicate, getD-replicate, List·getD-eq-default}
-use lib.Seq.{getD-set-same, getD-set-other, drop-cons}
+use lib.ListN.{length, getD, set, drop, replicate, length-set, drop-of-length-le, length-replicate}
+use lib.Seq.{drop-cons}
 use borrow.Author.Tests.{ltb-true, lt-ltb, eq-eqb, ne-eqb, eqb-true, eqb-false}
-use Rattle.rules.specs.Base.{both, all, first, distinct, concatMap}
+use Rattle.rules.specs.Base.{both, all, concatMap}
 use Rattle.rules.specs.File.{Tables, Node, nodeAt, childNodes}
 use Rattle.rules.specs.Checks.{childrenLower, childrenOnce}
-use Rattle.file.proofs.Readers.{lt-or-le, down}
+use Rattle.file.proofs.Readers.{down}
 use Rattle.views.specs.Views.{run}
-use Rattle.numbers.proofs.Every.{if-both, both-inv, both-true}
+use Rattle.numbers.proofs.Every.{if-both, both-inv}
+use Rattle.numbers.proofs.Marks.{fresh, fresh-none, fresh-more, fresh-stop, fresh-zeros}
 use Rattle.checks.specs.Checked.{once, marked}
 use Rattle.checks.proofs.Bottom.{node-lower}
 
@@ -138,91 +138,15 @@ length-marked (c ∷ l) m =
     (zero-or-not (getD m c 0))
 
 -- marks tell what `distinct` tells
-absent : ℕ → List ℕ → Bool
-absent c l = elim (first (eqb c) l) [ none ↦ true | some y ↦ false ]
-
-distinct-cons : (c : ℕ) (l : List ℕ) → distinct (c ∷ l) ≡ both (absent c l) (distinct l)
-unfolding distinct absent
-distinct-cons c l = go (first (eqb c) l)
-  where
-    go : (o : Option ℕ) → _≡_ {A = Bool} (elim o as (λ _. Bool) [ none ↦ distinct l | some y ↦ false ]) (both (elim o as (λ _. Bool) [ none ↦ true | some y ↦ false ]) (distinct l))
-    go none = refl
-    go (some y) = refl
-
-absent-cons : (c d : ℕ) (l : List ℕ) → absent c (d ∷ l) ≡ elim (eqb c d) as (λ _. Bool) [ true ↦ false | false ↦ absent c l ]
-unfolding absent first
-absent-cons c d l = go (eqb c d)
-  where
-    go : (b : Bool) → _≡_ {A = Bool} (elim (elim b as (λ _. Option ℕ) [ true ↦ some d | false ↦ first (eqb c) l ]) as (λ _. Bool) [ none ↦ true | some y ↦ false ]) (elim b as (λ _. Bool) [ true ↦ false | false ↦ elim (first (eqb c) l) as (λ _. Bool) [ none ↦ true | some y ↦ false ] ])
-    go true = refl
-    go false = refl
-
-abbrev clear : List ℕ → List ℕ → Bool
-clear m l = all (λ d. eqb (getD m d 0) 0) l
-
-clear-cons : (m : List ℕ) (d : ℕ) (l : List ℕ) → clear m (d ∷ l) ≡ both (eqb (getD m d 0) 0) (clear m l)
+once-is : (l m : List ℕ) → all (λ c. ltb c (length m)) l ≡ true → once m l ≡ fresh m l
 unfolding all
-clear-cons m d l = if-both (eqb (getD m d 0) 0) (clear m l)
-
-clear-set : (m : List ℕ) (c : ℕ) → c < length m → (l : List ℕ) → clear (set m c 1) l ≡ both (absent c l) (clear m l)
-unfolding all absent first
-clear-set m c h [] = refl
-clear-set m c h (d ∷ l) = go (eqb c d) refl (clear-set m c h l)
-  where
-    go : (b : Bool) → eqb c d ≡ b → clear (set m c 1) l ≡ both (absent c l) (clear m l) → clear (set m c 1) (d ∷ l) ≡ both (absent c (d ∷ l)) (clear m (d ∷ l))
-    go true e rec =
-        let z : eqb (getD (set m c 1) d 0) 0 ≡ false = ap (λ (k : ℕ). eqb (getD (set m c 1) k 0) 0) (sym (eqb-true c d e)) ∙ ap (λ (k : ℕ). eqb k 0) (getD-set-same m c 1 0 h) in
-        clear-cons (set m c 1) d l ∙ ap (λ (b : Bool). both b (clear (set m c 1) l)) z
-        ∙ sym (ap (λ (b : Bool). both b (clear m (d ∷ l))) (absent-cons c d l ∙ ap (λ (b : Bool). elim b as (λ _. Bool) [ true ↦ false | false ↦ absent c l ]) e))
-    go false e rec =
-        let ne : d ≡ c → ⊥ = λ z. eqb-false c d e (sym z) in
-        let z : eqb (getD (set m c 1) d 0) 0 ≡ eqb (getD m d 0) 0 = ap (λ (k : ℕ). eqb k 0) (getD-set-other m c d 1 0 ne) in
-        clear-cons (set m c 1) d l ∙ ap₂ both z rec ∙ turn (eqb (getD m d 0) 0) (absent c l) (clear m l)
-        ∙ ap (both (absent c l)) (sym (clear-cons m d l)) ∙ ap (λ (b : Bool). both b (clear m (d ∷ l))) (sym (absent-cons c d l ∙ ap (λ (b : Bool). elim b as (λ _. Bool) [ true ↦ false | false ↦ absent c l ]) e))
-      where
-        turn : (x y w : Bool) → both x (both y w) ≡ both y (both x w)
-        turn true y w = refl
-        turn false true w = refl
-        turn false false w = refl
-
-shuffle : (z d n a : Bool) → both z (both d (both n a)) ≡ both (both n d) (both z a)
-shuffle true true true a = refl
-shuffle true true false a = refl
-shuffle true false true a = refl
-shuffle true false false a = refl
-shuffle false true true a = refl
-shuffle false true false a = refl
-shuffle false false true a = refl
-shuffle false false false a = refl
-
-once-both : (m : List ℕ) (c : ℕ) (l : List ℕ) → once m (c ∷ l) ≡ both (eqb (getD m c 0) 0) (once (set m c 1) l)
-unfolding once
-once-both m c l = if-both (eqb (getD m c 0) 0) (once (set m c 1) l)
-
-distinct-none : distinct [] ≡ true
-unfolding distinct
-distinct-none = refl
-
-once-is : (l m : List ℕ) → all (λ c. ltb c (length m)) l ≡ true → once m l ≡ both (distinct l) (clear m l)
-unfolding all
-once-is [] m e = once-none m ∙ sym (ap (λ (b : Bool). both b true) distinct-none)
+once-is [] m e = once-none m ∙ sym (fresh-none m)
 once-is (c ∷ l) m e =
     let b = both-inv (ltb c (length m)) (all (λ k. ltb k (length m)) l) (sym (if-both (ltb c (length m)) (all (λ k. ltb k (length m)) l)) ∙ e) in
     let h : c < length m = ltb-true c (length m) (b .0) in
     let r : all (λ k. ltb k (length (set m c 1))) l ≡ true = ap (λ (n : ℕ). all (λ k. ltb k n) l) (length-set m c 1) ∙ b .1 in
-    once-both m c l ∙ ap (both (eqb (getD m c 0) 0)) (once-is l (set m c 1) r ∙ ap (both (distinct l)) (clear-set m c h l))
-    ∙ shuffle (eqb (getD m c 0) 0) (distinct l) (absent c l) (clear m l)
-    ∙ ap₂ both (sym (distinct-cons c l)) (sym (clear-cons m c l))
-
--- no mark at the start
-clear-zeros : (n : ℕ) (l : List ℕ) → clear (replicate {A = ℕ} n 0) l ≡ true
-unfolding all
-clear-zeros n [] = refl
-clear-zeros n (c ∷ l) =
-    if-both (eqb (getD (replicate {A = ℕ} n 0) c 0) 0) (clear (replicate {A = ℕ} n 0) l) ∙ ap₂ both (eq-eqb _ _ zero-there) (clear-zeros n l)
-  where
-    zero-there : getD (replicate {A = ℕ} n 0) c 0 ≡ 0
-    zero-there = ⊎-elim (λ h. getD-replicate n c 0 0 h) (λ h. List·getD-eq-default (replicate {A = ℕ} n 0) 0 (omega (arith, length-replicate {A = ℕ} n 0))) (lt-or-le c n)
+    ⊎-elim (λ z. let k = eqb-true (getD m c 0) 0 z in first-met m c l k .0 ∙ once-is l (set m c 1) r ∙ sym (fresh-more m c l h k))
+    (λ z. let k = eqb-false (getD m c 0) 0 z in met-again m c l k .0 ∙ sym (fresh-stop m c l k)) (zero-or-not (getD m c 0))
 
 -- 9 keeps all children below the marks
 all-append : (p : ℕ → Bool) (xs ys : List ℕ) → all p xs ≡ true → all p ys ≡ true → all p (xs ++ ys) ≡ true
@@ -256,4 +180,4 @@ module _ (T : Tables) (lower : childrenLower T ≡ true) where
   marks-tell size g =
       let l : List ℕ = concatMap childNodes (T .nodes) in
       let e : all (λ c. ltb c (length (replicate {A = ℕ} size 0))) l ≡ true = ap (λ (n : ℕ). all (λ c. ltb c n) l) (length-replicate {A = ℕ} size 0) ∙ all-children size (length (T .nodes)) 0 (omega arith) g in
-      once-is l (replicate {A = ℕ} size 0) e ∙ ap (both (distinct l)) (clear-zeros size l) ∙ both-true (distinct l)
+      once-is l (replicate {A = ℕ} size 0) e ∙ sym (fresh-zeros size l)

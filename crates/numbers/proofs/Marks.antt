@@ -80,11 +80,11 @@ pub fresh-zeros : (n : ℕ) (l : List ℕ) → distinct l ≡ fresh (replicate {
 unfolding fresh
 fresh-zeros n l = sym (ap (both (distinct l)) (clear-zeros n l) ∙ both-true (distinct l))
 
-fresh-none : (m : List ℕ) → fresh m [] ≡ true
+pub fresh-none : (m : List ℕ) → fresh m [] ≡ true
 unfolding fresh distinct all
 fresh-none m = refl
 
-fresh-more : (m : List ℕ) (c : ℕ) (l : List ℕ) → c < length m → getD m c 0 ≡ 0 → fresh m (c ∷ l) ≡ fresh (set m c 1) l
+pub fresh-more : (m : List ℕ) (c : ℕ) (l : List ℕ) → c < length m → getD m c 0 ≡ 0 → fresh m (c ∷ l) ≡ fresh (set m c 1) l
 unfolding fresh
 fresh-more m c l h e =
     ap₂ both (distinct-cons c l) (clear-cons m c l ∙ ap (λ (b : Bool). both b (clear m l)) (eq-eqb _ _ e))
@@ -95,7 +95,7 @@ fresh-more m c l h e =
     turn false true k = refl
     turn false false k = refl
 
-fresh-stop : (m : List ℕ) (c : ℕ) (l : List ℕ) → (getD m c 0 ≡ 0 → ⊥) → fresh m (c ∷ l) ≡ false
+pub fresh-stop : (m : List ℕ) (c : ℕ) (l : List ℕ) → (getD m c 0 ≡ 0 → ⊥) → fresh m (c ∷ l) ≡ false
 unfolding fresh
 fresh-stop m c l h = both-no (distinct (c ∷ l)) (clear m (c ∷ l)) (clear-cons m c l ∙ ap (λ (b : Bool). both b (clear m l)) (ne-eqb _ _ h))
 
