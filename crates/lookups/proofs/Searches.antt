@@ -154,12 +154,8 @@ module _ (T : Tables) (x : ℕ) where
   look-end k l h = let e : k ≡ 0 = omega arith in sym (l .same ∙ ap (λ (j : ℕ). lookup (take j (T .bindings)) x) e)
 
 -- the binding that was come to, as its view has it
-pub look-slot : (f : List ℕ) (x k : ℕ) → Looking (tablesOf f) x k → (v : BindingView) → 0 < k → SeenBinding f (bindingAt (tablesOf f) (k - 1)) v → v .name ≡ x → SeenSlot f (lookup (tablesOf f .bindings) x) (Ms.Just (v .slot))
-look-slot f x k l v h s e =
-    record {
-      is = ap (λ (b : Binding). some (b .slot)) (s .is) ∙ look-hit (tablesOf f) x k l h (sym (ap (λ (b : Binding). b .name) (s .is)) ∙ e);
-      inside = s .inside;
-    }
+pub look-slot : (f : List ℕ) (x k : ℕ) → Looking (tablesOf f) x k → (v : BindingView) → 0 < k → SeenBinding f (bindingAt (tablesOf f) (k - 1)) v → bindingAt (tablesOf f) (k - 1) .name ≡ x → SeenSlot f (lookup (tablesOf f .bindings) x) (Ms.Just (v .slot))
+look-slot f x k l v h s e = record { is = ap (λ (b : Binding). some (b .slot)) (s .is) ∙ look-hit (tablesOf f) x k l h e; inside = s .inside }
 
 -- the Const of the slot that was found
 module _ (f : List ℕ) (o : Option Slot) (r : MaybeSlot) (s : SeenSlot f o r) where

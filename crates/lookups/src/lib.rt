@@ -6,11 +6,13 @@ ghost use Rattle.rules.specs.File.{typeAt, nodeAt, varName, recordFields, recor
 ghost use Rattle.rules.specs.Constant as Constant;
 ghost use Rattle.rules.specs.Constant.{fieldPattern, standsFor};
 ghost use Rattle.file.specs.Tables.{Indexed, tablesOf};
-ghost use Rattle.views.specs.Views.{run, fieldAt, alternativeAt, patternAt};
+ghost use Rattle.views.specs.Views.{run, fieldAt, alternativeAt, patternAt, bindingAt};
 ghost use Rattle.ready.specs.Ready.{Ready};
 ghost use Rattle.lookups.specs.Lookups.{constBound, foundOption, alternativeOption, SeenRun, SeenSlot};
 use file::CONSTANTS;
+use file::base;
 use file::wide16;
+use file::word_at;
 use views::Alternative;
 use views::NodeView;
 use views::SlotView;
@@ -138,6 +140,15 @@ pub fn alternative_of(file: &[u8], at: usize, n: usize, name: usize) -> MaybeAlt
     MaybeAlternative::Nothing
 }
 
+// A binding's name alone: the search below reads the slot of no other binding than the one it finds.
+fn binding_name(file: &[u8], index: &[u16], k: usize) -> usize
+    requires { ⌜ Indexed (now file) (now index) ⌝ }
+    requires { ⌜ k < length (tablesOf (now file) .bindings) ⌝ }
+    ensures { λ r. ⌜ r ≡ bindingAt (tablesOf (now (file .entry))) k .name ⌝ }
+{
+    word_at(file, wide16(index[base(4) + 1 + k]))
+}
+
 // The slot of a name's last entry among the file's own bindings.
 pub fn lookup(file: &[u8], index: &[u16], name: usize) -> MaybeSlot
     requires { ⌜ Indexed (now file) (now index) ⌝ }
@@ -146,8 +157,8 @@ pub fn lookup(file: &[u8], index: &[u16], name: usize) -> MaybeSlot
     let mut k = count_of(file, index, 4);
     while k > 0 {
         k -= 1;
-        let b = binding_at(file, index, k);
-        if b.name == name {
+        if binding_name(file, index, k) == name {
+            let b = binding_at(file, index, k);
             let s = b.slot;
             return MaybeSlot::Just(s);
         }
