@@ -23,11 +23,11 @@ use Rattle.views.specs.Views as Views
 use Rattle.views.specs.Views.{run, patternAt, alternativeAt, patternOf}
 use Rattle.views.specs.declared.FieldPattern as Code
 use Rattle.views.specs.declared.Alternative as Found
-use Rattle.lookups.specs.Lookups.{SeenRun, alternativeOption}
-use Rattle.lookups.specs.declared.MaybeAlternative.{MaybeAlternative}
-use Rattle.lookups.specs.declared.MaybeAlternative.the-variants as Ma
-use Rattle.lookups.specs.declared.Run.{Run}
-use Rattle.lookups.specs.declared.Run.the-variants as Ru
+use Rattle.tables.specs.Tables.{SeenRun, alternativeOption}
+use Rattle.tables.specs.declared.MaybeAlternative.{MaybeAlternative}
+use Rattle.tables.specs.declared.MaybeAlternative.the-variants as Ma
+use Rattle.tables.specs.declared.Run.{Run}
+use Rattle.tables.specs.declared.Run.the-variants as Ru
 use Rattle.step.specs.Step.{walkState}
 use Rattle.step.specs.declared.Walk.{Walk}
 use Rattle.constrain.specs.Constrain.{orElse, Narrows}

@@ -16,11 +16,11 @@ use Rattle.views.specs.Views.{run, fieldAt, patternAt, fieldOf}
 use Rattle.views.specs.declared.FieldTy.{FieldTy}
 use Rattle.views.proofs.Runs.{run-at, length-run}
 use Rattle.slots.specs.Slots.{maybe}
-use Rattle.lookups.specs.Lookups.{SeenRun, foundOption}
-use Rattle.lookups.specs.declared.Found.{Found}
-use Rattle.lookups.specs.declared.Found.the-variants as Fo
-use Rattle.lookups.specs.declared.Run.{Run}
-use Rattle.lookups.specs.declared.Run.the-variants as Ru
+use Rattle.tables.specs.Tables.{SeenRun, foundOption}
+use Rattle.tables.specs.declared.Found.{Found}
+use Rattle.tables.specs.declared.Found.the-variants as Fo
+use Rattle.tables.specs.declared.Run.{Run}
+use Rattle.tables.specs.declared.Run.the-variants as Ru
 use Rattle.begin.specs.Pieces.{Lower, patternsOf, openFields, fieldsFor, noField, Pieced}
 use Rattle.begin.specs.declared.Piece.{Piece}
 

@@ -22,9 +22,9 @@ use Rattle.views.specs.declared.NodeView.the-variants as Nv
 use Rattle.views.proofs.NodeView as NodeViews
 use Rattle.slots.specs.Slots.{slotOf, maybe}
 use Rattle.slots.specs.declared.Slot.{Slot}
-use Rattle.lookups.specs.Lookups.{SeenRun}
-use Rattle.lookups.specs.declared.Run.{Run}
-use Rattle.lookups.specs.declared.Run.the-variants as Ru
+use Rattle.tables.specs.Tables.{SeenRun}
+use Rattle.tables.specs.declared.Run.{Run}
+use Rattle.tables.specs.declared.Run.the-variants as Ru
 use Rattle.lists.specs.Lists.{stateWith}
 use Rattle.resolve.specs.Resolved.{given, Answers}
 use Rattle.resolve.specs.declared.Answer.{Answer}

@@ -23,9 +23,9 @@ use Rattle.views.proofs.NodeView as NodeViews
 use Rattle.slots.specs.Slots.{slotOf, slotOption, maybe}
 use Rattle.slots.specs.declared.Slot.{Slot}
 use Rattle.slots.specs.declared.MaybeSlot.{MaybeSlot}
-use Rattle.lookups.specs.Lookups.{SeenRun}
-use Rattle.lookups.specs.declared.Run.{Run}
-use Rattle.lookups.specs.declared.Run.the-variants as Ru
+use Rattle.tables.specs.Tables.{SeenRun}
+use Rattle.tables.specs.declared.Run.{Run}
+use Rattle.tables.specs.declared.Run.the-variants as Ru
 use Rattle.lists.specs.Lists.{stateWith}
 use Rattle.step.specs.Step.{walkState}
 use Rattle.step.specs.declared.Walk.{Walk}

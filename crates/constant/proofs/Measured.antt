@@ -24,11 +24,11 @@ use Rattle.views.specs.declared.TypeView.the-variants as Tv
 use Rattle.views.proofs.TypeView as TypeViews
 use Rattle.views.proofs.Runs.{run-at, length-run}
 use Rattle.ready.specs.Ready.{rank, PatternOk}
-use Rattle.lookups.specs.Lookups.{foundOption, alternativeOption}
-use Rattle.lookups.specs.declared.Found.{Found}
-use Rattle.lookups.specs.declared.Found.the-variants as Fo
-use Rattle.lookups.specs.declared.MaybeAlternative.{MaybeAlternative}
-use Rattle.lookups.specs.declared.MaybeAlternative.the-variants as Ma
+use Rattle.tables.specs.Tables.{foundOption, alternativeOption}
+use Rattle.tables.specs.declared.Found.{Found}
+use Rattle.tables.specs.declared.Found.the-variants as Fo
+use Rattle.tables.specs.declared.MaybeAlternative.{MaybeAlternative}
+use Rattle.tables.specs.declared.MaybeAlternative.the-variants as Ma
 use Rattle.constant.specs.Sizes.{cap, sizeWith, Small, viewOf, constView, sizeOf, wrapped, fieldBytes, payloadBytes, Patterns, Fields, Alternatives}
 use Rattle.constant.specs.declared.Const.{Const}
 use Rattle.constant.specs.declared.Const.the-variants as Co

@@ -14,7 +14,7 @@ use Rattle.rules.proofs.Cases.{true≢false}
 use Rattle.rules.proofs.Sound.{Sound}
 use Rattle.state.specs.State.{State}
 use Rattle.state.specs.Ops.{ops, narrow, report, skip}
-use Rattle.lookups.proofs.Searches.{stands-self}
+use Rattle.tables.proofs.Searches.{stands-self}
 use Rattle.ready.proofs.Constants.{constant-is}
 use Rattle.constant.specs.Sizes.{viewOf, constView}
 use Rattle.constant.specs.declared.Const.{Const}

@@ -28,9 +28,9 @@ use Rattle.views.specs.declared.Constraint as Views
 use Rattle.views.specs.declared.NodeView.{NodeView}
 use Rattle.views.specs.declared.NodeView.the-variants as Nv
 use Rattle.views.proofs.NodeView as NodeViews
-use Rattle.lookups.specs.Lookups.{foundOption}
-use Rattle.lookups.specs.declared.Found.{Found}
-use Rattle.lookups.specs.declared.Found.the-variants as Fo
+use Rattle.tables.specs.Tables.{foundOption}
+use Rattle.tables.specs.declared.Found.{Found}
+use Rattle.tables.specs.declared.Found.the-variants as Fo
 use Rattle.constrain.specs.Constrain.{mistyped, narrowOr, patternFor, isConstrained}
 
 -- A node's rank.

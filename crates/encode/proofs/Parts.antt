@@ -23,11 +23,11 @@ use Rattle.views.specs.declared.TypeView.{TypeView}
 use Rattle.views.specs.declared.TypeView.the-variants as Tv
 use Rattle.views.proofs.NodeView as NodeViews
 use Rattle.views.proofs.TypeView as TypeViews
-use Rattle.lookups.specs.Lookups.{foundOption, alternativeOption}
-use Rattle.lookups.specs.declared.Found.{Found}
-use Rattle.lookups.specs.declared.Found.the-variants as Fo
-use Rattle.lookups.specs.declared.MaybeAlternative.{MaybeAlternative}
-use Rattle.lookups.specs.declared.MaybeAlternative.the-variants as Ma
+use Rattle.tables.specs.Tables.{foundOption, alternativeOption}
+use Rattle.tables.specs.declared.Found.{Found}
+use Rattle.tables.specs.declared.Found.the-variants as Fo
+use Rattle.tables.specs.declared.MaybeAlternative.{MaybeAlternative}
+use Rattle.tables.specs.declared.MaybeAlternative.the-variants as Ma
 use Rattle.constant.specs.Sizes.{fieldBytes}
 use Rattle.constant.proofs.Measured.{fieldsFrom, fields-start, fields-more, fields-end, neither}
 use Rattle.constant.proofs.Arms.{Met}

@@ -16,9 +16,9 @@ use Rattle.state.specs.State.{Level, Target, made, bindingsIn}
 use Rattle.state.specs.Ops.{fitting, ops}
 use Rattle.views.specs.Views.{slotOf, SlotInside}
 use Rattle.views.specs.declared.SlotView.{SlotView}
-use Rattle.lookups.specs.Lookups.{SeenSlot, MaybeInside}
-use Rattle.lookups.specs.declared.MaybeSlot.{MaybeSlot}
-use Rattle.lookups.specs.declared.MaybeSlot.the-variants as Ms
+use Rattle.tables.specs.Tables.{SeenSlot, MaybeInside}
+use Rattle.tables.specs.declared.MaybeSlot.{MaybeSlot}
+use Rattle.tables.specs.declared.MaybeSlot.the-variants as Ms
 use Rattle.lists.specs.Lists.{stateWith}
 use Rattle.lists.specs.declared.Lists.{Lists}
 

@@ -26,10 +26,10 @@ use Rattle.file.proofs.Sections.{word-then}
 use Rattle.views.proofs.Runs.{value-of, rest-of, needs-room}
 use Rattle.views.proofs.Entries.{kind-found}
 use Rattle.views.proofs.Slots.{BindingRead}
-use Rattle.lookups.specs.declared.Found.{Found}
-use Rattle.lookups.specs.declared.Found.the-variants as Fo
-use Rattle.lookups.specs.Lookups.{SeenSlot}
-use Rattle.lookups.specs.declared.MaybeSlot.the-variants as Ms
+use Rattle.tables.specs.declared.Found.{Found}
+use Rattle.tables.specs.declared.Found.the-variants as Fo
+use Rattle.tables.specs.Tables.{SeenSlot}
+use Rattle.tables.specs.declared.MaybeSlot.the-variants as Ms
 use Rattle.views.specs.Views.{slotOf, SlotInside}
 use Rattle.views.specs.declared.SlotView.{SlotView}
 use Rattle.lists.specs.Lists.{bindingRead, bindingAt, slotAt, slotFrom, placeOf, endOf, later, Readable, FoundReads, SeenAt, SeenView}

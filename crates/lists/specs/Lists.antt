@@ -21,8 +21,8 @@ use Rattle.state.specs.State.{Level, Target, State, state, ends}
 use Rattle.views.specs.Views.{slotOf, SlotInside}
 use Rattle.views.specs.declared.SlotView.{SlotView}
 use Rattle.views.specs.declared.SlotView.the-variants as Sv
-use Rattle.lookups.specs.declared.Found.{Found}
-use Rattle.lookups.specs.declared.Found.the-variants as Fo
+use Rattle.tables.specs.declared.Found.{Found}
+use Rattle.tables.specs.declared.Found.the-variants as Fo
 use Rattle.lists.specs.declared.Ends.{Ends}
 use Rattle.lists.specs.declared.Lists.{Lists}
 use Rattle.lists.specs.declared.Code.{Code}

@@ -24,16 +24,15 @@ ghost use Rattle.paths.specs.Paths.{pathOf};
 ghost use Rattle.views.specs.Views as Views;
 ghost use Rattle.views.specs.Views.{sizeOf, orNone, predicateOption, pathAt, PathInside, SlotInside};
 ghost use Rattle.ready.specs.Ready.{Ready};
-ghost use Rattle.lookups.specs.Lookups.{SeenSlot};
+ghost use Rattle.tables.specs.Tables.{SeenSlot};
 ghost use Rattle.slots.specs.Slots.{slotOf, slotOption};
 ghost use Rattle.records.specs.Records.{put, reach};
 ghost use Rattle.lists.specs.Lists.{stateWith, overrun, codeOf, fitsTables, isBound, placeOf, plainSizes, endOf, later, slotFrom, Readable, SeenAt, SeenView, ShortSlot};
+use fields::path_at;
 use file::DEPTHS;
 use file::wide;
 use file::wide16;
 use file::word_at;
-use lookup::path_at;
-use lookups::Found;
 use paths::Address;
 use paths::FieldPath;
 use paths::PredicateId;
@@ -48,6 +47,7 @@ use slots::Slot;
 use slots::SlotKind;
 use slots::just;
 use slots::nothing;
+use tables::Found;
 use views::MaybePredicate;
 use views::SlotView;
 use views::count_of;
@@ -416,13 +416,13 @@ fn slot_at(bytes: &[u8], at: usize) -> SlotView
 }
 
 // The slot of a name's last entry among them.
-fn made_slot(bytes: &[u8], name: usize) -> lookups::MaybeSlot
+fn made_slot(bytes: &[u8], name: usize) -> tables::MaybeSlot
     ensures { λ r. ⌜ SeenSlot (now (bytes .entry)) (Constant.lookup (bindingsIn (length (now (bytes .entry))) (now (bytes .entry))) name) r ⌝ }
 {
     if let Found::At(p) = find(bytes, name) {
-        lookups::MaybeSlot::Just(slot_at(bytes, p))
+        tables::MaybeSlot::Just(slot_at(bytes, p))
     } else {
-        lookups::MaybeSlot::Nothing
+        tables::MaybeSlot::Nothing
     }
 }
 
@@ -514,7 +514,7 @@ fn own_slot(file: &[u8], index: &[u16], name: usize) -> MaybeSlot
     requires { ⌜ Ready (now file) (now index) ⌝ }
     ensures { λ r. ⌜ slotOption r ≡ fitting (tablesOf (now (file .entry))) (Constant.lookup (tablesOf (now (file .entry)) .bindings) name) ⌝ }
 {
-    if let lookups::MaybeSlot::Just(v) = lookups::lookup(file, index, name) {
+    if let tables::MaybeSlot::Just(v) = tables::lookup(file, index, name) {
         fitted(file, index, file, v)
     } else {
         nothing()
@@ -526,7 +526,7 @@ fn own_bound(file: &[u8], index: &[u16], name: usize) -> bool
     requires { ⌜ Ready (now file) (now index) ⌝ }
     ensures { λ r. ⌜ r ≡ isBound (fitting (tablesOf (now (file .entry))) (Constant.lookup (tablesOf (now (file .entry)) .bindings) name)) ⌝ }
 {
-    if let lookups::MaybeSlot::Just(v) = lookups::lookup(file, index, name) {
+    if let tables::MaybeSlot::Just(v) = tables::lookup(file, index, name) {
         slot_fits(file, index, file, v)
     } else {
         false
@@ -552,7 +552,7 @@ pub fn lookup(file: &[u8], index: &[u16], work: &[u8], l: Lists, name: usize) ->
 {
     let end = made_end(work, l);
     let bytes = &work[..end];
-    if let lookups::MaybeSlot::Just(v) = made_slot(bytes, name) {
+    if let tables::MaybeSlot::Just(v) = made_slot(bytes, name) {
         fitted(file, index, bytes, v)
     } else {
         own_slot(file, index, name)
@@ -566,7 +566,7 @@ pub fn is_bound(file: &[u8], index: &[u16], work: &[u8], l: Lists, name: usize) 
 {
     let end = made_end(work, l);
     let bytes = &work[..end];
-    if let lookups::MaybeSlot::Just(v) = made_slot(bytes, name) {
+    if let tables::MaybeSlot::Just(v) = made_slot(bytes, name) {
         slot_fits(file, index, bytes, v)
     } else {
         own_bound(file, index, name)

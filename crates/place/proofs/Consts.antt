@@ -16,9 +16,9 @@ use Rattle.views.specs.Views.{opOf}
 use Rattle.views.specs.declared.Anchor.{Anchor}
 use Rattle.views.specs.declared.CompareOp as Code
 use Rattle.views.specs.declared.CompareOp.the-variants as Op
-use Rattle.lookups.specs.Lookups.{foundOption}
-use Rattle.lookups.specs.declared.Found.{Found}
-use Rattle.lookups.specs.declared.Found.the-variants as Fo
+use Rattle.tables.specs.Tables.{foundOption}
+use Rattle.tables.specs.declared.Found.{Found}
+use Rattle.tables.specs.declared.Found.the-variants as Fo
 use Rattle.constant.specs.Sizes.{viewOf, constView}
 use Rattle.constant.specs.declared.Const.{Const}
 use Rattle.constant.specs.declared.Const.the-variants as Co

@@ -29,10 +29,10 @@ use Rattle.paths.specs.declared.FieldPath.{FieldPath}
 use Rattle.file.proofs.Readers.{lt-or-le}
 use Rattle.views.specs.Views.{nodeOf, SeenNode}
 use Rattle.views.specs.declared.NodeView.{NodeView}
-use Rattle.lookup.specs.Found.{hoistedName}
-use Rattle.lookups.specs.Lookups.{SeenRun}
-use Rattle.lookups.specs.declared.Run.{Run}
-use Rattle.lookup.proofs.Slots.{counts}
+use Rattle.fields.specs.Found.{hoistedName}
+use Rattle.tables.specs.Tables.{SeenRun}
+use Rattle.tables.specs.declared.Run.{Run}
+use Rattle.fields.proofs.Slots.{counts}
 use Rattle.lists.specs.Lists.{stateWith}
 use Rattle.lists.specs.declared.Lists.{Lists}
 use Rattle.resolve.specs.Resolved.{given, Answers, Follows, Rooms, baseOf, readSlot, readPast, leafSlot, leafAt}

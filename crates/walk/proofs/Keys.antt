@@ -14,9 +14,9 @@ use Rattle.state.specs.Ops.{ops, skip}
 use Rattle.paths.specs.Paths.{pathOf, Holds}
 use Rattle.paths.specs.declared.FieldPath.{FieldPath}
 use Rattle.views.specs.Views.{run, fieldAt, patternAt}
-use Rattle.lookups.specs.Lookups.{SeenRun}
-use Rattle.lookups.specs.declared.Run.{Run}
-use Rattle.lookups.specs.declared.Run.the-variants as Ru
+use Rattle.tables.specs.Tables.{SeenRun}
+use Rattle.tables.specs.declared.Run.{Run}
+use Rattle.tables.specs.declared.Run.the-variants as Ru
 use Rattle.begin.specs.Pieces.{Fits, patternsOf, openFields, fieldsFor}
 use Rattle.walk.specs.Walks.{Walks, fieldsOf}
 use Rattle.walk.proofs.Going.{Going, going-end}

@@ -28,9 +28,9 @@ use Rattle.views.proofs.NodeView as NodeViews
 use Rattle.views.proofs.Runs.{run-at, length-run}
 use Rattle.slots.specs.Slots.{slotOf, slotOption, maybe}
 use Rattle.slots.specs.declared.MaybeSlot.{MaybeSlot}
-use Rattle.lookups.specs.Lookups.{SeenRun}
-use Rattle.lookups.specs.declared.Run.{Run}
-use Rattle.lookups.specs.declared.Run.the-variants as Ru
+use Rattle.tables.specs.Tables.{SeenRun}
+use Rattle.tables.specs.declared.Run.{Run}
+use Rattle.tables.specs.declared.Run.the-variants as Ru
 use Rattle.begin.specs.Pieces.{noField}
 use Rattle.walk.specs.Walks.{fieldsOf, wholeField}
 use Rattle.walk.proofs.Fields.{none-left}

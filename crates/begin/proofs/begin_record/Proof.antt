@@ -5,7 +5,7 @@ use Rattle.begin.proofs.begin_record.Tie as tie
 use Rattle.begin.proofs.begin_record.Reads as reads
 use Rattle.begin.proofs.begin_record.Lts as lts
 use Rattle.begin.proofs.begin_read.Reads as begin-read-reads
-use Rattle.lookups.proofs.union_ty.Reads as union-ty-reads
+use Rattle.tables.proofs.union_ty.Reads as union-ty-reads
 use Rattle.slots.proofs.Slot.plain.Reads as plain-reads
 
 -- src/lib.rt:230:28

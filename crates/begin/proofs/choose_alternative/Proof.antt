@@ -10,8 +10,8 @@ use Rattle.begin.proofs.choose_alternative.Lts as lts
 use Rattle.begin.proofs.diagnose.Reads as diagnose-reads
 use Rattle.begin.proofs.pairs_of.Reads as pairs-of-reads
 use Rattle.begin.proofs.unchosen.Reads as unchosen-reads
-use Rattle.lookups.proofs.alternative_of.Reads as alternative-of-reads
-use Rattle.lookups.proofs.union_ty.Reads as union-ty-reads
+use Rattle.tables.proofs.alternative_of.Reads as alternative-of-reads
+use Rattle.tables.proofs.union_ty.Reads as union-ty-reads
 use Rattle.views.proofs.field_pattern_at.Reads as field-pattern-at-reads
 
 -- src/lib.rt:494:26

@@ -1,4 +1,4 @@
-use Rattle.lookups.proofs.Tags.{record-is, record-not}
+use Rattle.tables.proofs.Tags.{record-is, record-not}
 use borrow.Author.Needs.{needs}
 use Rattle.begin.proofs.pairs_of.Statement.{statement}
 use Rattle.begin.proofs.pairs_of.Tie as tie

@@ -7,8 +7,8 @@ use Rattle.begin.proofs.piece_at.Tie as tie
 use Rattle.begin.proofs.piece_at.Reads as reads
 use Rattle.begin.proofs.piece_at.Lts as lts
 use Rattle.begin.proofs.pairs_of.Reads as pairs-of-reads
-use Rattle.lookups.proofs.field_pattern.Reads as field-pattern-reads
-use Rattle.lookups.proofs.record_ty.Reads as record-ty-reads
+use Rattle.tables.proofs.field_pattern.Reads as field-pattern-reads
+use Rattle.tables.proofs.record_ty.Reads as record-ty-reads
 use Rattle.views.proofs.field_ty_at.Reads as field-ty-at-reads
 
 -- src/lib.rt:94:26

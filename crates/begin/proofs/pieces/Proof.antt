@@ -8,7 +8,7 @@ use Rattle.begin.proofs.pieces.Tie as tie
 use Rattle.begin.proofs.pieces.Reads as reads
 use Rattle.begin.proofs.pieces.Lts as lts
 use Rattle.begin.proofs.pairs_of.Reads as pairs-of-reads
-use Rattle.lookups.proofs.record_ty.Reads as record-ty-reads
+use Rattle.tables.proofs.record_ty.Reads as record-ty-reads
 
 -- src/lib.rt:77:26
 pairs-of-requires : tie.Need-pairs-of-requires

@@ -14,7 +14,7 @@ use Rattle.lists.proofs.own_bound.Tie as tie
 use Rattle.lists.proofs.own_bound.Reads as reads
 use Rattle.lists.proofs.own_bound.Lts as lts
 use Rattle.lists.proofs.slot_fits.Reads as slot-fits-reads
-use Rattle.lookups.proofs.lookup.Reads as lookup-reads
+use Rattle.tables.proofs.lookup.Reads as lookup-reads
 
 -- src/lib.rt:472:42
 lookup-requires : tie.Need-lookup-requires

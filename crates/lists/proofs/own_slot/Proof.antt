@@ -10,7 +10,7 @@ use Rattle.lists.proofs.own_slot.Tie as tie
 use Rattle.lists.proofs.own_slot.Reads as reads
 use Rattle.lists.proofs.own_slot.Lts as lts
 use Rattle.lists.proofs.fitted.Reads as fitted-reads
-use Rattle.lookups.proofs.lookup.Reads as lookup-reads
+use Rattle.tables.proofs.lookup.Reads as lookup-reads
 use Rattle.slots.proofs.nothing.Reads as nothing-reads
 
 -- src/lib.rt:460:42

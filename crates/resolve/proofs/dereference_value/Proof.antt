@@ -1,6 +1,6 @@
 use mathlib.Core.Path.{sym, ap, _∙_}
 use Rattle.views.specs.Views.{predicateOption}
-use Rattle.lookup.proofs.Slots.{plain-is}
+use Rattle.fields.proofs.Slots.{plain-is}
 use Rattle.resolve.proofs.Answers.{gives-is, plain-value, fact-value}
 use borrow.Author.Needs.{needs}
 use Rattle.resolve.proofs.dereference_value.Statement.{statement}

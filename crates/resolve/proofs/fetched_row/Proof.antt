@@ -1,7 +1,7 @@
 use mathlib.Core.Path.{ap}
 use Rattle.rules.specs.Resolve.{fetchedRow}
-use Rattle.lookup.specs.Found.{addressOption}
-use Rattle.lookup.proofs.Slots.{plain-is}
+use Rattle.fields.specs.Found.{addressOption}
+use Rattle.fields.proofs.Slots.{plain-is}
 use Rattle.resolve.proofs.Answers.{gives-is, fetched-at}
 use borrow.Author.Needs.{needs}
 use Rattle.resolve.proofs.fetched_row.Statement.{statement}

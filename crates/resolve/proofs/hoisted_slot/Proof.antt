@@ -1,7 +1,7 @@
 use Rattle.rules.specs.Base.{_>>=_}
 use mathlib.Core.Path.{sym, ap, _∙_}
 use mathlib.Core.Option.{none, some}
-use Rattle.lookup.specs.Found.{nameOption}
+use Rattle.fields.specs.Found.{nameOption}
 use Rattle.resolve.proofs.Answers.{hoisted-by}
 use borrow.Author.Needs.{needs}
 use Rattle.resolve.proofs.hoisted_slot.Statement.{statement}

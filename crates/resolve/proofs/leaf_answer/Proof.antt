@@ -1,5 +1,5 @@
 use mathlib.Core.Path.{sym, _∙_}
-use Rattle.lookup.proofs.Slots.{plain-is}
+use Rattle.fields.proofs.Slots.{plain-is}
 use Rattle.resolve.proofs.Answers.{gives-is, answers-as, constant-leaf, other-leaf, leaf-is}
 use borrow.Author.Needs.{needs}
 use Rattle.resolve.proofs.leaf_answer.Statement.{statement}

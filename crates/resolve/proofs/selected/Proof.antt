@@ -1,6 +1,6 @@
 use mathlib.Core.Path.{ap, _∙_}
 use Rattle.rules.specs.File.{payload}
-use Rattle.lookups.specs.Lookups.{alternativeOption}
+use Rattle.tables.specs.Tables.{alternativeOption}
 use Rattle.resolve.proofs.Answers.{gives-is, none-selected, selected-is, count-below}
 use borrow.Author.Needs.{needs}
 use Rattle.resolve.proofs.selected.Statement.{statement}

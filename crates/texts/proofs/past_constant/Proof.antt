@@ -5,7 +5,7 @@ use Rattle.texts.proofs.past_constant.Statement.{statement}
 use Rattle.texts.proofs.past_constant.Tie as tie
 use Rattle.texts.proofs.past_constant.Reads as reads
 use Rattle.texts.proofs.past_constant.Lts as lts
-use Rattle.lookups.proofs.folded.Reads as folded-reads
+use Rattle.tables.proofs.folded.Reads as folded-reads
 use Rattle.views.proofs.count_of.Reads as count-of-reads
 use Rattle.views.proofs.node_at.Reads as node-at-reads
 

@@ -7,7 +7,7 @@ use Rattle.texts.proofs.put_past.Tie as tie
 use Rattle.texts.proofs.put_past.Reads as reads
 use Rattle.texts.proofs.put_past.Lts as lts
 use Rattle.encode.proofs.put_i64.Reads as put-i64-reads
-use Rattle.lookups.proofs.folded.Reads as folded-reads
+use Rattle.tables.proofs.folded.Reads as folded-reads
 use Rattle.views.proofs.node_at.Reads as node-at-reads
 
 -- src/lib.rt:54:9

@@ -27,9 +27,9 @@ use Rattle.constant.proofs.capped.Reads as capped-reads
 use Rattle.constant.proofs.escaped_len.Reads as escaped-len-reads
 use Rattle.constant.proofs.prefix_len.Reads as prefix-len-reads
 use Rattle.constant.proofs.wrap.Reads as wrap-reads
-use Rattle.lookups.proofs.alternative_of.Reads as alternative-of-reads
-use Rattle.lookups.proofs.field_pattern.Reads as field-pattern-reads
-use Rattle.lookups.proofs.folded.Reads as folded-reads
+use Rattle.tables.proofs.alternative_of.Reads as alternative-of-reads
+use Rattle.tables.proofs.field_pattern.Reads as field-pattern-reads
+use Rattle.tables.proofs.folded.Reads as folded-reads
 use Rattle.views.proofs.field_pattern_at.Reads as field-pattern-at-reads
 use Rattle.views.proofs.field_ty_at.Reads as field-ty-at-reads
 use Rattle.views.proofs.node_at.Reads as node-at-reads

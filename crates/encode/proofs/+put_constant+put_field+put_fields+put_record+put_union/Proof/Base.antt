@@ -22,9 +22,9 @@ use Rattle.encode.proofs.+put_constant+put_field+put_fields+put_record+
 use Rattle.encode.proofs.put_bytes.Reads as put-bytes-reads
 use Rattle.encode.proofs.put_i64.Reads as put-i64-reads
 use Rattle.encode.proofs.put_str.Reads as put-str-reads
-use Rattle.lookups.proofs.alternative_of.Reads as alternative-of-reads
-use Rattle.lookups.proofs.field_pattern.Reads as field-pattern-reads
-use Rattle.lookups.proofs.folded.Reads as folded-reads
+use Rattle.tables.proofs.alternative_of.Reads as alternative-of-reads
+use Rattle.tables.proofs.field_pattern.Reads as field-pattern-reads
+use Rattle.tables.proofs.folded.Reads as folded-reads
 use Rattle.records.proofs.put8.Reads as put8-reads
 use Rattle.records.proofs.put_tag.Reads as put-tag-reads
 use Rattle.views.proofs.field_pattern_at.Reads as field-pattern-at-reads

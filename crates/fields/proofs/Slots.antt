@@ -1,0 +1,97 @@
+-- The slots that a field, a row or a folded constant gives, and the room that a path has for one step more.
+use Prim.Native.Nat.{ℕ, _≤_, _<_}
+use mathlib.Core.Path.{_≡_, sym, ap, _∙_}
+use mathlib.Core.List.{List}
+use mathlib.Core.Option.{Option, none, some}
+use native.Mathlib.Omega.{arith}
+use lib.ListN.{length}
+use lib.Seq.{length-take-le}
+use Rattle.rules.specs.Base.{_>>=_}
+use Rattle.rules.specs.Limits.{stepLimit}
+use Rattle.rules.specs.File as File
+use Rattle.rules.specs.File.{Tables, Ty, FieldPattern, typeAt, predicateAt, nodeAt, factTy, recordFields, fieldPath}
+use Rattle.rules.specs.Constant.{fieldPattern}
+use Rattle.rules.specs.Lookup.{FieldAt, fieldOf, slotAt, rowField, rowValue, foldedField, foldedSlot}
+use Rattle.rules.proofs.Sound.{Child, Sound}
+use Rattle.rules.proofs.Keeps.{field-child}
+use Rattle.paths.specs.Paths.{pathOf}
+use Rattle.paths.specs.declared.FieldPath.{FieldPath}
+use Rattle.views.specs.Views.{typeOf, SeenType}
+use Rattle.views.specs.declared.TypeView.{TypeView}
+use Rattle.slots.specs.Slots.{slotWith, slotOf, Room}
+use Rattle.slots.specs.declared.Slot.{Slot}
+use Rattle.slots.specs.declared.SlotKind.{SlotKind}
+use Rattle.fields.specs.Found.{valueSide}
+
+-- a type that was seen as a view
+pub fact-seen : {f : List ℕ} {ty : Ty} {v : TypeView} (w : TypeView) → SeenType f ty v → v ≡ w → factTy (typeOf f w) ≡ factTy ty
+fact-seen {f} w s e = ap (λ (w : TypeView). factTy (typeOf f w)) (sym e) ∙ ap factTy (s .is)
+
+-- a slot whose path has no meaning
+pub plain-is : {r : Option File.Slot} (s : Slot) (k : SlotKind) → r ≡ some (slotOf s) → s .kind ≡ k → r ≡ some (slotWith k (s .path))
+plain-is s k e h = e ∙ ap (λ (k : SlotKind). some (slotWith k (s .path))) h
+
+module _ (a : ℕ) (place : ℕ → File.FieldPath) {o : Option FieldAt} {r : Option File.Slot} where
+  pub no-field : r ≡ none → o ≡ none → r ≡ slotAt a place o
+  unfolding slotAt _>>=_
+  no-field h e = h ∙ ap (slotAt a place) (sym e)
+
+  pub field-is : {s : File.Slot} {q : File.FieldPath} (i t : ℕ) → r ≡ some s → s ≡ File.Slot.Field a q t → q ≡ place i → o ≡ some (record { index = i; type = t }) → r ≡ slotAt a place o
+  unfolding slotAt _>>=_
+  field-is i t h k l e = h ∙ ap some (k ∙ ap (λ (q : File.FieldPath). File.Slot.Field a q t) l) ∙ ap (slotAt a place) (sym e)
+
+module _ (T : Tables) (a : ℕ) {o : Option ℕ} {r : Option File.Slot} where
+  pub no-row-field : (x : ℕ) → r ≡ none → o ≡ none → r ≡ rowField T a o x
+  unfolding rowField _>>=_
+  no-row-field x h e = h ∙ ap (λ (o : Option ℕ). rowField T a o x) (sym e)
+
+  pub row-field-is : (x p : ℕ) (entry : File.Predicate) → r ≡ slotAt a fieldPath (fieldOf (typeAt T (entry .key)) x) → entry ≡ predicateAt T p → o ≡ some p → r ≡ rowField T a o x
+  unfolding rowField _>>=_
+  row-field-is x p entry h k e = h ∙ ap (λ (q : File.Predicate). slotAt a fieldPath (fieldOf (typeAt T (q .key)) x)) k ∙ ap (λ (o : Option ℕ). rowField T a o x) (sym e)
+
+  pub no-row-value : r ≡ none → o ≡ none → r ≡ rowValue T a o
+  unfolding rowValue _>>=_
+  no-row-value h e = h ∙ ap (rowValue T a) (sym e)
+
+  pub row-value-is : (p : ℕ) (entry : File.Predicate) → r ≡ valueSide a (entry .value) → entry ≡ predicateAt T p → o ≡ some p → r ≡ rowValue T a o
+  unfolding rowValue _>>=_
+  row-value-is p entry h k e = h ∙ ap (λ (q : File.Predicate). valueSide a (q .value)) k ∙ ap (rowValue T a) (sym e)
+
+module _ (a : ℕ) {o : Option ℕ} {r : Option File.Slot} where
+  pub no-value : r ≡ none → o ≡ none → r ≡ valueSide a o
+  unfolding _>>=_
+  no-value h e = h ∙ ap (valueSide a) (sym e)
+
+  pub value-is : (t : ℕ) → r ≡ some (File.Slot.Value a t) → o ≡ some t → r ≡ valueSide a o
+  unfolding _>>=_
+  value-is t h e = h ∙ ap (valueSide a) (sym e)
+
+module _ (T : Tables) (n x : ℕ) where
+  pub folded-is : {r : Option ℕ} (fs : List FieldPattern) → r ≡ fieldPattern fs x → some fs ≡ recordFields (nodeAt T n) → r ≡ foldedField T n x
+  unfolding foldedField _>>=_
+  folded-is fs h e = h ∙ ap (λ (o : Option (List FieldPattern)). o >>= λ fs. fieldPattern fs x) e
+
+  pub no-folded : none ≡ recordFields (nodeAt T n) → none ≡ foldedField T n x
+  unfolding foldedField _>>=_
+  no-folded e = ap (λ (o : Option (List FieldPattern)). o >>= λ fs. fieldPattern fs x) e
+
+  pub no-folded-slot : {r : Option File.Slot} → r ≡ none → none ≡ foldedField T n x → r ≡ foldedSlot T n x
+  unfolding foldedSlot _>>=_
+  no-folded-slot h e = h ∙ ap (λ (o : Option ℕ). o >>= λ m. some (File.Slot.Const m)) e
+
+  pub folded-slot-is : {r : Option File.Slot} (m : ℕ) → r ≡ some (File.Slot.Const m) → some m ≡ foldedField T n x → r ≡ foldedSlot T n x
+  unfolding foldedSlot _>>=_
+  folded-slot-is m h e = h ∙ ap (λ (o : Option ℕ). o >>= λ m. some (File.Slot.Const m)) e
+
+-- how many steps a path counts
+pub counts : (room : ℕ) (q : FieldPath) → q .count ≤ room → length (q .steps) ≡ room → length (pathOf q .steps) ≡ q .count
+unfolding pathOf
+counts room q h l = let g : q .count ≤ length (q .steps) = omega arith in length-take-le (q .count) (q .steps) g
+
+-- a type with a child is at least two deep, so its path has room for a step
+module _ {T : Tables} (S : Sound T) where
+  pub room-below : {p : File.FieldPath} {t c : ℕ} (q : FieldPath) → pathOf q ≡ p → Room T p t → Child T t c → q .count ≤ stepLimit → length (q .steps) ≡ stepLimit → q .count < stepLimit
+  room-below {p} {t} {c} q e r k h l = omega (arith, counts stepLimit q h l, ap (λ (p : File.FieldPath). length (p .steps)) e, r .short, k .less-deep, S .positive c (k .in-types))
+
+  pub field-room : {p : File.FieldPath} {t : ℕ} (x : ℕ) (f : FieldAt) (q : FieldPath) → fieldOf (typeAt T t) x ≡ some f → pathOf q ≡ p → Room T p t → q .count ≤ stepLimit → length (q .steps) ≡ stepLimit → q .count < stepLimit
+  field-room {p} {t} x f q g e r h l = room-below q e r (field-child (Child T t) (typeAt T t) x f (S .children t (r .known)) g) h l

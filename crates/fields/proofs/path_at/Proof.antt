@@ -1,0 +1,97 @@
+use native.Mathlib.Omega.{arith}
+use mathlib.Core.Path.{_≡_, refl}
+use Prim.Native.Nat.{_≤_, _-_, _+_}
+use lib.ListN.{length, take, length-set}
+use Rattle.views.specs.Views.{run, long, PathInside}
+use Rattle.fields.proofs.PathsAt.{copied, holds}
+use Rattle.fields.proofs.path_at.Statement.{statement}
+use Rattle.fields.proofs.path_at.Tie as tie
+
+abbrev Inv-loop : tie.InvT-loop
+Inv-loop file at field count steps₀ i₀ steps i = (take i steps ≡ run (long file) 4 i (at + 3)) × (i ≤ count) × (length steps ≡ 15)
+
+abbrev μ-loop : tie.MeasureT-loop
+μ-loop file at field count steps₀ i₀ steps i = count - i
+
+word-at-requires : tie.Need-word-at-requires Inv-loop μ-loop
+unfolding PathInside
+word-at-requires c κs = omega arith
+
+cast-field : tie.Need-cast-field Inv-loop μ-loop
+cast-field c = omega (arith, c .word-at .ensures)
+
+add-wide : tie.Need-add-wide Inv-loop μ-loop
+unfolding PathInside
+add-wide c = omega arith
+
+shared-slice-read-wide : tie.Need-shared-slice-read-wide Inv-loop μ-loop
+unfolding PathInside
+shared-slice-read-wide c = omega arith
+
+wide-requires : tie.Need-wide-requires Inv-loop μ-loop
+wide-requires c κs = tt
+
+loop-holds : tie.Need-loop-holds Inv-loop μ-loop
+unfolding run
+loop-holds c = (refl, omega arith, refl)
+
+add-long-at : tie.Need-add-long-at Inv-loop μ-loop
+unfolding PathInside
+add-long-at c = omega arith
+
+mul-long-at : tie.Need-mul-long-at Inv-loop μ-loop
+mul-long-at c = omega arith
+
+add-long-at-2 : tie.Need-add-long-at-2 Inv-loop μ-loop
+unfolding PathInside
+add-long-at-2 c = omega (arith, c .before .before .wide .ensures)
+
+long-at-requires : tie.Need-long-at-requires Inv-loop μ-loop
+unfolding PathInside
+long-at-requires c κs = omega (arith, c .before .before .wide .ensures)
+
+mul-steps : tie.Need-mul-steps Inv-loop μ-loop
+mul-steps c = omega (arith, c .before .before .before .wide .ensures)
+
+array-write-steps : tie.Need-array-write-steps Inv-loop μ-loop
+array-write-steps c = omega (arith, c .before .before .before .wide .ensures)
+
+add-i : tie.Need-add-i Inv-loop μ-loop
+add-i c = omega arith
+
+loop-less : tie.Need-loop-less Inv-loop μ-loop
+loop-less c = omega arith
+
+loop-again : tie.Need-loop-again Inv-loop μ-loop
+loop-again c =
+    let l = c .before .before in
+    (copied _ _ _ _ _ (omega (arith, l .before .wide .ensures)) (c .long-at .ensures) (l .loop .inv .0), omega arith, simp length-set (l .loop .inv .2))
+
+returns : tie.Need-returns Inv-loop μ-loop
+returns c =
+    let l = c .before in
+    let e : l .loop .i ≡ l .before .wide .result = omega arith in
+    holds _ _ _ (l .before .before .before .word-at .ensures .0) (l .before .wide .ensures .0) (rw e at (l .loop .inv .0))
+
+pub path-at-spec : {M : Type 1} → statement M
+path-at-spec =
+    tie.close
+    (tie.spec
+    Inv-loop
+    μ-loop
+    word-at-requires
+    cast-field
+    add-wide
+    shared-slice-read-wide
+    wide-requires
+    loop-holds
+    add-long-at
+    mul-long-at
+    add-long-at-2
+    long-at-requires
+    mul-steps
+    array-write-steps
+    add-i
+    loop-less
+    loop-again
+    returns)

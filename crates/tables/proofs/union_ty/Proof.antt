@@ -1,0 +1,19 @@
+use Rattle.tables.proofs.Tags.{alternatives-are, alternatives-not}
+use borrow.Author.Needs.{needs}
+use Rattle.tables.proofs.union_ty.Statement.{statement}
+use Rattle.tables.proofs.union_ty.Tie as tie
+
+type-at-requires : tie.Need-type-at-requires
+type-at-requires c κs = search needs
+
+enum-known-n : tie.Need-enum-known-n
+enum-known-n c = search needs
+
+returns : tie.Need-returns
+returns c = alternatives-are _ _ _ (c .before .before .before .type-at .ensures) _ _ (c .before .n .given .1)
+
+returns-2 : tie.Need-returns-2
+returns-2 c = alternatives-not _ _ _ (c .before .type-at .ensures) (c .match .keys2)
+
+pub union-ty-spec : {M : Type 1} → statement M
+union-ty-spec = tie.close (tie.spec type-at-requires enum-known-n returns returns-2)

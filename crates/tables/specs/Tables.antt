@@ -1,0 +1,56 @@
+-- What an answer of a search stands for.
+use Prim.Native.Nat.{ℕ, _+_, _*_, _≤_}
+use mathlib.Core.Path.{_≡_}
+use mathlib.Core.List.{List}
+use mathlib.Core.Option.{Option, none, some}
+use lib.ListN.{length}
+use Rattle.rules.specs.Base.{_>>=_}
+use Rattle.rules.specs.File as File
+use Rattle.rules.specs.Constant.{lookup, constNode}
+use Rattle.views.specs.Views.{run, alternativeOf, slotOf, SlotInside}
+use Rattle.tables.specs.declared.Found.{Found}
+use Rattle.tables.specs.declared.Found.the-variants as Fo
+use Rattle.tables.specs.declared.Run.{Run}
+use Rattle.tables.specs.declared.Run.the-variants as Ru
+use Rattle.tables.specs.declared.MaybeAlternative.{MaybeAlternative}
+use Rattle.tables.specs.declared.MaybeAlternative.the-variants as Ma
+use Rattle.tables.specs.declared.MaybeSlot.{MaybeSlot}
+use Rattle.tables.specs.declared.MaybeSlot.the-variants as Ms
+
+abbrev pub foundOption : Found → Option ℕ
+foundOption Fo.Nothing = none
+foundOption (Fo.At n) = some n
+
+abbrev pub runOption : {A : Type 0} → (ℕ → A) → ℕ → Run → Option (List A)
+runOption at w Ru.Nothing = none
+runOption at w (Ru.Of n p) = some (run at w n p)
+
+abbrev pub alternativeOption : MaybeAlternative → Option File.Alternative
+alternativeOption Ma.Nothing = none
+alternativeOption (Ma.Just a) = some (alternativeOf a)
+
+abbrev pub slotOption : List ℕ → MaybeSlot → Option File.Slot
+slotOption f Ms.Nothing = none
+slotOption f (Ms.Just s) = some (slotOf f s)
+
+-- what an answer points at lies within the file
+abbrev pub RunInside : List ℕ → ℕ → Run → Type 0
+RunInside f w Ru.Nothing = Unit {0}
+RunInside f w (Ru.Of n p) = p + w * n ≤ length f
+
+abbrev pub MaybeInside : List ℕ → MaybeSlot → Type 0
+MaybeInside f Ms.Nothing = Unit {0}
+MaybeInside f (Ms.Just s) = SlotInside f s
+
+-- an answer is what the rules find
+pub record SeenRun {A : Type 0} (f : List ℕ) (at : ℕ → A) (w : ℕ) (o : Option (List A)) (r : Run) : Type 0 where
+  pub is : runOption at w r ≡ o
+  pub inside : RunInside f w r
+
+pub record SeenSlot (f : List ℕ) (o : Option File.Slot) (r : MaybeSlot) : Type 0 where
+  pub is : slotOption f r ≡ o
+  pub inside : MaybeInside f r
+
+-- the Const that a name is bound to
+abbrev pub constBound : List File.Binding → ℕ → Option ℕ
+constBound bs x = lookup bs x >>= constNode

@@ -1,0 +1,198 @@
+// What stands in the tables under a number or a name.
+ghost use mathlib.Core.Path.{_≡_};
+ghost use Prim.Native.Nat.{_+_, _*_, _≤_, _<_};
+ghost use lib.ListN.{length};
+ghost use Rattle.rules.specs.File.{typeAt, nodeAt, varName, recordFields, recordTy, unionTy, isConstant};
+ghost use Rattle.rules.specs.Constant as Constant;
+ghost use Rattle.rules.specs.Constant.{fieldPattern, standsFor};
+ghost use Rattle.file.specs.Tables.{Indexed, tablesOf};
+ghost use Rattle.views.specs.Views.{run, fieldAt, alternativeAt, patternAt, bindingAt};
+ghost use Rattle.ready.specs.Ready.{Ready};
+ghost use Rattle.tables.specs.Tables.{constBound, foundOption, alternativeOption, SeenRun, SeenSlot};
+use file::CONSTANTS;
+use file::base;
+use file::wide16;
+use file::word_at;
+use views::Alternative;
+use views::NodeView;
+use views::SlotView;
+use views::TypeView;
+use views::alternative_at;
+use views::binding_at;
+use views::count_of;
+use views::field_pattern_at;
+use views::node_at;
+use views::type_at;
+
+pub enum Found {
+    Nothing,
+    At(usize),
+}
+
+// A count and where the first stands.
+pub enum Run {
+    Nothing,
+    Of(usize, usize),
+}
+
+pub enum MaybeAlternative {
+    Nothing,
+    Just(Alternative),
+}
+
+pub enum MaybeSlot {
+    Nothing,
+    Just(SlotView),
+}
+
+pub fn is_constant(file: &[u8], index: &[u16], n: usize) -> bool
+    requires { ⌜ Ready (now file) (now index) ⌝ }
+    requires { ⌜ n < length (tablesOf (now file) .nodes) ⌝ }
+    ensures { λ r. ⌜ r ≡ isConstant (tablesOf (now (file .entry))) n ⌝ }
+{
+    if wide16(index[CONSTANTS + n]) == 0 {
+        return false;
+    }
+    true
+}
+
+// A Var's name.
+pub fn var_name(file: &[u8], index: &[u16], n: usize) -> Found
+    requires { ⌜ Indexed (now file) (now index) ⌝ }
+    requires { ⌜ n < length (tablesOf (now file) .nodes) ⌝ }
+    ensures { λ r. ⌜ foundOption r ≡ varName (nodeAt (tablesOf (now (file .entry))) n) ⌝ }
+{
+    if let NodeView::Var(x) = node_at(file, index, n) {
+        Found::At(x)
+    } else {
+        Found::Nothing
+    }
+}
+
+// A Record's pairs.
+pub fn record_fields(file: &[u8], index: &[u16], n: usize) -> Run
+    requires { ⌜ Indexed (now file) (now index) ⌝ }
+    requires { ⌜ n < length (tablesOf (now file) .nodes) ⌝ }
+    ensures { λ r. ⌜ SeenRun (now (file .entry)) (patternAt (now (file .entry))) 4 (recordFields (nodeAt (tablesOf (now (file .entry))) n)) r ⌝ }
+{
+    if let NodeView::Record(k, at) = node_at(file, index, n) {
+        Run::Of(k, at)
+    } else {
+        Run::Nothing
+    }
+}
+
+// A Record type's fields.
+pub fn record_ty(file: &[u8], index: &[u16], t: usize) -> Run
+    requires { ⌜ Indexed (now file) (now index) ⌝ }
+    requires { ⌜ t < length (tablesOf (now file) .types) ⌝ }
+    ensures { λ r. ⌜ SeenRun (now (file .entry)) (fieldAt (now (file .entry))) 4 (recordTy (typeAt (tablesOf (now (file .entry))) t)) r ⌝ }
+{
+    if let TypeView::Record(n, at) = type_at(file, index, t) {
+        Run::Of(n, at)
+    } else {
+        Run::Nothing
+    }
+}
+
+// A Union type's alternatives.
+pub fn union_ty(file: &[u8], index: &[u16], t: usize) -> Run
+    requires { ⌜ Indexed (now file) (now index) ⌝ }
+    requires { ⌜ t < length (tablesOf (now file) .types) ⌝ }
+    ensures { λ r. ⌜ SeenRun (now (file .entry)) (alternativeAt (now (file .entry))) 8 (unionTy (typeAt (tablesOf (now (file .entry))) t)) r ⌝ }
+{
+    if let TypeView::Union(n, at) = type_at(file, index, t) {
+        Run::Of(n, at)
+    } else {
+        Run::Nothing
+    }
+}
+
+// The node that a Record of n pairs gives for a name: its first.
+pub fn field_pattern(file: &[u8], at: usize, n: usize, name: usize) -> Found
+    requires { ⌜ at + 4 * n ≤ length (now file) ⌝ }
+    ensures { λ r. ⌜ foundOption r ≡ fieldPattern (run (patternAt (now (file .entry))) 4 n at) name ⌝ }
+{
+    let mut k: usize = 0;
+    while k < n {
+        let p = field_pattern_at(file, at, k);
+        if p.name == name {
+            return Found::At(p.node);
+        }
+        k += 1;
+    }
+    Found::Nothing
+}
+
+// A Union type's alternative of that name.
+pub fn alternative_of(file: &[u8], at: usize, n: usize, name: usize) -> MaybeAlternative
+    requires { ⌜ at + 8 * n ≤ length (now file) ⌝ }
+    ensures { λ r. ⌜ alternativeOption r ≡ Constant.alternativeOf (run (alternativeAt (now (file .entry))) 8 n at) name ⌝ }
+{
+    let mut k: usize = 0;
+    while k < n {
+        let a = alternative_at(file, at, k);
+        if a.name == name {
+            return MaybeAlternative::Just(a);
+        }
+        k += 1;
+    }
+    MaybeAlternative::Nothing
+}
+
+// A binding's name alone: the search below reads the slot of no other binding than the one it finds.
+fn binding_name(file: &[u8], index: &[u16], k: usize) -> usize
+    requires { ⌜ Indexed (now file) (now index) ⌝ }
+    requires { ⌜ k < length (tablesOf (now file) .bindings) ⌝ }
+    ensures { λ r. ⌜ r ≡ bindingAt (tablesOf (now (file .entry))) k .name ⌝ }
+{
+    word_at(file, wide16(index[base(4) + 1 + k]))
+}
+
+// The slot of a name's last entry among the file's own bindings.
+pub fn lookup(file: &[u8], index: &[u16], name: usize) -> MaybeSlot
+    requires { ⌜ Indexed (now file) (now index) ⌝ }
+    ensures { λ r. ⌜ SeenSlot (now (file .entry)) (Constant.lookup (tablesOf (now (file .entry)) .bindings) name) r ⌝ }
+{
+    let mut k = count_of(file, index, 4);
+    while k > 0 {
+        k -= 1;
+        if binding_name(file, index, k) == name {
+            let b = binding_at(file, index, k);
+            let s = b.slot;
+            return MaybeSlot::Just(s);
+        }
+    }
+    MaybeSlot::Nothing
+}
+
+// The Const that a name is bound to.
+fn const_of(file: &[u8], index: &[u16], name: usize) -> Found
+    requires { ⌜ Indexed (now file) (now index) ⌝ }
+    ensures { λ r. ⌜ foundOption r ≡ constBound (tablesOf (now (file .entry)) .bindings) name ⌝ }
+{
+    let MaybeSlot::Just(s) = lookup(file, index, name) else {
+        return Found::Nothing;
+    };
+    if let SlotView::Const(m) = s {
+        Found::At(m)
+    } else {
+        Found::Nothing
+    }
+}
+
+// The node that a node stands for: a Var bound to Const stands for its node, any other node for itself.
+pub fn folded(file: &[u8], index: &[u16], node: usize) -> usize
+    requires { ⌜ Indexed (now file) (now index) ⌝ }
+    requires { ⌜ node < length (tablesOf (now file) .nodes) ⌝ }
+    ensures { λ r. ⌜ r ≡ standsFor (tablesOf (now (file .entry))) node ⌝ }
+{
+    let Found::At(x) = var_name(file, index, node) else {
+        return node;
+    };
+    if let Found::At(m) = const_of(file, index, x) {
+        m
+    } else {
+        node
+    }
+}
