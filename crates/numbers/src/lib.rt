@@ -31,6 +31,9 @@ use views::node_at;
 use views::predicate_at;
 use views::type_at;
 
+// As many names as a file may have (nameLimit).
+const NAMES: usize = 512;
+
 // Whether each of n two-byte numbers is below the bound; the first stands at p, each next one w bytes on.
 pub fn words_below(file: &[u8], w: usize, n: usize, p: usize, bound: usize) -> bool
     requires { ⌜ Words (now file) 2 w n p ⌝ }
@@ -430,12 +433,12 @@ fn names_distinct(file: &[u8], w: usize, n: usize, p: usize) -> bool
     requires { ⌜ Words (now file) 4 w n p ⌝ }
     ensures { λ r. ⌜ r ≡ distinct (run (word (now (file .entry))) w n p) ⌝ }
 {
-    let mut marks = [0u8; 512];
+    let mut marks = [0u8; NAMES];
     let mut left = n;
     let mut q = p;
     while left > 0 {
         let x = word_at(file, q);
-        if x >= 512 {
+        if x >= NAMES {
             return all_distinct(file, false, w, n, p);
         }
         if marks[x] != 0 {
