@@ -1,18 +1,16 @@
 // The entries of a read file's tables by number, whatever the number: past a section's count they are what the written rules give there.
 ghost use Prim.Native.Nat.{_<_};
-ghost use Rattle.rules.specs.File.{nameAt, typeAt, predicateAt, nodeAt};
+ghost use Rattle.rules.specs.File.{typeAt, predicateAt, nodeAt};
 ghost use Rattle.file.specs.Tables.{Indexed, tablesOf};
-ghost use Rattle.views.specs.Views.{predicateOf, SeenType, SeenNode, SeenText};
+ghost use Rattle.views.specs.Views.{predicateOf, SeenType, SeenNode};
 ghost use mathlib.Core.Path.{_≡_};
 use file::wide16;
 use paths::PredicateId;
 use views::MaybeType;
 use views::NodeView;
 use views::Predicate;
-use views::Text;
 use views::TypeView;
 use views::count_of;
-use views::name_at;
 use views::node_at;
 use views::predicate_at;
 use views::type_at;
@@ -51,16 +49,5 @@ pub fn predicate_of(file: &[u8], index: &[u16], p: PredicateId) -> Predicate
             key: 0,
             value: MaybeType::Nothing,
         }
-    }
-}
-
-pub fn name_of(file: &[u8], index: &[u16], x: usize) -> Text
-    requires { ⌜ Indexed (now file) (now index) ⌝ }
-    ensures { λ r. ⌜ SeenText (now (file .entry)) (nameAt (tablesOf (now (file .entry))) x) r ⌝ }
-{
-    if x < count_of(file, index, 0) {
-        name_at(file, index, x)
-    } else {
-        Text { at: 0, len: 0 }
     }
 }

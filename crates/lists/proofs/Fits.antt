@@ -34,7 +34,7 @@ use Rattle.views.proofs.Runs.{length-run}
 use Rattle.slots.specs.Slots.{slotOf, slotWith}
 use Rattle.slots.specs.declared.SlotKind.{SlotKind}
 use Rattle.slots.specs.declared.Slot.{Slot}
-use Rattle.lists.specs.Lists.{fitsTables, isBound, ShortSlot}
+use Rattle.lists.specs.Lists.{fitsTables, ShortSlot}
 
 -- a number and its section's count
 module _ (n k m : ℕ) (e : k ≡ m) where
@@ -132,10 +132,3 @@ module _ (T : Tables) (s : File.Slot) (b : Bool) (e : b ≡ fitsTables T s) wher
 
   pub fitted-no : (o : Option File.Slot) → b ≡ false → o ≡ none → o ≡ fitting T (some s)
   fitted-no o h g = g ∙ chosen false h
-
-  pub bound-is : b ≡ isBound (fitting T (some s))
-  bound-is = go b refl
-    where
-      go : (c : Bool) → b ≡ c → b ≡ isBound (fitting T (some s))
-      go true h = h ∙ ap isBound (chosen true h)
-      go false h = h ∙ ap isBound (chosen false h)

@@ -109,10 +109,6 @@ pub record SeenView (f : List ℕ) (o : Option Slot) (v : SlotView) : Type 0 whe
 abbrev pub fitsTables : Tables → Slot → Bool
 fitsTables T slot = roomy T slot
 
-abbrev pub isBound : Option Slot → Bool
-isBound none = false
-isBound (some slot) = true
-
 -- a path of no more steps than a path by value has
 abbrev pub ShortSlot : List ℕ → SlotView → Type 0
 ShortSlot f (Sv.Row a p) = Unit {0}

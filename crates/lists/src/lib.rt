@@ -27,7 +27,7 @@ ghost use Rattle.ready.specs.Ready.{Ready};
 ghost use Rattle.tables.specs.Tables.{SeenSlot};
 ghost use Rattle.slots.specs.Slots.{slotOf, slotOption};
 ghost use Rattle.records.specs.Records.{put, reach};
-ghost use Rattle.lists.specs.Lists.{stateWith, overrun, codeOf, fitsTables, isBound, placeOf, plainSizes, endOf, later, slotFrom, Readable, SeenAt, SeenView, ShortSlot};
+ghost use Rattle.lists.specs.Lists.{stateWith, overrun, codeOf, fitsTables, placeOf, plainSizes, endOf, later, slotFrom, Readable, SeenAt, SeenView, ShortSlot};
 use fields::path_at;
 use file::DEPTHS;
 use file::wide;
@@ -521,18 +521,6 @@ fn own_slot(file: &[u8], index: &[u16], name: usize) -> MaybeSlot
     }
 }
 
-// Whether there is one.
-fn own_bound(file: &[u8], index: &[u16], name: usize) -> bool
-    requires { ⌜ Ready (now file) (now index) ⌝ }
-    ensures { λ r. ⌜ r ≡ isBound (fitting (tablesOf (now (file .entry))) (Constant.lookup (tablesOf (now (file .entry)) .bindings) name)) ⌝ }
-{
-    if let tables::MaybeSlot::Just(v) = tables::lookup(file, index, name) {
-        slot_fits(file, index, file, v)
-    } else {
-        false
-    }
-}
-
 // Where the bindings end, within the work area.
 fn made_end(work: &[u8], l: Lists) -> usize
     ensures { λ r. ⌜ (take r (now (work .entry)) ≡ take (l .ends .bindings) (now (work .entry))) × (r ≤ length (now (work .entry))) ⌝ }
@@ -556,19 +544,5 @@ pub fn lookup(file: &[u8], index: &[u16], work: &[u8], l: Lists, name: usize) ->
         fitted(file, index, bytes, v)
     } else {
         own_slot(file, index, name)
-    }
-}
-
-// Whether a name has one, without a copy of its path.
-pub fn is_bound(file: &[u8], index: &[u16], work: &[u8], l: Lists, name: usize) -> bool
-    requires { ⌜ Ready (now file) (now index) ⌝ }
-    ensures { λ r. ⌜ ((lv : Level) (tg : Target) (p : List ℕ) → r ≡ isBound (ops (tablesOf (now (file .entry))) .lookup (stateWith l lv tg (now (work .entry)) p) name)) ⌝ }
-{
-    let end = made_end(work, l);
-    let bytes = &work[..end];
-    if let tables::MaybeSlot::Just(v) = made_slot(bytes, name) {
-        slot_fits(file, index, bytes, v)
-    } else {
-        own_bound(file, index, name)
     }
 }

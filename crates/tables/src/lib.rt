@@ -69,19 +69,6 @@ pub fn var_name(file: &[u8], index: &[u16], n: usize) -> Found
     }
 }
 
-// A Record's pairs.
-pub fn record_fields(file: &[u8], index: &[u16], n: usize) -> Run
-    requires { ⌜ Indexed (now file) (now index) ⌝ }
-    requires { ⌜ n < length (tablesOf (now file) .nodes) ⌝ }
-    ensures { λ r. ⌜ SeenRun (now (file .entry)) (patternAt (now (file .entry))) 4 (recordFields (nodeAt (tablesOf (now (file .entry))) n)) r ⌝ }
-{
-    if let NodeView::Record(k, at) = node_at(file, index, n) {
-        Run::Of(k, at)
-    } else {
-        Run::Nothing
-    }
-}
-
 // A Record type's fields.
 pub fn record_ty(file: &[u8], index: &[u16], t: usize) -> Run
     requires { ⌜ Indexed (now file) (now index) ⌝ }
