@@ -1,21 +1,29 @@
 -- What `field` goes on with, by the pattern's kind.
-use Prim.Native.Nat.{ℕ}
+use Prim.Native.Nat.{ℕ, zero, suc, _<_}
 use mathlib.Core.Path.{_≡_, refl, sym, ap, _∙_, subst}
 use mathlib.Core.Bool.{Bool, true, false}
 use mathlib.Core.List.{List, [], _∷_}
 use mathlib.Core.Option.{Option, none, some}
+use mathlib.Core.Logic.{⊎-elim}
+use native.Mathlib.Omega.{arith}
+use native.Mathlib.Nat.{zero-add}
+use lib.ListN.{length, take, List·getD-eq-default}
 use types.Run.{OneOf, miss}
 use denote.Enum.Declared.{tagOf}
 use Rattle.rules.specs.File as File
-use Rattle.rules.specs.File.{Tables, Node, FieldPattern, Alternative, typeAt, nodeAt, recordFields, unionTy}
+use Rattle.rules.specs.File.{Tables, Node, FieldPattern, Alternative, typeAt, nodeAt, varName, recordFields, unionTy, constantOf, constants, isConstant}
 use Rattle.rules.specs.Constant.{constant, onlyField}
 use Rattle.rules.specs.Events.{Code}
-use Rattle.rules.specs.Walk.{FieldWalk, narrowBy, constrain, injectOnly, inject, read, ranged, variable, fieldNode}
+use Rattle.rules.specs.Resolve.{Answer, Resolver, give, resolveNode, resolveBelow, resolve}
+use Rattle.rules.specs.Walk.{FieldWalk, narrowBy, constrain, injectOnly, inject, readAnswer, read, ranged, variable, fieldNode}
+use Rattle.rules.proofs.Cases.{some≢none}
+use Rattle.rules.proofs.BottomUp.{at-place}
 use Rattle.rules.proofs.Idle.{idle-fieldNode}
 use Rattle.state.specs.State.{Level, Target, State}
 use Rattle.state.specs.Ops.{ops, bind, report, skip}
 use Rattle.state.proofs.Stopped.{stopped}
-use Rattle.views.specs.Views.{nodeOf, alternativeAt, SeenNode}
+use Rattle.file.proofs.Readers.{lt-or-le}
+use Rattle.views.specs.Views.{run, nodeOf, alternativeAt, patternAt, SeenNode}
 use Rattle.views.specs.declared.NodeView.{NodeView}
 use Rattle.views.specs.declared.NodeView.the-variants as Nv
 use Rattle.views.specs.declared.Anchor.{Anchor}
@@ -29,7 +37,7 @@ use Rattle.tables.specs.declared.Run.the-variants as Ru
 use Rattle.lists.specs.Lists.{stateWith}
 use Rattle.step.specs.Step.{walkState}
 use Rattle.step.specs.declared.Walk.{Walk}
-use Rattle.begin.specs.Begin.{injectFields, injectAt, recordWalk, finish, Begins}
+use Rattle.begin.specs.Begin.{isInjection, injectFields, injectAt, placeWalk, finish, Begins}
 use Rattle.begin.specs.declared.Next.the-variants as Nx
 use Rattle.begin.specs.declared.Begun.{Begun}
 
@@ -38,14 +46,49 @@ pub looked-up : (T : Tables) (x : ℕ) (m : MaybeSlot) (w : Walk) (work plan : L
 unfolding walkState
 looked-up T x m w work plan k = k _ _ plan
 
+-- a node that is seen as a Var
+pub var-node : (f : List ℕ) (T : Tables) (n : ℕ) (v : NodeView) → SeenNode f (nodeAt T n) v → (x : ℕ) → v ≡ Nv.Var x → nodeAt T n ≡ Node.Var x
+var-node f T n v k x e = sym (k .is) ∙ ap (nodeOf f) e
+
+-- a Var is resolved by its name
+module _ (T : Tables) (n x : ℕ) (v : nodeAt T n ≡ Node.Var x) where
+  var-inside : n < length (T .nodes)
+  unfolding nodeAt varName
+  var-inside = ⊎-elim (λ h. h) (λ h. absurd (some≢none x (sym (ap varName (sym (List·getD-eq-default (T .nodes) Node.Error h) ∙ v))))) (lt-or-le n (length (T .nodes)))
+
+  var-inconstant : isConstant T n ≡ false
+  unfolding isConstant constants constantOf nodeAt
+  var-inconstant = rw (zero-add n) at (at-place constantOf [] (T .nodes) n false Node.Error var-inside) ∙ ap (constantOf (take n (constants T))) v
+
+  abbrev stepOf : ℕ → Bool → Resolver State
+  stepOf l b = elim b [ true ↦ give (some (File.Slot.Const n)) | false ↦ resolveNode (ops T) T (resolveBelow (ops T) T l) n (nodeAt T n) ]
+
+  var-below : (l : ℕ) → n < l → (s : State) → resolveBelow (ops T) T l n s ≡ record { slot = ops T .lookup s x; walk = s }
+  unfolding resolveBelow resolveNode
+  var-below zero h s = absurd (omega arith)
+  var-below (suc l) h s =
+      ap (λ (b : Bool). stepOf l b s) var-inconstant
+      ∙ ap (λ (y : Node). resolveNode (ops T) T (resolveBelow (ops T) T l) n y s) v
+
+  var-resolved : (s : State) → resolve (ops T) T n s ≡ record { slot = ops T .lookup s x; walk = s }
+  unfolding resolve
+  var-resolved s = var-below (length (T .nodes)) var-inside s
+
 -- a variable, by whether its name is bound
 module _ (T : Tables) (a x n t : ℕ) (path : File.FieldPath) (s₀ : State) (m : MaybeSlot) (k : slotOption m ≡ ops T .lookup s₀ x) where
   abbrev asks : FieldWalk State → Option File.Slot → State
   asks below o = elim o [ none ↦ constrain (ops T) T x t path (bind x (File.Slot.Field a path t) s₀) | some slot ↦ read (ops T) T a below n t path s₀ ]
 
-  pub variable-bound : m .some ≡ true → (r : Begun) (s : State) → Begins T a n t path (λ below. read (ops T) T a below n t path s₀) r s → Begins T a n t path (λ below. variable (ops T) T a below x n t path s₀) r s
-  unfolding variable
-  variable-bound e r s b = record { is = λ below rest. b .is below rest ∙ ap (asks below) (ap (λ (y : Bool). maybe y (slotOf (m .slot))) (sym e) ∙ k) }
+  pub variable-bound : nodeAt T n ≡ Node.Var x → m .some ≡ true → (w : Walk) → Begins T a n t path (λ below. variable (ops T) T a below x n t path s₀) (record { next = Nx.Matched; slot = m .slot; walk = w }) s₀
+  unfolding finish read readAnswer variable
+  variable-bound v e w =
+      let q : some (slotOf (m .slot)) ≡ ops T .lookup s₀ x = ap (λ (y : Bool). maybe y (slotOf (m .slot))) (sym e) ∙ k in
+      record {
+        is = λ below rest.
+            ap (λ (o : Option File.Slot). readAnswer (ops T) T a below n o t path s₀ s₀) q
+            ∙ ap (λ (r : Answer State). readAnswer (ops T) T a below n (r .slot) t path s₀ (r .walk)) (sym (var-resolved T n x v s₀))
+            ∙ ap (asks below) q;
+      }
 
   pub variable-new : m .some ≡ false → (slot : File.Slot) (s₁ s₂ : State) → slot ≡ File.Slot.Field a path t → s₁ ≡ bind x slot s₀ → s₂ ≡ constrain (ops T) T x t path s₁ → (below : FieldWalk State) → s₂ ≡ variable (ops T) T a below x n t path s₀
   unfolding variable
@@ -53,19 +96,44 @@ module _ (T : Tables) (a x n t : ℕ) (path : File.FieldPath) (s₀ : State) (m 
       e₂ ∙ ap (constrain (ops T) T x t path) (e₁ ∙ ap (λ (y : File.Slot). bind x y s₀) es)
       ∙ ap (asks below) (ap (λ (y : Bool). maybe y (slotOf (m .slot))) (sym e) ∙ k)
 
--- a record pattern, by whether the type is a union
+-- a Record against a Union, as the code reads them
+module _ (f : List ℕ) (o : Option (List FieldPattern)) (u : Option (List Alternative)) (r : Run) (k : SeenRun f (patternAt f) 4 o r) where
+  pub no-record : r ≡ Ru.Nothing → false ≡ isInjection o u
+  unfolding isInjection
+  no-record e = ap (λ (p : Option (List FieldPattern)). isInjection p u) (subst (SeenRun f (patternAt f) 4 o) e k .is)
+
+  module _ (i at : ℕ) (e : r ≡ Ru.Of i at) (q : Run) (l : SeenRun f (alternativeAt f) 8 u q) where
+    as-some : isInjection (some (run (patternAt f) 4 i at)) u ≡ isInjection o u
+    as-some = ap (λ (p : Option (List FieldPattern)). isInjection p u) (subst (SeenRun f (patternAt f) 4 o) e k .is)
+
+    pub no-union : q ≡ Ru.Nothing → false ≡ isInjection o u
+    unfolding isInjection
+    no-union g = ap (isInjection (some (run (patternAt f) 4 i at))) (subst (SeenRun f (alternativeAt f) 8 u) g l .is) ∙ as-some
+
+    pub record-and-union : (j from : ℕ) → q ≡ Ru.Of j from → true ≡ isInjection o u
+    unfolding isInjection
+    record-and-union j from g = ap (isInjection (some (run (patternAt f) 4 i at))) (subst (SeenRun f (alternativeAt f) 8 u) g l .is) ∙ as-some
+
+-- an injection or a read
 module _ (T : Tables) (a n t : ℕ) (path : File.FieldPath) (s₀ : State) where
-  abbrev either : FieldWalk State → Option (List Alternative) → State
-  either below o = elim o [ some alts ↦ injectAt T a below n t path s₀ | none ↦ read (ops T) T a below n t path s₀ ]
+  abbrev either : FieldWalk State → Bool → State
+  either below b = elim b [ true ↦ injectAt T a below n t path s₀ | false ↦ read (ops T) T a below n t path s₀ ]
 
-  module _ (f : List ℕ) (run : Run) (k : SeenRun f (alternativeAt f) 8 (unionTy (typeAt T t)) run) where
-    pub record-union : (i at : ℕ) → run ≡ Ru.Of i at → (slot : Slot) (w : Walk) → Begins T a n t path (λ below. recordWalk T a below n t path s₀) (record { next = Nx.Inject; slot = slot; walk = w }) s₀
-    unfolding finish recordWalk
-    record-union i at e slot w = record { is = λ below rest. ap (either below) (subst (SeenRun f (alternativeAt f) 8 (unionTy (typeAt T t))) e k .is) }
+  module _ (b : Bool) (k : b ≡ isInjection (recordFields (nodeAt T n)) (unionTy (typeAt T t))) where
+    pub place-injection : b ≡ true → (slot : Slot) (w : Walk) → Begins T a n t path (λ below. placeWalk T a below n t path s₀) (record { next = Nx.Inject; slot = slot; walk = w }) s₀
+    unfolding finish placeWalk
+    place-injection e slot w = record { is = λ below rest. ap (either below) (sym e ∙ k) }
 
-    pub record-read : run ≡ Ru.Nothing → (r : Begun) (s : State) → Begins T a n t path (λ below. read (ops T) T a below n t path s₀) r s → Begins T a n t path (λ below. recordWalk T a below n t path s₀) r s
-    unfolding recordWalk
-    record-read e r s b = record { is = λ below rest. b .is below rest ∙ ap (either below) (subst (SeenRun f (alternativeAt f) 8 (unionTy (typeAt T t))) e k .is) }
+    pub place-read : b ≡ false → (r : Begun) (s : State) → Begins T a n t path (λ below. read (ops T) T a below n t path s₀) r s → Begins T a n t path (λ below. placeWalk T a below n t path s₀) r s
+    unfolding placeWalk
+    place-read e r s g = record { is = λ below rest. g .is below rest ∙ ap (either below) (sym e ∙ k) }
+
+  abbrev byPairs : FieldWalk State → Option (List FieldPattern) → State
+  byPairs below o = either below (isInjection o (unionTy (typeAt T t)))
+
+  read-is : (below : FieldWalk State) → recordFields (nodeAt T n) ≡ none → placeWalk T a below n t path s₀ ≡ read (ops T) T a below n t path s₀
+  unfolding placeWalk isInjection
+  read-is below e = ap (byPairs below) e
 
   -- `injectAt` is `inject` of a record against a union
   module _ (below : FieldWalk State) (fs : List FieldPattern) (e : recordFields (nodeAt T n) ≡ some fs) where
@@ -78,34 +146,36 @@ module _ (T : Tables) (a n t : ℕ) (path : File.FieldPath) (s₀ : State) where
     abbrev opensAs : Option (List Alternative) → State
     opensAs o = elim o [ some alts ↦ inject (ops T) T a below fs alts n t path s₀ | none ↦ read (ops T) T a below n t path s₀ ]
 
-    either-is : (o : Option (List Alternative)) → unionTy (typeAt T t) ≡ o → either below o ≡ opensAs o
+    either-is : (o : Option (List Alternative)) → unionTy (typeAt T t) ≡ o → either below (isInjection (some fs) o) ≡ opensAs o
+    unfolding isInjection
     either-is none g = refl
     either-is (some alts) g = inject-is alts g
 
-    record-is : recordWalk T a below n t path s₀ ≡ fieldNode (ops T) T a below (Node.Record fs) n t path s₀
-    unfolding recordWalk fieldNode
-    record-is = either-is (unionTy (typeAt T t)) refl
+    record-is : placeWalk T a below n t path s₀ ≡ fieldNode (ops T) T a below (Node.Record fs) n t path s₀
+    unfolding placeWalk fieldNode
+    record-is = ap (byPairs below) e ∙ either-is (unionTy (typeAt T t)) refl
 
--- the kinds that are read
-reads-as : (T : Tables) (a : ℕ) (below : FieldWalk State) (f : List ℕ) (v : NodeView) (n t : ℕ) (path : File.FieldPath) (s : State) → OneOf (0 ∷ 1 ∷ 2 ∷ 9 ∷ 10 ∷ 11 ∷ 13 ∷ 14 ∷ 15 ∷ 16 ∷ []) (tagOf NodeViews.the-type v) → read (ops T) T a below n t path s ≡ fieldNode (ops T) T a below (nodeOf f v) n t path s
-unfolding fieldNode
-reads-as T a below f (Nv.Int at) n t path s w = refl
-reads-as T a below f (Nv.Str x) n t path s w = refl
-reads-as T a below f (Nv.Bytes i at) n t path s w = refl
-reads-as T a below f (Nv.Var x) n t path s w = absurd (miss (0 ∷ 1 ∷ 2 ∷ 9 ∷ 10 ∷ 11 ∷ 13 ∷ 14 ∷ 15 ∷ 16 ∷ []) 3 tt w)
-reads-as T a below f Nv.Wildcard n t path s w = absurd (miss (0 ∷ 1 ∷ 2 ∷ 9 ∷ 10 ∷ 11 ∷ 13 ∷ 14 ∷ 15 ∷ 16 ∷ []) 4 tt w)
-reads-as T a below f Nv.Never n t path s w = absurd (miss (0 ∷ 1 ∷ 2 ∷ 9 ∷ 10 ∷ 11 ∷ 13 ∷ 14 ∷ 15 ∷ 16 ∷ []) 5 tt w)
-reads-as T a below f (Nv.Prefix x) n t path s w = absurd (miss (0 ∷ 1 ∷ 2 ∷ 9 ∷ 10 ∷ 11 ∷ 13 ∷ 14 ∷ 15 ∷ 16 ∷ []) 6 tt w)
-reads-as T a below f (Nv.Fuzzy x d y) n t path s w = absurd (miss (0 ∷ 1 ∷ 2 ∷ 9 ∷ 10 ∷ 11 ∷ 13 ∷ 14 ∷ 15 ∷ 16 ∷ []) 7 tt w)
-reads-as T a below f (Nv.Record i at) n t path s w = absurd (miss (0 ∷ 1 ∷ 2 ∷ 9 ∷ 10 ∷ 11 ∷ 13 ∷ 14 ∷ 15 ∷ 16 ∷ []) 8 tt w)
-reads-as T a below f (Nv.Access x i) n t path s w = refl
-reads-as T a below f (Nv.Value i) n t path s w = refl
-reads-as T a below f (Nv.Select x i) n t path s w = refl
-reads-as T a below f Nv.Disjunction n t path s w = absurd (miss (0 ∷ 1 ∷ 2 ∷ 9 ∷ 10 ∷ 11 ∷ 13 ∷ 14 ∷ 15 ∷ 16 ∷ []) 12 tt w)
-reads-as T a below f Nv.Subquery n t path s w = refl
-reads-as T a below f (Nv.Fact p i) n t path s w = refl
-reads-as T a below f Nv.Arith n t path s w = refl
-reads-as T a below f Nv.Error n t path s w = refl
+-- the kinds that are injections or reads
+module _ (T : Tables) (a : ℕ) (below : FieldWalk State) (f : List ℕ) (n t : ℕ) (path : File.FieldPath) (s : State) where
+  places-as : (v : NodeView) → nodeOf f v ≡ nodeAt T n → OneOf (0 ∷ 1 ∷ 2 ∷ 8 ∷ 9 ∷ 10 ∷ 11 ∷ 13 ∷ 14 ∷ 15 ∷ 16 ∷ []) (tagOf NodeViews.the-type v) → placeWalk T a below n t path s ≡ fieldNode (ops T) T a below (nodeOf f v) n t path s
+  unfolding fieldNode recordFields
+  places-as (Nv.Int at) e w = read-is T a n t path s below (ap recordFields (sym e))
+  places-as (Nv.Str x) e w = read-is T a n t path s below (ap recordFields (sym e))
+  places-as (Nv.Bytes i at) e w = read-is T a n t path s below (ap recordFields (sym e))
+  places-as (Nv.Var x) e w = absurd (miss (0 ∷ 1 ∷ 2 ∷ 8 ∷ 9 ∷ 10 ∷ 11 ∷ 13 ∷ 14 ∷ 15 ∷ 16 ∷ []) 3 tt w)
+  places-as Nv.Wildcard e w = absurd (miss (0 ∷ 1 ∷ 2 ∷ 8 ∷ 9 ∷ 10 ∷ 11 ∷ 13 ∷ 14 ∷ 15 ∷ 16 ∷ []) 4 tt w)
+  places-as Nv.Never e w = absurd (miss (0 ∷ 1 ∷ 2 ∷ 8 ∷ 9 ∷ 10 ∷ 11 ∷ 13 ∷ 14 ∷ 15 ∷ 16 ∷ []) 5 tt w)
+  places-as (Nv.Prefix x) e w = absurd (miss (0 ∷ 1 ∷ 2 ∷ 8 ∷ 9 ∷ 10 ∷ 11 ∷ 13 ∷ 14 ∷ 15 ∷ 16 ∷ []) 6 tt w)
+  places-as (Nv.Fuzzy x d y) e w = absurd (miss (0 ∷ 1 ∷ 2 ∷ 8 ∷ 9 ∷ 10 ∷ 11 ∷ 13 ∷ 14 ∷ 15 ∷ 16 ∷ []) 7 tt w)
+  places-as (Nv.Record i at) e w = record-is T a n t path s below _ (ap recordFields (sym e))
+  places-as (Nv.Access x i) e w = read-is T a n t path s below (ap recordFields (sym e))
+  places-as (Nv.Value i) e w = read-is T a n t path s below (ap recordFields (sym e))
+  places-as (Nv.Select x i) e w = read-is T a n t path s below (ap recordFields (sym e))
+  places-as Nv.Disjunction e w = absurd (miss (0 ∷ 1 ∷ 2 ∷ 8 ∷ 9 ∷ 10 ∷ 11 ∷ 13 ∷ 14 ∷ 15 ∷ 16 ∷ []) 12 tt w)
+  places-as Nv.Subquery e w = read-is T a n t path s below (ap recordFields (sym e))
+  places-as (Nv.Fact p i) e w = read-is T a n t path s below (ap recordFields (sym e))
+  places-as Nv.Arith e w = read-is T a n t path s below (ap recordFields (sym e))
+  places-as Nv.Error e w = read-is T a n t path s below (ap recordFields (sym e))
 
 module _ (f : List ℕ) (T : Tables) (a n t : ℕ) (path : File.FieldPath) (s₀ : State) (v : NodeView) (k : SeenNode f (nodeAt T n) v) where
   abbrev whole : FieldWalk State → State
@@ -121,12 +191,8 @@ module _ (f : List ℕ) (T : Tables) (a n t : ℕ) (path : File.FieldPath) (s₀
   unfolding fieldNode
   as-var x e r s b = record { is = λ below rest. b .is below rest ∙ seen-as (Nv.Var x) e below }
 
-  pub as-record : (i at : ℕ) → v ≡ Nv.Record i at → (r : Begun) (s : State) → Begins T a n t path (λ below. recordWalk T a below n t path s₀) r s → Begins T a n t path whole r s
-  unfolding recordFields
-  as-record i at e r s b = record { is = λ below rest. b .is below rest ∙ record-is T a n t path s₀ below _ (ap recordFields (sym (node-is (Nv.Record i at) e))) ∙ seen-as (Nv.Record i at) e below }
-
-  pub as-read : OneOf (0 ∷ 1 ∷ 2 ∷ 9 ∷ 10 ∷ 11 ∷ 13 ∷ 14 ∷ 15 ∷ 16 ∷ []) (tagOf NodeViews.the-type v) → (r : Begun) (s : State) → Begins T a n t path (λ below. read (ops T) T a below n t path s₀) r s → Begins T a n t path whole r s
-  as-read w r s b = record { is = λ below rest. b .is below rest ∙ reads-as T a below f v n t path s₀ w ∙ seen-as v refl below }
+  pub as-place : OneOf (0 ∷ 1 ∷ 2 ∷ 8 ∷ 9 ∷ 10 ∷ 11 ∷ 13 ∷ 14 ∷ 15 ∷ 16 ∷ []) (tagOf NodeViews.the-type v) → (r : Begun) (s : State) → Begins T a n t path (λ below. placeWalk T a below n t path s₀) r s → Begins T a n t path whole r s
+  as-place w r s b = record { is = λ below rest. b .is below rest ∙ places-as T a below f n t path s₀ v (k .is) w ∙ seen-as v refl below }
 
   pub as-wildcard : v ≡ Nv.Wildcard → (s : State) → s ≡ skip s₀ → (below : FieldWalk State) → s ≡ whole below
   unfolding fieldNode

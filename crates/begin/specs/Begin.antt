@@ -24,6 +24,12 @@ abbrev pub diagnosed : ℕ → Code → Bool → State → State
 diagnosed n code true s = report n code (skip s)
 diagnosed n code false s = report n code s
 
+-- a Record against a Union
+unfoldable pub isInjection : Option (List FieldPattern) → Option (List Alternative) → Bool
+isInjection none alts = false
+isInjection (some fields) none = false
+isInjection (some fields) (some alts) = true
+
 module _ (T : Tables) (address : ℕ) (below : FieldWalk State) where
   -- a union value: `inject` of the written rules where the node is a Record and the type a Union
   unfoldable pub injectFields : Option (List FieldPattern) → Option (List Alternative) → ℕ → File.FieldPath → State → State
@@ -38,9 +44,9 @@ module _ (T : Tables) (address : ℕ) (below : FieldWalk State) where
         | none ↦ injectFields (recordFields (nodeAt T n)) (unionTy (typeAt T t)) n path s
       ]
 
-  -- a record pattern in `field`: an injection where the type is a Union
-  unfoldable pub recordWalk : FieldWalk State
-  recordWalk n t path s = elim (unionTy (typeAt T t)) [ some alts ↦ injectAt n t path s | none ↦ read (ops T) T address below n t path s ]
+  -- a pattern in `field` that is neither told apart nor bound there: an injection or a read
+  unfoldable pub placeWalk : FieldWalk State
+  placeWalk n t path s = elim (isInjection (recordFields (nodeAt T n)) (unionTy (typeAt T t))) [ true ↦ injectAt n t path s | false ↦ read (ops T) T address below n t path s ]
 
   -- `field`, past its match on the pattern
   unfoldable pub finish : Next → File.Slot → FieldWalk State

@@ -6,7 +6,7 @@ ghost use mathlib.Core.Option.{none};
 ghost use Prim.Native.Nat.{ℕ, _<_};
 ghost use lib.ListN.{length};
 ghost use Rattle.rules.specs.File as File;
-ghost use Rattle.rules.specs.File.{nodeAt, recordFields};
+ghost use Rattle.rules.specs.File.{typeAt, nodeAt, recordFields, unionTy};
 ghost use Rattle.rules.specs.Walk as Rules;
 ghost use Rattle.rules.specs.Walk.{FieldWalk};
 ghost use Rattle.state.specs.State.{State};
@@ -20,7 +20,7 @@ ghost use Rattle.tables.specs.Tables.{SeenRun};
 ghost use Rattle.lists.specs.Lists.{codeOf};
 ghost use Rattle.step.specs.Step.{walkState};
 ghost use Rattle.begin.specs.Pieces.{Fits, fieldsFor, Pieced};
-ghost use Rattle.begin.specs.Begin.{diagnosed, injectAt, injectFields, recordWalk, Begins, Meets, Chooses};
+ghost use Rattle.begin.specs.Begin.{diagnosed, injectAt, injectFields, isInjection, placeWalk, Begins, Meets, Chooses};
 use constrain::constrain;
 use constrain::narrow;
 use constrain::ranged;
@@ -244,7 +244,7 @@ fn begin_read(file: &[u8], index: &[u16], work: &mut [u8], node: usize, w: Walk)
     begin_pieces(file, index, work, node, mark.diagnostics, walk)
 }
 
-// A variable binds while it is new, before its constraints are read; else it is a read.
+// A variable binds while it is new, before its constraints are read; else it is read where it was bound.
 fn begin_variable(
     file: &[u8],
     index: &[u16],
@@ -259,19 +259,41 @@ fn begin_variable(
 ) -> Begun
     requires { ⌜ Ready (now file) (now index) ⌝ }
     requires { ⌜ ty < length (tablesOf (now file) .types) ⌝ }
+    requires { ⌜ nodeAt (tablesOf (now file)) node ≡ File.Node.Var name ⌝ }
     ensures { λ r. ⌜ Begins (tablesOf (now (file .entry))) (address .0) node ty (pathOf path) (λ below. Rules.variable (ops (tablesOf (now (file .entry)))) (tablesOf (now (file .entry))) (address .0) below name node ty (pathOf path) (walkState (tablesOf (now (file .entry))) w (now (work .entry)) (now (plan .entry)))) r (walkState (tablesOf (now (file .entry))) (r .walk) (now (work .exit)) (now (plan .exit))) ⌝ }
 {
     let found = lookup(file, index, work, w.lists, name);
     if found.some {
-        return begin_read(file, index, work, node, w);
+        let slot = found.slot;
+        return Begun {
+            next: Next::Matched,
+            slot,
+            walk: w,
+        };
     }
     let slot = Slot::field(address, path, ty);
     let b = w.bind(work, name, slot);
     done(constrain(file, index, work, plan, name, ty, path, b))
 }
 
-// A record pattern: an injection where the field is a union.
-fn begin_record(
+// Whether a pattern is a union value: a Record where the field is a union.
+fn is_injection(file: &[u8], index: &[u16], node: usize, ty: usize) -> bool
+    requires { ⌜ Indexed (now file) (now index) ⌝ }
+    requires { ⌜ ty < length (tablesOf (now file) .types) ⌝ }
+    ensures { λ r. ⌜ r ≡ isInjection (recordFields (nodeAt (tablesOf (now (file .entry))) node)) (unionTy (typeAt (tablesOf (now (file .entry))) ty)) ⌝ }
+{
+    let Run::Of(_, _) = pairs_of(file, index, node) else {
+        return false;
+    };
+    if let Run::Of(_, _) = union_ty(file, index, ty) {
+        true
+    } else {
+        false
+    }
+}
+
+// An injection, or a read.
+fn begin_place(
     file: &[u8],
     index: &[u16],
     work: &mut [u8],
@@ -281,9 +303,9 @@ fn begin_record(
 ) -> Begun
     requires { ⌜ Ready (now file) (now index) ⌝ }
     requires { ⌜ ty < length (tablesOf (now file) .types) ⌝ }
-    ensures { λ r. ⌜ ((address : ℕ) (path : File.FieldPath) (plan : List ℕ) → Begins (tablesOf (now (file .entry))) address node ty path (λ below. recordWalk (tablesOf (now (file .entry))) address below node ty path (walkState (tablesOf (now (file .entry))) w (now (work .entry)) plan)) r (walkState (tablesOf (now (file .entry))) (r .walk) (now (work .exit)) plan)) ⌝ }
+    ensures { λ r. ⌜ ((address : ℕ) (path : File.FieldPath) (plan : List ℕ) → Begins (tablesOf (now (file .entry))) address node ty path (λ below. placeWalk (tablesOf (now (file .entry))) address below node ty path (walkState (tablesOf (now (file .entry))) w (now (work .entry)) plan)) r (walkState (tablesOf (now (file .entry))) (r .walk) (now (work .exit)) plan)) ⌝ }
 {
-    if let Run::Of(_, _) = union_ty(file, index, ty) {
+    if is_injection(file, index, node, ty) {
         let slot = Slot::plain(SlotKind::Const(0));
         return Begun {
             next: Next::Inject,
@@ -320,9 +342,8 @@ pub fn begin(
         NodeView::Never => done(diagnose(work, node, Code::NyiNever, true, w)),
         NodeView::Prefix(_) => done(ranged(file, index, work, plan, node, ty, path, w)),
         NodeView::Fuzzy(_, _, _) => done(ranged(file, index, work, plan, node, ty, path, w)),
-        NodeView::Record(_, _) => begin_record(file, index, work, node, ty, w),
         NodeView::Disjunction => done(diagnose(work, node, Code::NyiDisjunction, true, w)),
-        _ => begin_read(file, index, work, node, w),
+        _ => begin_place(file, index, work, node, ty, w),
     }
 }
 

@@ -1,8 +1,9 @@
 -- How a call ends, and what that says of the plan buffer and the work area.
 use mathlib.Core.Bool.{true, false}
-use mathlib.Core.List.{List, _++_}
+use mathlib.Core.List.{List, [], _∷_, _++_}
 use Prim.Native.Nat.{ℕ, _-_, _*_, _≤_}
 use lib.Dec.{leb}
+use lib.Bits.{bitOr}
 use lib.ListN.{length, take, replicate}
 use Rattle.rules.specs.Limits.{fileLimit, workLimit}
 use Rattle.rules.specs.File.{Tables}
@@ -17,6 +18,11 @@ use Rattle.compile.specs.declared.Ending.the-variants.{Planned, Refused}
 -- the bytes from a place on all zero
 unfoldable pub zeroed : List ℕ → ℕ → List ℕ
 zeroed buf from = take from buf ++ replicate (length buf - from) 0
+
+-- the bits that are set in any of the bytes, or before them
+unfoldable pub bitsOf : ℕ → List ℕ → ℕ
+bitsOf set [] = set
+bitsOf set (b ∷ bs) = bitsOf (bitOr set b) bs
 
 -- the written rules' outcome: a plan stands at the front of its buffer
 unfoldable pub outcomeOf : Ending → List ℕ → Outcome

@@ -1,36 +1,62 @@
 use mathlib.Core.Path.{_≡_, refl, sym, _∙_}
 use native.Mathlib.Omega.{arith}
-use lib.ListN.{length, length-set}
+use lib.ListN.{length}
 use Prim.Native.Nat.{_-_}
 use Rattle.compile.specs.Endings.{zeroed}
-use Rattle.compile.proofs.Zeroes.{zero-more, zero-end}
+use Rattle.compile.proofs.Zeroes.{zero-end, block-same, block-more}
 use Rattle.compile.proofs.zero.Statement.{statement}
 use Rattle.compile.proofs.zero.Tie as tie
+use Rattle.compile.proofs.zero.Reads as reads
+use Rattle.compile.proofs.zero.Lts as lts
+use Rattle.compile.proofs.block_end.Reads as block-end-reads
+use Rattle.compile.proofs.clear.Reads as clear-reads
 
 abbrev Inv-loop : tie.InvT-loop
-Inv-loop buf₀ from i₀ buf i = (length buf ≡ length buf₀) × (zeroed buf₀ from ≡ zeroed buf i)
+Inv-loop buf₀ from at₀ buf at = (length buf ≡ length buf₀) × (zeroed buf₀ from ≡ zeroed buf at)
 
 abbrev μ-loop : tie.MeasureT-loop
-μ-loop buf₀ from i₀ buf i = length buf - i
+μ-loop buf₀ from at₀ buf at = length buf - at
 
+-- src/lib.rt:80:5
 loop-holds : tie.Need-loop-holds Inv-loop μ-loop
 loop-holds c = (refl, refl)
 
-slice-write-buf : tie.Need-slice-write-buf Inv-loop μ-loop
-slice-write-buf c = omega arith
+-- src/lib.rt:81:13
+block-end-requires : tie.Need-block-end-requires Inv-loop μ-loop
+block-end-requires c κs = c .loop-test .taken
 
-add-i : tie.Need-add-i Inv-loop μ-loop
-add-i c = omega arith
+-- src/lib.rt:82:15
+sub-clear : tie.Need-sub-clear Inv-loop μ-loop
+sub-clear c = omega (arith, c .block-end .ensures .0)
 
+-- src/lib.rt:82:15
+part-clear-start : tie.Need-part-clear-start Inv-loop μ-loop
+part-clear-start c = omega (arith, c .block-end .ensures .0)
+
+-- src/lib.rt:82:15
+part-clear-end : tie.Need-part-clear-end Inv-loop μ-loop
+part-clear-end c = c .block-end .ensures .1
+
+-- src/lib.rt:82:9
+clear-requires : tie.Need-clear-requires Inv-loop μ-loop
+clear-requires c κs = tt
+
+-- src/lib.rt:80:5
 loop-less : tie.Need-loop-less Inv-loop μ-loop
-loop-less c = simp length-set (omega arith)
+loop-less c = let b = c .before .before .before .before .block-end .ensures in omega (arith, b .0, b .1, block-same _ _ _ _ (omega (arith, b .0)) (b .1) (c .before .before .clear .ensures))
 
+-- src/lib.rt:80:5
 loop-again : tie.Need-loop-again Inv-loop μ-loop
-loop-again c = (simp length-set (c .before .loop .inv .0), c .before .loop .inv .1 ∙ zero-more _ _ (c .loop-test .taken))
+loop-again c =
+    let b = c .before .before .before .before .block-end .ensures in
+    let k = c .before .before .before .before .before .before .loop .inv in
+    (block-same _ _ _ _ (omega (arith, b .0)) (b .1) (c .before .before .clear .ensures) ∙ k .0, k .1 ∙ block-more _ _ _ _ (omega (arith, b .0)) (b .1) (c .before .before .clear .ensures))
 
+-- src/lib.rt:76:1
 same-length : tie.Need-same-length Inv-loop μ-loop
 same-length c = c .before .loop .inv .0
 
+-- src/lib.rt:76:1
 returns : tie.Need-returns Inv-loop μ-loop
 returns c = sym (c .before .loop .inv .1 ∙ zero-end _ _ (c .loop-test .left))
 
@@ -41,8 +67,11 @@ zero-spec =
     Inv-loop
     μ-loop
     loop-holds
-    slice-write-buf
-    add-i
+    block-end-requires
+    sub-clear
+    part-clear-start
+    part-clear-end
+    clear-requires
     loop-less
     loop-again
     same-length
