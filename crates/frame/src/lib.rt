@@ -159,11 +159,11 @@ fn put_tail(plan: &mut [u8], at: usize, l: SeekBuilder)
     if n == 0 {
         return;
     }
-    put16(plan, at + 2, f.first);
+    put16(plan, at + 2, f.first as usize);
     if n == 1 {
         return;
     }
-    put16(plan, at + 4, f.second);
+    put16(plan, at + 4, f.second as usize);
 }
 
 // A range's text and path, or the two edges, up to the cap.
@@ -179,7 +179,10 @@ fn between_len(file: &[u8], index: &[u16], l: SeekBuilder) -> usize
     }
     if seek == 2 {
         let range = l.range;
-        return capped(prefix_text_len(file, index, range.name), path_size(l.path));
+        return capped(
+            prefix_text_len(file, index, range.name as usize),
+            path_size(l.path),
+        );
     }
     0
 }
@@ -198,7 +201,7 @@ fn put_between(file: &[u8], index: &[u16], plan: &mut [u8], at: usize, l: SeekBu
     }
     if seek == 2 {
         let range = l.range;
-        let p = put_prefix_text(file, index, plan, at, range.name);
+        let p = put_prefix_text(file, index, plan, at, range.name as usize);
         return put_path(plan, p, l.path);
     }
     at

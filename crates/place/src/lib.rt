@@ -70,7 +70,7 @@ pub fn prefix(
     ensures { λ r. ⌜ ((e : Ends) (w : List ℕ) → stateOf (tablesOf (now (file .entry))) r e w (now (plan .exit)) ≡ Ops.narrow (pathOf path) (Narrowing.Prefix (encodePrefix (nameAt (tablesOf (now (file .entry))) name))) (stateOf (tablesOf (now (file .entry))) level e w (now (plan .entry)))) ⌝ }
 {
     let len = prefix_len(file, index, name);
-    let p = level.prefix(path, name, len, plan);
+    let p = level.prefix(path, name as u16, len, plan);
     let place = p.place;
     let l = p.level;
     if place.write {
@@ -115,13 +115,14 @@ fn edge_at(
     ty: usize,
 ) -> SeekBuilder
     requires { ⌜ Ready (now file) (now index) ⌝ }
+    requires { ⌜ k < length (tablesOf (now file) .comparisons) ⌝ }
     requires { ⌜ node < length (tablesOf (now file) .nodes) ⌝ }
     requires { ⌜ ty < length (tablesOf (now file) .types) ⌝ }
     ensures { λ r. ⌜ ((e : Ends) (w p : List ℕ) → stateOf (tablesOf (now (file .entry))) r e w p ≡ Ops.relevel (λ l. Ops.withEdges (edgeBy (tablesOf (now (file .entry))) k (opOf op) node ty (l .edges)) l) (stateOf (tablesOf (now (file .entry))) level e w p)) ⌝ }
 {
     match constant(file, index, node, ty) {
         Const::Nothing => level,
-        Const::Bytes(_, _, _) => level.edge(k, op, node, ty),
+        Const::Bytes(_, _, _) => level.edge(k as u16, op, node as u16, ty as u16),
         Const::Prefix(_) => level,
         Const::Fuzzy(_, _, _) => level,
     }

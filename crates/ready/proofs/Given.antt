@@ -2,7 +2,7 @@
 use Prim.Native.Nat.{ℕ, _≤_}
 use mathlib.Core.List.{List}
 use lib.ListN.{length}
-use Rattle.rules.specs.Limits.{nameLimit, typeLimit, nodeLimit, bindingLimit}
+use Rattle.rules.specs.Limits.{nameLimit, typeLimit, nodeLimit, bindingLimit, comparisonLimit}
 use Rattle.rules.proofs.Sound.{Passed, Sound, passed-all, sound}
 use Rattle.file.specs.Steps.{limitOf}
 use Rattle.file.specs.Tables.{Indexed, tablesOf}
@@ -24,6 +24,10 @@ module _ (f ix : List ℕ) (i : Indexed f ix) where
   pub few-bindings : length (tablesOf f .bindings) ≤ bindingLimit
   unfolding limitOf
   few-bindings = i .bindings .under
+
+  pub few-comparisons : length (tablesOf f .comparisons) ≤ comparisonLimit
+  unfolding limitOf
+  few-comparisons = i .comparisons .under
 
 pub passed : (f ix : List ℕ) → Ready f ix → Passed (tablesOf f)
 passed f ix r = passed-all (tablesOf f) (r .accepted)

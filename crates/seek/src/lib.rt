@@ -62,8 +62,8 @@ pub struct Sums {
 pub struct Edge {
     pub set: bool,
     pub inclusive: bool,
-    pub node: usize,
-    pub ty: usize,
+    pub node: u16,
+    pub ty: u16,
 }
 
 pub struct Guide {
@@ -76,13 +76,13 @@ pub struct Guide {
 // A Prefix node's text is its name.
 pub struct Range {
     pub set: bool,
-    pub name: usize,
+    pub name: u16,
 }
 
 // The indices of the comparisons that gave the edges, as many as there are edges.
 pub struct Folded {
-    pub first: usize,
-    pub second: usize,
+    pub first: u16,
+    pub second: u16,
 }
 
 // Where the parts and the residuals begin in the plan.
@@ -247,7 +247,7 @@ impl Sums {
 
 impl Folded {
     // One index more, after the other edge's if that is set.
-    fn then(self, other: bool, index: usize) -> Folded
+    fn then(self, other: bool, index: u16) -> Folded
         ensures { λ r. ⌜ r ≡ foldedThen other index self ⌝ }
     {
         if other {
@@ -618,7 +618,7 @@ impl SeekBuilder {
     }
 
     // A prefix while building: the range.
-    fn ranged(self, path: FieldPath, name: usize) -> SeekBuilder
+    fn ranged(self, path: FieldPath, name: u16) -> SeekBuilder
         requires { ⌜ self .building ≡ true ⌝ }
         ensures { λ r. ⌜ ((T : Tables) (e : Ends) (w p : List ℕ) → stateOf T r e w p ≡ Ops.grow (Ops.withRange (pathOf path) (encodePrefix (nameAt T name)) (levelOf T self)) 0 [] (stateOf T self e w p)) ⌝ }
     {
@@ -682,7 +682,7 @@ impl SeekBuilder {
     }
 
     // A prefix, whose `len` bytes are yet to be written if it is a residual: the range while building.
-    pub fn prefix(self, path: FieldPath, name: usize, len: usize, plan: &mut [u8]) -> Placed
+    pub fn prefix(self, path: FieldPath, name: u16, len: usize, plan: &mut [u8]) -> Placed
         requires { ⌜ len < 549755813888 ⌝ }
         ensures { λ r. ⌜ ((T : Tables) (e : Ends) (w : List ℕ) → length (encodePrefix (nameAt T name)) ≡ len → stateOf T (r .level) e w (written (r .place) (encodePrefix (nameAt T name)) (now (plan .exit))) ≡ Ops.narrow (pathOf path) (Narrowing.Prefix (encodePrefix (nameAt T name))) (stateOf T self e w (now (plan .entry)))) × (r .place .at ≤ 34359738368) × (r .place .write ≡ true → len ≤ 16384) ⌝ }
     {
@@ -697,7 +697,7 @@ impl SeekBuilder {
     }
 
     // The first edge of each sense is taken, with its comparison's index.
-    fn take_hi(self, index: usize, inclusive: bool, node: usize, ty: usize) -> SeekBuilder
+    fn take_hi(self, index: u16, inclusive: bool, node: u16, ty: u16) -> SeekBuilder
         ensures { λ r. ⌜ ((T : Tables) (e : Ends) (w p : List ℕ) → stateOf T r e w p ≡ Ops.relevel (λ l. Ops.withEdges (takeHi index (edge (constantBytes T node ty) inclusive) (l .edges)) l) (stateOf T self e w p)) ⌝ }
     {
         let hi = self.hi;
@@ -719,7 +719,7 @@ impl SeekBuilder {
         l
     }
 
-    fn take_lo(self, index: usize, inclusive: bool, node: usize, ty: usize) -> SeekBuilder
+    fn take_lo(self, index: u16, inclusive: bool, node: u16, ty: u16) -> SeekBuilder
         ensures { λ r. ⌜ ((T : Tables) (e : Ends) (w p : List ℕ) → stateOf T r e w p ≡ Ops.relevel (λ l. Ops.withEdges (takeLo index (edge (constantBytes T node ty) inclusive) (l .edges)) l) (stateOf T self e w p)) ⌝ }
     {
         let lo = self.lo;
@@ -742,7 +742,7 @@ impl SeekBuilder {
     }
 
     // A comparison with a constant's bytes, read from the variable's side.
-    pub fn edge(self, index: usize, op: CompareOp, node: usize, ty: usize) -> SeekBuilder
+    pub fn edge(self, index: u16, op: CompareOp, node: u16, ty: u16) -> SeekBuilder
         ensures { λ r. ⌜ ((T : Tables) (e : Ends) (w p : List ℕ) → stateOf T r e w p ≡ Ops.relevel (λ l. Ops.withEdges (takeEdge index (opOf op) (constantBytes T node ty) (l .edges)) l) (stateOf T self e w p)) ⌝ }
     {
         match op {

@@ -110,7 +110,7 @@ pub fn edge_len(file: &[u8], index: &[u16], e: Edge) -> usize
     ensures { λ r. ⌜ r ≡ min cap (length (Plan.edge (edgeOf (tablesOf (now (file .entry))) e))) ⌝ }
 {
     if e.set {
-        capped(3, bytes_len(file, index, e.node, e.ty))
+        capped(3, bytes_len(file, index, e.node as usize, e.ty as usize))
     } else {
         1
     }
@@ -129,7 +129,7 @@ pub fn put_edge(file: &[u8], index: &[u16], buf: &mut [u8], at: usize, e: Edge) 
 {
     if e.set {
         put8(buf, at, inclusive(e));
-        put_text(file, index, buf, at + 1, e.node, e.ty)
+        put_text(file, index, buf, at + 1, e.node as usize, e.ty as usize)
     } else {
         put8(buf, at, 0);
         at + 1

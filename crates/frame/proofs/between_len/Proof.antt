@@ -30,6 +30,10 @@ capped-requires c κs = search needs
 returns : tie.Need-returns
 returns c = edges-size _ _ _ (c .before .before .before .before .before .before .seek-number .ensures _) _ _ _ (c .before .before .before .before .before .if1 .taken) (c .before .before .edge-len .ensures) (c .before .edge-len2 .ensures) (c .capped .ensures)
 
+-- src/lib.rt:182:52
+cast-prefix-text-len : tie.Need-cast-prefix-text-len
+cast-prefix-text-len c = search needs
+
 -- src/lib.rt:179:23
 prefix-text-len-requires : tie.Need-prefix-text-len-requires
 prefix-text-len-requires c κs = search needs
@@ -44,7 +48,7 @@ capped-requires-2 c κs = search needs
 
 -- src/lib.rt:179:9
 returns-2 : tie.Need-returns-2
-returns-2 c = range-size _ _ _ (c .before .before .before .before .before .before .seek-number .ensures _) _ _ _ (c .before .before .before .before .if2 .taken) (c .before .before .prefix-text-len .ensures .0) (c .before .path-size .ensures .0) (c .capped2 .ensures)
+returns-2 c = range-size _ _ _ (c .before .before .before .before .before .before .before .seek-number .ensures _) _ _ _ (c .before .before .before .before .before .if2 .taken) (c .before .before .prefix-text-len .ensures .0) (c .before .path-size .ensures .0) (c .capped2 .ensures)
 
 -- src/lib.rt:167:1
 returns-3 : tie.Need-returns-3
@@ -59,6 +63,7 @@ between-len-spec =
     edge-len-requires-2
     capped-requires
     returns
+    cast-prefix-text-len
     prefix-text-len-requires
     path-size-requires
     capped-requires-2

@@ -35,6 +35,10 @@ same-length c = search needs
 returns : tie.Need-returns
 returns c = put-edges _ _ _ (c .before .before .before .before .before .before .before .before .before .before .before .seek-number .ensures _) _ _ _ _ _ _ (c .before .before .before .before .before .before .before .before .before .before .if1 .taken) (c .before .before .before .before .before .before .put-edge .ensures) (c .before .before .put-edge2 .ensures)
 
+-- src/lib.rt:201:56
+cast-put-prefix-text : tie.Need-cast-put-prefix-text
+cast-put-prefix-text c = search needs
+
 -- src/lib.rt:198:13
 put-prefix-text-requires : tie.Need-put-prefix-text-requires
 put-prefix-text-requires c κs = search needs
@@ -42,8 +46,8 @@ put-prefix-text-requires c κs = search needs
 -- src/lib.rt:199:9
 put-path-requires : tie.Need-put-path-requires
 put-path-requires c κs =
-    let s = c .before .before .before .before .before .before .before .before .before .before .before .before in
-    let h = range-small (tablesOf (now (s .args .file))) (s .args .l) _ (c .before .before .before .before .before .before .before .before .seek-number .ensures _) (c .before .before .before .before .before .before .if2 .taken) (s .pre .1 .1) in
+    let s = c .before .before .before .before .before .before .before .before .before .before .before .before .before in
+    let h = range-small (tablesOf (now (s .args .file))) (s .args .l) _ (c .before .before .before .before .before .before .before .before .before .seek-number .ensures _) (c .before .before .before .before .before .before .before .if2 .taken) (s .pre .1 .1) in
     omega (arith, s .pre .1 .0, h, c .before .before .before .put-prefix-text .ensures .place)
 
 -- src/lib.rt:199:9
@@ -52,7 +56,7 @@ same-length-2 c = search needs
 
 -- src/lib.rt:199:9
 returns-2 : tie.Need-returns-2
-returns-2 c = put-range _ _ _ (c .before .before .before .before .before .before .before .before .before .before .before .seek-number .ensures _) _ _ _ _ _ _ (c .before .before .before .before .before .before .before .before .before .if2 .taken) (c .before .before .before .before .before .before .put-prefix-text .ensures) (c .before .before .put-path .ensures .0) (c .before .before .put-path .ensures .2)
+returns-2 c = put-range _ _ _ (c .before .before .before .before .before .before .before .before .before .before .before .before .seek-number .ensures _) _ _ _ _ _ _ (c .before .before .before .before .before .before .before .before .before .before .if2 .taken) (c .before .before .before .before .before .before .put-prefix-text .ensures) (c .before .before .put-path .ensures .0) (c .before .before .put-path .ensures .2)
 
 -- src/lib.rt:184:1
 returns-3 : tie.Need-returns-3
@@ -67,6 +71,7 @@ put-between-spec =
     put-edge-requires-2
     same-length
     returns
+    cast-put-prefix-text
     put-prefix-text-requires
     put-path-requires
     same-length-2

@@ -32,7 +32,7 @@ edge-at-requires c κs =
     let g : r .result .right ≡ comparisonAt T (a .args .k) .right = ap (λ (y : Comparison). y .right) (r .ensures) in
     let p = left-in _ _ (a .pre .0) (a .args .k) (a .pre .1 .0) in
     let q = right-in _ _ (a .pre .0) (a .args .k) (a .pre .1 .0) in
-    (a .pre .0, (omega arith, a .pre .1 .1))
+    (a .pre .0, (a .pre .1 .0, (omega arith, a .pre .1 .1)))
 
 returns : tie.Need-returns
 returns c = λ e w p.
@@ -65,7 +65,7 @@ edge-at-requires-2 c κs =
     let g : r .result .right ≡ comparisonAt T (a .args .k) .right = ap (λ (y : Comparison). y .right) (r .ensures) in
     let p = left-in _ _ (a .pre .0) (a .args .k) (a .pre .1 .0) in
     let q = right-in _ _ (a .pre .0) (a .args .k) (a .pre .1 .0) in
-    (a .pre .0, (omega arith, a .pre .1 .1))
+    (a .pre .0, (a .pre .1 .0, (omega arith, a .pre .1 .1)))
 
 returns-2 : tie.Need-returns-2
 returns-2 c = λ e w p.

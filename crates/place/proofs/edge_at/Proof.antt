@@ -2,6 +2,8 @@ use mathlib.Core.Path.{_≡_, sym, _∙_}
 use Rattle.constant.specs.declared.Const.the-variants as Co
 use Rattle.place.proofs.Consts.{known, not-bytes, nothing-not, prefix-not, fuzzy-not}
 use Rattle.place.proofs.Folds.{edges-same, edges-stay, edge-none, edge-bytes}
+use native.Mathlib.Omega.{arith}
+use Rattle.ready.proofs.Given.{few-types, few-nodes, few-comparisons}
 use borrow.Author.Needs.{needs}
 use Rattle.place.proofs.edge_at.Statement.{statement}
 use Rattle.place.proofs.edge_at.Tie as tie
@@ -14,6 +16,15 @@ enum-told c = search needs
 
 enum-told-2 : tie.Need-enum-told-2
 enum-told-2 c = search needs
+
+cast-edge : tie.Need-cast-edge
+cast-edge c = let a = c .before .before .before .before .before in omega (arith, a .pre .1 .0, few-comparisons _ _ (a .pre .0 .indexed))
+
+cast-edge-2 : tie.Need-cast-edge-2
+cast-edge-2 c = let a = c .before .before .before .before .before in omega (arith, a .pre .1 .1 .0, few-nodes _ _ (a .pre .0 .indexed))
+
+cast-edge-3 : tie.Need-cast-edge-3
+cast-edge-3 c = let a = c .before .before .before .before .before in omega (arith, a .pre .1 .1 .1, few-types _ _ (a .pre .0 .indexed))
 
 edge-requires : tie.Need-edge-requires
 edge-requires c κs = search needs
@@ -51,6 +62,9 @@ edge-at-spec =
     constant-requires
     enum-told
     enum-told-2
+    cast-edge
+    cast-edge-2
+    cast-edge-3
     edge-requires
     enum-told-3
     enum-told-4

@@ -4,12 +4,17 @@ use Rattle.rules.specs.File.{nameAt}
 use Rattle.rules.specs.Constant.{encodePrefix}
 use Rattle.seek.specs.Seek.{stateOf}
 use Rattle.records.proofs.Places.{on, off}
+use native.Mathlib.Omega.{arith}
+use Rattle.ready.proofs.Given.{few-names}
 use borrow.Author.Needs.{needs}
 use Rattle.place.proofs.prefix.Statement.{statement}
 use Rattle.place.proofs.prefix.Tie as tie
 
 prefix-len-requires : tie.Need-prefix-len-requires
 prefix-len-requires c κs = search needs
+
+cast-prefix : tie.Need-cast-prefix
+cast-prefix c = let a = c .before .before .before .before in omega (arith, a .pre .1, few-names _ _ (a .pre .0 .indexed))
 
 prefix-requires : tie.Need-prefix-requires
 prefix-requires c κs = search needs
@@ -44,6 +49,7 @@ prefix-spec =
     tie.close
     (tie.spec
     prefix-len-requires
+    cast-prefix
     prefix-requires
     put-prefix-requires
     same-length

@@ -21,9 +21,17 @@ put8-requires c κs = search needs
 add-put-text : tie.Need-add-put-text
 add-put-text c = search needs
 
+-- src/lib.rt:132:44
+cast-put-text : tie.Need-cast-put-text
+cast-put-text c = search needs
+
+-- src/lib.rt:132:61
+cast-put-text-2 : tie.Need-cast-put-text-2
+cast-put-text-2 c = search needs
+
 -- src/lib.rt:132:9
 put-text-requires : tie.Need-put-text-requires
-put-text-requires c κs = let s = c .before .before .before .before .before .before .before .before .before .before in (s .pre .0, (omega (arith, s .pre .1 .0), value-small _ _ (c .before .before .before .before .before .before .if1 .taken) (s .pre .1 .1)))
+put-text-requires c κs = let s = c .before .before .before .before .before .before .before .before .before .before .before .before in (s .pre .0, (omega (arith, s .pre .1 .0), value-small _ _ (c .before .before .before .before .before .before .before .before .if1 .taken) (s .pre .1 .1)))
 
 -- src/lib.rt:134:9
 put8-requires-2 : tie.Need-put8-requires-2
@@ -39,7 +47,7 @@ same-length c = search needs
 
 -- src/lib.rt:125:1
 returns : tie.Need-returns
-returns c = put-set _ _ _ _ _ _ _ _ (c .before .before .before .before .before .before .before .before .before .if1 .taken) (c .before .before .before .before .before .before .before .inclusive .ensures) (c .before .before .before .before .before .before .put8 .ensures) (c .before .before .put-text .ensures)
+returns c = put-set _ _ _ _ _ _ _ _ (c .before .before .before .before .before .before .before .before .before .before .before .if1 .taken) (c .before .before .before .before .before .before .before .before .before .inclusive .ensures) (c .before .before .before .before .before .before .before .before .put8 .ensures) (c .before .before .put-text .ensures)
 
 -- src/lib.rt:125:1
 same-length-2 : tie.Need-same-length-2
@@ -56,6 +64,8 @@ put-edge-spec =
     inclusive-requires
     put8-requires
     add-put-text
+    cast-put-text
+    cast-put-text-2
     put-text-requires
     put8-requires-2
     add-result
