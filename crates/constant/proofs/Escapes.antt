@@ -1,5 +1,5 @@
 -- Escaped bytes, one after another.
-use Prim.Native.Nat.{ℕ, suc, _+_, _*_, _-_, _≤_, _<_}
+use Prim.Native.Nat.{ℕ, _+_, _*_, _-_, _≤_, _<_}
 use mathlib.Core.Path.{_≡_, refl, sym, ap, _∙_}
 use mathlib.Core.Bool.{Bool, true, false}
 use mathlib.Core.List.{List, [], _∷_, _++_}
@@ -11,6 +11,7 @@ use borrow.Author.Tests.{eq-eqb, ne-eqb}
 use Rattle.rules.specs.Constant.{escape}
 use Rattle.rules.proofs.Cases.{by-test}
 use Rattle.views.specs.Views.{run, byteAt}
+use Rattle.views.proofs.Runs.{run-none, run-more}
 
 pub escape-cons : (b : ℕ) (bs : List ℕ) → escape (b ∷ bs) ≡ escape (b ∷ []) ++ escape bs
 unfolding escape
@@ -37,25 +38,37 @@ width-at b w e = omega (arith, width-most b)
 
 -- n bytes of f from at on, of which i are done
 module _ (f : List ℕ) (n at : ℕ) where
+  unfoldable pub bytesFrom : ℕ → List ℕ
+  bytesFrom i = run (byteAt f) 1 (n - i) (at + i)
+
+  pub bytes-start : run (byteAt f) 1 n at ≡ bytesFrom 0
+  unfolding bytesFrom
+  bytes-start = ap (λ (k : ℕ). run (byteAt f) 1 k at) (sym (sub-zero n)) ∙ ap (run (byteAt f) 1 (n - 0)) (sym (add-zero at))
+
+  pub bytes-more : (i : ℕ) → i < n → bytesFrom i ≡ getD f (at + i) 0 ∷ bytesFrom (i + 1)
+  unfolding bytesFrom byteAt
+  bytes-more i h =
+      let a : at + i + 1 ≡ at + (i + 1) = omega arith in
+      run-more (byteAt f) 1 (n - i) (n - (i + 1)) (at + i) (omega arith) ∙ ap (λ (k : ℕ). getD f (at + i) 0 ∷ run (byteAt f) 1 (n - (i + 1)) k) a
+
+  pub bytes-end : (i : ℕ) → n ≤ i → bytesFrom i ≡ []
+  unfolding bytesFrom
+  bytes-end i h = run-none (byteAt f) 1 (n - i) (at + i) (omega arith)
+
   unfoldable pub escapedFrom : ℕ → List ℕ
-  escapedFrom i = escape (run (byteAt f) 1 (n - i) (at + i))
+  escapedFrom i = escape (bytesFrom i)
 
   pub escaped-start : escape (run (byteAt f) 1 n at) ≡ escapedFrom 0
   unfolding escapedFrom
-  escaped-start = ap (λ (k : ℕ). escape (run (byteAt f) 1 k at)) (sym (sub-zero n)) ∙ ap (λ (k : ℕ). escape (run (byteAt f) 1 (n - 0) k)) (sym (add-zero at))
+  escaped-start = ap escape bytes-start
 
   pub escaped-more : (i : ℕ) → i < n → escapedFrom i ≡ escape (getD f (at + i) 0 ∷ []) ++ escapedFrom (i + 1)
-  unfolding escapedFrom run byteAt
-  escaped-more i h =
-      let m : n - i ≡ suc (n - (i + 1)) = omega arith in
-      let a : at + i + 1 ≡ at + (i + 1) = omega arith in
-      ap (λ (k : ℕ). escape (run (byteAt f) 1 k (at + i))) m
-      ∙ escape-cons (getD f (at + i) 0) (run (byteAt f) 1 (n - (i + 1)) (at + i + 1))
-      ∙ ap (λ (k : ℕ). escape (getD f (at + i) 0 ∷ []) ++ escape (run (byteAt f) 1 (n - (i + 1)) k)) a
+  unfolding escapedFrom
+  escaped-more i h = ap escape (bytes-more i h) ∙ escape-cons (getD f (at + i) 0) (bytesFrom (i + 1))
 
   pub escaped-end : (i : ℕ) → n ≤ i → escapedFrom i ≡ []
-  unfolding escapedFrom run escape
-  escaped-end i h = let m : n - i ≡ 0 = omega arith in ap (λ (k : ℕ). escape (run (byteAt f) 1 k (at + i))) m
+  unfolding escapedFrom escape
+  escaped-end i h = ap escape (bytes-end i h)
 
   -- a count of their lengths
   pub record Counted (len i : ℕ) : Type 0 where

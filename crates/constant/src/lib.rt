@@ -9,6 +9,7 @@ ghost use Rattle.rules.specs.Constant.{escape, encodePrefix, constantFields, co
 ghost use Rattle.file.specs.Tables.{Indexed, tablesOf};
 ghost use Rattle.views.specs.Views.{run, byteAt, fieldAt, alternativeAt, patternAt};
 ghost use Rattle.ready.specs.Ready.{Ready};
+ghost use Rattle.constant.specs.Plain.{leastByte, plain};
 ghost use Rattle.constant.specs.Sizes.{cap, sizeWith, Small, viewOf, constView, intOnly, strOnly, bytesAlone, sizeOf, wrapped, fieldBytes, payloadBytes, Patterns, Fields, Alternatives};
 use tables::Found;
 use tables::MaybeAlternative;
@@ -58,8 +59,37 @@ fn width(b: u8) -> usize
     if b == 0 { 2 } else { 1 }
 }
 
-// How many bytes the n bytes from at on take, a zero byte taking two.
-pub fn escaped_len(file: &[u8], at: usize, n: usize) -> usize
+// The lesser of two bytes.
+fn least(a: u8, b: u8) -> u8
+    ensures { λ r. ⌜ r ≡ min a b ⌝ }
+{
+    if a < b { a } else { b }
+}
+
+// The least of the n bytes from at on, 255 where there is none. Only one byte is kept, so that the loop becomes vector code.
+fn least_byte(file: &[u8], at: usize, n: usize) -> u8
+    requires { ⌜ at + n ≤ length (now file) ⌝ }
+    ensures { λ r. ⌜ r ≡ leastByte (run (byteAt (now (file .entry))) 1 n at) ⌝ }
+{
+    let mut low: u8 = 255;
+    let mut i: usize = 0;
+    while i < n {
+        low = least(low, file[at + i]);
+        i += 1;
+    }
+    low
+}
+
+// Whether none of the n bytes from at on is zero: then they are their own escaped form.
+pub fn is_plain(file: &[u8], at: usize, n: usize) -> bool
+    requires { ⌜ at + n ≤ length (now file) ⌝ }
+    ensures { λ r. ⌜ r ≡ plain (run (byteAt (now (file .entry))) 1 n at) ⌝ }
+{
+    0 < least_byte(file, at, n)
+}
+
+// What escaped_len gives, counted byte by byte.
+fn count_escaped(file: &[u8], at: usize, n: usize) -> usize
     requires { ⌜ (at + n ≤ length (now file)) × (n ≤ 32768) ⌝ }
     ensures { λ r. ⌜ (r ≡ length (escape (run (byteAt (now (file .entry))) 1 n at))) × (r ≤ 2 * n) ⌝ }
 {
@@ -70,6 +100,17 @@ pub fn escaped_len(file: &[u8], at: usize, n: usize) -> usize
         i += 1;
     }
     len
+}
+
+// How many bytes the n bytes from at on take, a zero byte taking two. Nearly every text is plain and takes its own length.
+pub fn escaped_len(file: &[u8], at: usize, n: usize) -> usize
+    requires { ⌜ (at + n ≤ length (now file)) × (n ≤ 32768) ⌝ }
+    ensures { λ r. ⌜ (r ≡ length (escape (run (byteAt (now (file .entry))) 1 n at))) × (r ≤ 2 * n) ⌝ }
+{
+    if is_plain(file, at, n) {
+        return n;
+    }
+    count_escaped(file, at, n)
 }
 
 // The length of a name's prefix bytes: 03 and its text.

@@ -1,17 +1,20 @@
 -- Bytes written one run after another.
 use Prim.Native.Nat.{ℕ, zero, suc, _+_, _*_, _-_, _%_, _≤_, _<_}
 use mathlib.Core.Path.{_≡_, refl, sym, ap, _∙_, subst}
+use mathlib.Core.Bool.{true}
 use mathlib.Core.List.{List, [], _∷_, _++_, reverse, reverse-cons}
 use native.Mathlib.Nat.{add-zero}
 use native.Mathlib.Omega.{arith}
-use lib.ListN.{length, getD, length-append}
+use lib.ListN.{length, getD, set, length-append, length-set}
 use Rattle.rules.specs.Constant.{escape, flipSign, encodeInt, encodePrefix, encodeStr, encodeBytes}
 use Rattle.views.specs.Views.{run, byteAt, SeenText}
 use Rattle.views.specs.declared.Text.{Text}
 use Rattle.views.proofs.Runs.{length-run}
 use Rattle.records.specs.Records.{put}
-use Rattle.records.proofs.Stores.{put-none, put-append, next}
-use Rattle.constant.proofs.Escapes.{escape-cons, escape-zero, escape-other, escapedFrom, escaped-start, escaped-more, escaped-end, width-most}
+use Rattle.records.proofs.Stores.{put-none, put-byte, put-append, next}
+use Rattle.constant.specs.Plain.{plain}
+use Rattle.constant.proofs.Plain.{plain-same}
+use Rattle.constant.proofs.Escapes.{escape-cons, escape-zero, escape-other, bytesFrom, bytes-start, bytes-more, bytes-end, escapedFrom, escaped-start, escaped-more, escaped-end, width-most}
 use Rattle.encode.specs.Written.{Wrote, down}
 
 -- nothing, one byte, and one run after another
@@ -93,6 +96,35 @@ module _ (f : List ℕ) (n from at : ℕ) (w : List ℕ) where
 
   pub text-far : (end : ℕ) (v : List ℕ) → n ≤ 32768 → Wrote (escape (run (byteAt f) 1 n from)) at w end v → end ≤ at + 65536
   text-far end v h a = omega (arith, a .place, escape-most (run (byteAt f) 1 n from), length-run (byteAt f) 1 n from)
+
+-- Bytes as they are, where there is room for them.
+module _ (f : List ℕ) (n from at : ℕ) (w : List ℕ) where
+  pub record Copying (i : ℕ) (v : List ℕ) : Type 0 where
+    pub within : i ≤ n
+    pub going : Going (run (byteAt f) 1 n from) at w (bytesFrom f n from i) (at + i) v
+
+  pub copy-start : Copying 0 w
+  copy-start =
+      record {
+        within = omega arith;
+        going = subst (λ (p : ℕ). Going (run (byteAt f) 1 n from) at w (bytesFrom f n from 0) p w) (sym (add-zero at)) (going-start _ _ at w (bytes-start f n from));
+      }
+
+  pub copy-more : (i : ℕ) (v : List ℕ) → Copying i v → i < n → Copying (i + 1) (set v (at + i) (getD f (from + i) 0))
+  copy-more i v t h =
+      let b = getD f (from + i) 0 in
+      let u = set v (at + i) b in
+      record {
+        within = omega arith;
+        going = going-more _ at w _ (at + i) v (t .going) (b ∷ []) (bytesFrom f n from (i + 1)) (bytes-more f n from i h) (at + (i + 1)) u (wrote-one b (at + i) (at + (i + 1)) v u (omega arith) (put-byte v (at + i) b)) (length-set v (at + i) b);
+      }
+
+  pub copy-end : (i : ℕ) (v : List ℕ) → Copying i v → n ≤ i → Wrote (run (byteAt f) 1 n from) at w (at + n) v
+  copy-end i v t h = record { place = omega (arith, length-run (byteAt f) 1 n from); is = going-end _ at w _ (at + i) v (t .going) (bytes-end f n from i h) .is }
+
+  -- plain bytes are their own escaped form
+  pub text-plain : (end : ℕ) (v : List ℕ) → plain (run (byteAt f) 1 n from) ≡ true → Wrote (run (byteAt f) 1 n from) at w end v → Wrote (escape (run (byteAt f) 1 n from)) at w end v
+  text-plain end v e a = wrote-as _ _ at end w v a (sym (plain-same (run (byteAt f) 1 n from) e))
 
 -- A number's bytes, the highest first.
 module _ (g : ℕ → ℕ) where

@@ -12,6 +12,7 @@ ghost use Rattle.records.specs.Records.{reach};
 ghost use Rattle.ready.specs.Ready.{Ready};
 ghost use Rattle.constant.specs.Sizes.{fieldBytes, Patterns, Fields, Alternatives};
 ghost use Rattle.encode.specs.Written.{orEmpty, bytesOf, recordBytes, Here, Wrote, down};
+use constant::is_plain;
 use file::wide;
 use records::put_tag;
 use records::put8;
@@ -41,8 +42,8 @@ fn put_escaped(buf: &mut [u8], at: usize, b: u8) -> usize
     at + 1
 }
 
-// n bytes of the file from a place on.
-fn put_text(file: &[u8], buf: &mut [u8], at: usize, from: usize, n: usize) -> usize
+// What put_text writes, byte by byte.
+fn put_escapes(file: &[u8], buf: &mut [u8], at: usize, from: usize, n: usize) -> usize
     requires { ⌜ (from + n ≤ length (now file)) × (n ≤ 32768) × (at ≤ 2 * reach) ⌝ }
     ensures { λ r. ⌜ Wrote (escape (run (byteAt (now (file .entry))) 1 n from)) at (now (buf .entry)) r (now (buf .exit)) ⌝ }
 {
@@ -53,6 +54,32 @@ fn put_text(file: &[u8], buf: &mut [u8], at: usize, from: usize, n: usize) -> us
         i += 1;
     }
     p
+}
+
+// n bytes of the file from a place on, as they are. There is room for them, so the loop tests nothing and becomes one copy.
+fn put_plain(file: &[u8], buf: &mut [u8], at: usize, from: usize, n: usize) -> usize
+    requires { ⌜ (from + n ≤ length (now file)) × (at + n ≤ length (now buf)) ⌝ }
+    ensures { λ r. ⌜ Wrote (run (byteAt (now (file .entry))) 1 n from) at (now (buf .entry)) r (now (buf .exit)) ⌝ }
+{
+    let mut i: usize = 0;
+    while i < n {
+        buf[at + i] = file[from + i];
+        i += 1;
+    }
+    at + n
+}
+
+// n bytes of the file from a place on, escaped. Nearly every text is plain: then it is copied.
+fn put_text(file: &[u8], buf: &mut [u8], at: usize, from: usize, n: usize) -> usize
+    requires { ⌜ (from + n ≤ length (now file)) × (n ≤ 32768) × (at ≤ 2 * reach) ⌝ }
+    ensures { λ r. ⌜ Wrote (escape (run (byteAt (now (file .entry))) 1 n from)) at (now (buf .entry)) r (now (buf .exit)) ⌝ }
+{
+    if at + n <= buf.len() {
+        if is_plain(file, from, n) {
+            return put_plain(file, buf, at, from, n);
+        }
+    }
+    put_escapes(file, buf, at, from, n)
 }
 
 // n bytes of the file from a place on, the last of them first.

@@ -1,55 +1,20 @@
-use native.Mathlib.Omega.{arith}
+use mathlib.Core.Path.{sym, _∙_}
 use borrow.Author.Needs.{needs}
-use Prim.Native.Nat.{_-_}
-use Rattle.constant.proofs.Escapes.{Counted, count-start, count-more, count-end, width-at}
+use Rattle.constant.proofs.Plain.{plain-length}
 use Rattle.constant.proofs.escaped_len.Statement.{statement}
 use Rattle.constant.proofs.escaped_len.Tie as tie
 
-abbrev Inv-loop : tie.InvT-loop
-Inv-loop file at n len₀ i₀ len i = Counted file n at len i
+is-plain-requires : tie.Need-is-plain-requires
+is-plain-requires c κs = search needs
 
-abbrev μ-loop : tie.MeasureT-loop
-μ-loop file at n len₀ i₀ len i = n - i
+returns : tie.Need-returns
+returns c = plain-length _ _ _ (sym (c .before .is-plain .ensures) ∙ c .if1 .taken)
 
-loop-holds : tie.Need-loop-holds Inv-loop μ-loop
-loop-holds c = count-start _ _ _
+count-escaped-requires : tie.Need-count-escaped-requires
+count-escaped-requires c κs = search needs
 
-add-width : tie.Need-add-width Inv-loop μ-loop
-add-width c = omega arith
-
-shared-slice-read-width : tie.Need-shared-slice-read-width Inv-loop μ-loop
-shared-slice-read-width c = omega arith
-
-width-requires : tie.Need-width-requires Inv-loop μ-loop
-width-requires c κs = search needs
-
-add-len : tie.Need-add-len Inv-loop μ-loop
-add-len c = omega (arith, width-at _ _ (c .width .ensures))
-
-add-i : tie.Need-add-i Inv-loop μ-loop
-add-i c = omega arith
-
-loop-less : tie.Need-loop-less Inv-loop μ-loop
-loop-less c = omega arith
-
-loop-again : tie.Need-loop-again Inv-loop μ-loop
-loop-again c = count-more _ _ _ _ _ _ (c .before .before .before .loop .inv) (c .before .before .loop-test .taken) (c .width .ensures)
-
-returns : tie.Need-returns Inv-loop μ-loop
-returns c = count-end _ _ _ _ _ (c .before .loop .inv) (c .loop-test .left)
+returns-2 : tie.Need-returns-2
+returns-2 c = search needs
 
 pub escaped-len-spec : {M : Type 1} → statement M
-escaped-len-spec =
-    tie.close
-    (tie.spec
-    Inv-loop
-    μ-loop
-    loop-holds
-    add-width
-    shared-slice-read-width
-    width-requires
-    add-len
-    add-i
-    loop-less
-    loop-again
-    returns)
+escaped-len-spec = tie.close (tie.spec is-plain-requires returns count-escaped-requires returns-2)

@@ -1,54 +1,42 @@
-use Rattle.encode.proofs.Puts.{Texting, text-start, text-more, text-end}
-use native.Mathlib.Omega.{arith}
-use Prim.Native.Nat.{_-_}
+use mathlib.Core.Path.{sym, _∙_}
+use borrow.Author.Needs.{needs}
+use Rattle.encode.proofs.Puts.{text-plain}
 use Rattle.encode.proofs.put_text.Statement.{statement}
 use Rattle.encode.proofs.put_text.Tie as tie
 
-abbrev Inv-loop : tie.InvT-loop
-Inv-loop file buf₀ at from n p₀ i₀ buf p i = Texting file n from at buf₀ i p buf
+add-if1 : tie.Need-add-if1
+add-if1 c = search needs
 
-abbrev μ-loop : tie.MeasureT-loop
-μ-loop file buf₀ at from n p₀ i₀ buf p i = n - i
+is-plain-requires : tie.Need-is-plain-requires
+is-plain-requires c κs = search needs
 
-loop-holds : tie.Need-loop-holds Inv-loop μ-loop
-loop-holds c = text-start _ _ _ _ _
+put-plain-requires : tie.Need-put-plain-requires
+put-plain-requires c κs = search needs
 
-add-put-escaped : tie.Need-add-put-escaped Inv-loop μ-loop
-add-put-escaped c = omega arith
+same-length : tie.Need-same-length
+same-length c = search needs
 
-shared-slice-read-put-escaped : tie.Need-shared-slice-read-put-escaped Inv-loop μ-loop
-shared-slice-read-put-escaped c = omega arith
+returns : tie.Need-returns
+returns c = let p = c .before .before .before .before in text-plain _ _ _ _ _ _ _ (sym (p .before .is-plain .ensures) ∙ p .if2 .taken) (c .before .before .put-plain .ensures)
 
-put-escaped-requires : tie.Need-put-escaped-requires Inv-loop μ-loop
-put-escaped-requires c κs = omega arith
+put-escapes-requires : tie.Need-put-escapes-requires
+put-escapes-requires c κs = search needs
 
-add-i : tie.Need-add-i Inv-loop μ-loop
-add-i c = omega arith
+same-length-2 : tie.Need-same-length-2
+same-length-2 c = search needs
 
-loop-less : tie.Need-loop-less Inv-loop μ-loop
-loop-less c = omega arith
-
-loop-again : tie.Need-loop-again Inv-loop μ-loop
-loop-again c = text-more _ _ _ _ _ _ _ _ (c .before .before .before .before .before .before .loop .inv) (c .before .before .before .before .before .loop-test .taken) _ _ (c .before .before .put-escaped .ensures) (c .before .before .put-escaped .kept .0)
-
-same-length : tie.Need-same-length Inv-loop μ-loop
-same-length c = c .before .loop .inv .going .size
-
-returns : tie.Need-returns Inv-loop μ-loop
-returns c = text-end _ _ _ _ _ _ _ _ (c .before .loop .inv) (c .loop-test .left)
+returns-2 : tie.Need-returns-2
+returns-2 c = search needs
 
 pub put-text-spec : {M : Type 1} → statement M
 put-text-spec =
     tie.close
     (tie.spec
-    Inv-loop
-    μ-loop
-    loop-holds
-    add-put-escaped
-    shared-slice-read-put-escaped
-    put-escaped-requires
-    add-i
-    loop-less
-    loop-again
+    add-if1
+    is-plain-requires
+    put-plain-requires
     same-length
-    returns)
+    returns
+    put-escapes-requires
+    same-length-2
+    returns-2)
