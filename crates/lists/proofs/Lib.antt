@@ -4,3 +4,4 @@ pub mod Bounds
 pub mod Scans
 pub mod Fits
 pub mod Finds
+pub mod Pairs

@@ -1,9 +1,10 @@
 -- What the code's lists stand for in the state that the compiler keeps (crate state).
-use Prim.Native.Nat.{ℕ, zero, suc, _+_, _≤_}
+use Prim.Native.Nat.{ℕ, zero, suc, _+_, _≤_, min}
 use mathlib.Core.Path.{_≡_}
 use mathlib.Core.Bool.{Bool, true, false}
 use mathlib.Core.List.{List, [], _∷_}
 use mathlib.Core.Option.{Option, none, some}
+use lib.Bits.{bitOr, bitXor}
 use lib.Dec.{eqb}
 use lib.ListN.{length, getD}
 use Rattle.rules.specs.Base.{_>>=_}
@@ -84,6 +85,15 @@ placeOf (suc p) = Fo.At p
 -- the place p if the binding there has the name, else what was found before it
 unfoldable pub later : List ℕ → ℕ → ℕ → Found → Found
 later f p x found = elim (eqb (word f p) x) [ true ↦ Fo.At p | false ↦ found ]
+
+-- how far the bytes a and b are from low and high: 0 where they are the same
+abbrev pub apart : ℕ → ℕ → ℕ → ℕ → ℕ
+apart a b low high = bitOr (bitXor a low) (bitXor b high)
+
+-- the least of that over the first n pairs of bytes side by side
+unfoldable pub nearest : List ℕ → ℕ → ℕ → ℕ → ℕ
+nearest f low high zero = 255
+nearest f low high (suc n) = min (apart (getD f n 0) (getD f (n + 1) 0) low high) (nearest f low high n)
 
 -- a binding is read at p
 pub record Readable (f : List ℕ) (p : ℕ) : Type 0 where

@@ -4,7 +4,7 @@ ghost use mathlib.Core.Path.{_≡_};
 ghost use mathlib.Core.Bool.{true, false};
 ghost use mathlib.Core.List.{List, [], _∷_, _++_};
 ghost use mathlib.Core.Option.{Option·getD, some};
-ghost use Prim.Native.Nat.{ℕ, _+_, _*_, _≤_, _<_};
+ghost use Prim.Native.Nat.{ℕ, _+_, _-_, _*_, _≤_, _<_, min};
 ghost use lib.Dec.{ltb, leb};
 ghost use lib.ListN.{length, getD, take};
 ghost use Rattle.rules.specs.Base.{both};
@@ -27,7 +27,7 @@ ghost use Rattle.ready.specs.Ready.{Ready};
 ghost use Rattle.tables.specs.Tables.{SeenSlot};
 ghost use Rattle.slots.specs.Slots.{slotOf, slotOption};
 ghost use Rattle.records.specs.Records.{put, reach};
-ghost use Rattle.lists.specs.Lists.{stateWith, overrun, codeOf, fitsTables, placeOf, plainSizes, endOf, later, slotFrom, Readable, SeenAt, SeenView, ShortSlot};
+ghost use Rattle.lists.specs.Lists.{stateWith, overrun, codeOf, fitsTables, placeOf, plainSizes, endOf, later, apart, nearest, slotFrom, Readable, SeenAt, SeenView, ShortSlot};
 use fields::path_at;
 use file::DEPTHS;
 use file::wide;
@@ -415,10 +415,41 @@ fn slot_at(bytes: &[u8], at: usize) -> SlotView
     }
 }
 
-// The slot of a name's last entry among them.
+// How far two bytes are from a name's two: 0 where they are the name's.
+fn apart(a: u8, b: u8, low: u8, high: u8) -> u8
+    ensures { λ r. ⌜ r ≡ apart a b low high ⌝ }
+{
+    (a ^ low) | (b ^ high)
+}
+
+fn least(a: u8, b: u8) -> u8
+    ensures { λ r. ⌜ r ≡ min a b ⌝ }
+{
+    if a < b { a } else { b }
+}
+
+// How near two bytes side by side come to a name's two: 0 where these stand somewhere. One byte to carry and no branch, so that the loop becomes
+// vector code.
+fn nearest(bytes: &[u8], low: u8, high: u8) -> u8
+    ensures { λ r. ⌜ r ≡ nearest (now (bytes .entry)) low high (length (now (bytes .entry)) - 1) ⌝ }
+{
+    let mut near: u8 = 255;
+    let mut i: usize = 1;
+    while i < bytes.len() {
+        let x = apart(bytes[i - 1], bytes[i], low, high);
+        near = least(x, near);
+        i += 1;
+    }
+    near
+}
+
+// The slot of a name's last entry among the records. Most names have none, and then their two bytes seldom stand anywhere: no record is read.
 fn made_slot(bytes: &[u8], name: usize) -> tables::MaybeSlot
     ensures { λ r. ⌜ SeenSlot (now (bytes .entry)) (Constant.lookup (bindingsIn (length (now (bytes .entry))) (now (bytes .entry))) name) r ⌝ }
 {
+    if nearest(bytes, (name % 256) as u8, (name / 256 % 256) as u8) != 0 {
+        return tables::MaybeSlot::Nothing;
+    }
     if let Found::At(p) = find(bytes, name) {
         tables::MaybeSlot::Just(slot_at(bytes, p))
     } else {
