@@ -13,14 +13,14 @@ use borrow.Author.Tests.{ltb-true, lt-ltb, le-ltb, le-leb, lt-leb, eq-eqb, ne-eq
 use Rattle.rules.specs.Base.{both, all, concatMap}
 use Rattle.rules.specs.Limits.{depthLimit, stepLimit}
 use Rattle.rules.specs.File as File
-use Rattle.rules.specs.File.{Tables, Ty, Node, Slot, typeAt, nodeAt, childTypes, childNodes, deepest, depthOf, depths, depth, constantOf, constants, isConstant}
+use Rattle.rules.specs.File.{Tables, Ty, Node, Slot, typeAt, nodeAt, childTypes, childNodes, deepest, depthOf, depths, depth, constantOf, constants}
 use Rattle.rules.specs.Read.{Reader}
 use Rattle.rules.specs.Checks.{isName, isType, isNode, slotIn, bindingIn, numbersIn, childrenLower, typesShallow, slotConstant, constsConstant, slotFits}
 use Rattle.file.specs.Steps.{word, baseOf, limitOf, depthsBase, constantsBase, indexLength}
 use Rattle.file.specs.Tables.{Indexed, Section, Stands, tablesOf}
 use Rattle.file.proofs.Readers.{down}
 use Rattle.file.proofs.Sections.{roomy}
-use Rattle.file.proofs.Accepted.{sets-in, sets-below}
+use Rattle.file.proofs.Accepted.{sets-below}
 use Rattle.views.specs.Views.{run, long, byteAt, pathAt, sizeOf, slotOf, bindingAt, fetchedAt, SlotInside, SeenBinding, SeenFetched}
 use Rattle.views.specs.declared.BindingView.{BindingView}
 use Rattle.views.specs.declared.FetchedView.{FetchedView}
@@ -31,7 +31,7 @@ use Rattle.paths.specs.declared.Address.{Address}
 use Rattle.numbers.specs.Numbers.{recordIn, sectionIn}
 use Rattle.numbers.proofs.Every.{every, if-both, both-inv, every-at, all-every}
 use Rattle.numbers.proofs.Seen.{numbers-every, section-every, by-slot}
-use Rattle.checks.specs.Checked.{bitOf, flagsAt, flagsOf, slotsFit, fetchedFit, Filled}
+use Rattle.checks.specs.Checked.{bitOf, flagsAt, flagsOf, slotsFit, fetchedFit}
 use Rattle.checks.proofs.Bottom.{store-next, stored-at, depth-agree, constant-agree, depths-long, constants-long, depths-entry, constants-entry, depth-bound, type-lower, node-lower}
 
 -- stores past the sections' areas leave the index of the records
@@ -66,7 +66,15 @@ indexed-sets f ix vs b h x =
     g : (j : ℕ) → j < 4682 → getD (sets ix b vs) j 0 ≡ getD ix j 0
     g j k = sets-below vs ix b j 0 (omega arith)
 
--- how many types and nodes there may be
+-- how many names, types, nodes and bindings there may be
+pub names-few : (f ix : List ℕ) → Indexed f ix → length (tablesOf f .names) ≤ 512
+unfolding limitOf
+names-few f ix x = x .names .under
+
+pub bindings-few : (f ix : List ℕ) → Indexed f ix → length (tablesOf f .bindings) ≤ 256
+unfolding limitOf
+bindings-few f ix x = x .bindings .under
+
 pub types-few : (f ix : List ℕ) → Indexed f ix → length (tablesOf f .types) ≤ 512
 unfolding limitOf
 types-few f ix x = x .types .under
@@ -127,11 +135,11 @@ module _ (T : Tables) (ix : List ℕ) (lower : childrenLower T ≡ true) where
       depth-agree t (drop depthsBase (sets ix depthsBase (take t (depths T)))) (take t (depths T)) (typeAt T t) (λ c k. stored-at (depths T) ix depthsBase t c (omega arith) (omega arith) k) (type-lower T lower t h)
       ∙ sym (depths-entry T t h)
 
-  flags-long : length (flagsOf T) ≡ length (T .nodes)
+  pub flags-long : length (flagsOf T) ≡ length (T .nodes)
   unfolding flagsOf
   flags-long = length-map (constants T) bitOf ∙ constants-long T
 
-  flags-get : (c : ℕ) → getD (flagsOf T) c 0 ≡ bitOf (getD (constants T) c false)
+  pub flags-get : (c : ℕ) → getD (flagsOf T) c 0 ≡ bitOf (getD (constants T) c false)
   unfolding flagsOf
   flags-get c = List·getD-map bitOf (constants T) c false
 
@@ -169,24 +177,6 @@ module _ (T : Tables) (ix : List ℕ) (lower : childrenLower T ≡ true) where
   pub flags-done : (n : ℕ) → length (T .nodes) ≤ n → sets ix constantsBase (take n (flagsOf T)) ≡ sets ix constantsBase (flagsOf T)
   flags-done n h = ap (sets ix constantsBase) (take-all n (flagsOf T) (omega (arith, flags-long)))
 
-pub filled : (f ix : List ℕ) → Indexed f ix → childrenLower (tablesOf f) ≡ true → Filled f (sets (sets ix depthsBase (depths (tablesOf f))) constantsBase (flagsOf (tablesOf f)))
-unfolding depth isConstant
-filled f ix x lower =
-    let T : Tables = tablesOf f in
-    let a = types-few f ix x in
-    let b = nodes-few f ix x in
-    let l = depths-long T in
-    let m = flags-long T ix lower in
-    let n = x .long in
-    record {
-      indexed = indexed-sets f (sets ix depthsBase (depths T)) (flagsOf T) constantsBase (omega arith) (indexed-sets f ix (depths T) depthsBase (omega arith) x);
-      depth-at = λ t h.
-          let k : depthsBase + t < constantsBase = omega arith in
-          sets-below (flagsOf T) (sets ix depthsBase (depths T)) constantsBase (depthsBase + t) 0 k ∙ sets-in (depths T) ix depthsBase t 0 (omega arith) (omega arith);
-      constant-at = λ c h.
-          sets-in (flagsOf T) (sets ix depthsBase (depths T)) constantsBase c 0 (omega arith) (omega (arith, length-sets ix depthsBase (depths T))) ∙ flags-get T ix lower c;
-    }
-
 -- 11, 13 and 14 over all numbers
 module _ (T : Tables) where
   pub shallow-every : typesShallow T ≡ every (λ t. leb (depth T t) depthLimit) (length (T .types)) 0
@@ -206,12 +196,20 @@ module _ (T : Tables) where
   fetched-every = all-every (λ f. leb (length (f .path .steps)) stepLimit) _ _ (T .fetched) (λ k g. refl)
 
   -- 8 at one binding
-  pub slot-in : numbersIn T ≡ true → (b : ℕ) → b < length (T .bindings) → slotIn T (bindingAt T b .slot) ≡ true
-  unfolding recordIn bindingIn
-  slot-in e b h =
-      let s : sectionIn T 4 ≡ true = every-at (sectionIn T) 10 0 4 (sym (numbers-every T) ∙ e) (lit< tt) in
-      let r : recordIn T 4 (0 + b) ≡ true = every-at (recordIn T 4) (length (T .bindings)) 0 b (sym (section-every T 4 (lit< tt)) ∙ s) h in
-      both-inv (isName T (bindingAt T b .name)) (slotIn T (bindingAt T b .slot)) (ap (λ (k : ℕ). bindingIn T (bindingAt T k)) (sym (zero-add b)) ∙ r) .1
+  module _ (e : numbersIn T ≡ true) (b : ℕ) (h : b < length (T .bindings)) where
+    binding-in : both (isName T (bindingAt T b .name)) (slotIn T (bindingAt T b .slot)) ≡ true
+    unfolding recordIn bindingIn
+    binding-in =
+        let s : sectionIn T 4 ≡ true = every-at (sectionIn T) 10 0 4 (sym (numbers-every T) ∙ e) (lit< tt) in
+        let r : recordIn T 4 (0 + b) ≡ true = every-at (recordIn T 4) (length (T .bindings)) 0 b (sym (section-every T 4 (lit< tt)) ∙ s) h in
+        ap (λ (k : ℕ). bindingIn T (bindingAt T k)) (sym (zero-add b)) ∙ r
+
+    pub slot-in : slotIn T (bindingAt T b .slot) ≡ true
+    slot-in = both-inv (isName T (bindingAt T b .name)) (slotIn T (bindingAt T b .slot)) binding-in .1
+
+    pub name-in : bindingAt T b .name < length (T .names)
+    unfolding isName
+    name-in = ltb-true _ _ (both-inv (isName T (bindingAt T b .name)) (slotIn T (bindingAt T b .slot)) binding-in .0)
 
 module _ (T : Tables) (f : List ℕ) (b : File.Binding) (v : BindingView) (s : SeenBinding f b v) where
   pub slot-inside : (w : SlotView) → v .slot ≡ w → SlotInside f w
@@ -233,6 +231,9 @@ module _ (T : Tables) (f : List ℕ) (b : File.Binding) (v : BindingView) (s : S
 pub depth-few : (f ix : List ℕ) → Indexed f ix → (t d : ℕ) → t < length (tablesOf f .types) → d ≡ depth (tablesOf f) t → d ≤ 512
 unfolding depth
 depth-few f ix x t d h e = omega (arith, e, depth-bound (tablesOf f) t h, types-few f ix x)
+
+pub name-few : (f ix : List ℕ) → Indexed f ix → numbersIn (tablesOf f) ≡ true → (b x : ℕ) → b < length (tablesOf f .bindings) → x ≡ bindingAt (tablesOf f) b .name → x < 512
+name-few f ix i e b x h q = omega (arith, q, name-in (tablesOf f) e b h, names-few f ix i)
 
 pub fetched-steps : (f : List ℕ) (e : File.Fetched) (v : FetchedView) → SeenFetched f e v → length (e .path .steps) ≡ getD f (v .path + 2) 0
 unfolding pathAt byteAt

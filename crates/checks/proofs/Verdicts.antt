@@ -17,10 +17,10 @@ use Rattle.file.specs.Tables.{Indexed, tablesOf}
 use Rattle.file.specs.declared.Step.{Step}
 use Rattle.file.specs.declared.Step.the-variants as St
 use Rattle.file.proofs.Suffix.{faulted}
-use Rattle.checks.specs.Checked.{flagsOf, once, marked, Filled, Numbered, Checked, laterChecks, verdictOf, laterFault, allFault, checkedIndex, readVerdict, fileVerdict, readIndex, fileIndex}
+use Rattle.checks.specs.Checked.{flagsOf, lastBindings, filledIndex, once, marked, Filled, Numbered, Checked, laterChecks, verdictOf, laterFault, allFault, checkedIndex, readVerdict, fileVerdict, readIndex, fileIndex}
 use Rattle.checks.specs.declared.Verdict.{Verdict}
 use Rattle.checks.specs.declared.Verdict.the-variants as V′
-use Rattle.checks.proofs.Fill.{filled}
+use Rattle.checks.proofs.Last.{filled}
 use Rattle.checks.proofs.Marks.{once-none, marked-none}
 
 module _ (c : Check) (cs : List Check) (T : Tables) where
@@ -86,9 +86,9 @@ module _ (T : Tables) where
   all-later a b = sym (ap verdictOf (fault-on _ _ T a ∙ fault-on _ _ T b))
 
   module _ (ix : List ℕ) where
-    index-if : (b : Bool) → both (numbersIn T) (childrenLower T) ≡ b → elim b as (λ _. List ℕ) [ true ↦ sets (sets ix depthsBase (depths T)) constantsBase (flagsOf T) | false ↦ ix ] ≡ checkedIndex T ix
+    index-if : (b : Bool) → both (numbersIn T) (childrenLower T) ≡ b → elim b as (λ _. List ℕ) [ true ↦ filledIndex T ix | false ↦ ix ] ≡ checkedIndex T ix
     unfolding checkedIndex
-    index-if b e = ap (λ (d : Bool). elim d as (λ _. List ℕ) [ true ↦ sets (sets ix depthsBase (depths T)) constantsBase (flagsOf T) | false ↦ ix ]) (sym e)
+    index-if b e = ap (λ (d : Bool). elim d as (λ _. List ℕ) [ true ↦ filledIndex T ix | false ↦ ix ]) (sym e)
 
     pub index-8 : numbersIn T ≡ false → ix ≡ checkedIndex T ix
     index-8 a = index-if false (ap (λ (b : Bool). both b (childrenLower T)) a)
@@ -96,7 +96,7 @@ module _ (T : Tables) where
     pub index-9 : numbersIn T ≡ true → childrenLower T ≡ false → ix ≡ checkedIndex T ix
     index-9 a b = index-if false (ap₂ both a b)
 
-    pub index-filled : numbersIn T ≡ true → childrenLower T ≡ true → sets (sets ix depthsBase (depths T)) constantsBase (flagsOf T) ≡ checkedIndex T ix
+    pub index-filled : numbersIn T ≡ true → childrenLower T ≡ true → filledIndex T ix ≡ checkedIndex T ix
     index-filled a b = index-if true (ap₂ both a b)
 
 -- what acceptance says
@@ -111,13 +111,13 @@ checked f ix x e =
     let g = fault-inv _ _ T (d .1) in
     record { numbered = x; distinct = a .0; shallow = b .0; once = c .0; consts = d .0; fit = g .0 }
 
-pub numbered : (f ix jx kx : List ℕ) → Indexed f ix → numbersIn (tablesOf f) ≡ true → childrenLower (tablesOf f) ≡ true → jx ≡ sets ix depthsBase (depths (tablesOf f)) → kx ≡ sets jx constantsBase (flagsOf (tablesOf f)) → Numbered f kx
-numbered f ix jx kx x a b e g =
-    record {
-      filled = subst (Filled f) (sym (g ∙ ap (λ (l : List ℕ). sets l constantsBase (flagsOf (tablesOf f))) e)) (filled f ix x b);
-      numbers = a;
-      lower = b;
-    }
+module _ (f ix jx kx lx : List ℕ) where
+  -- the three areas filled, one after another
+  pub areas : jx ≡ sets ix depthsBase (depths (tablesOf f)) → kx ≡ sets jx constantsBase (flagsOf (tablesOf f)) → lx ≡ lastBindings (tablesOf f) kx → lx ≡ filledIndex (tablesOf f) ix
+  areas e g h = h ∙ ap (lastBindings (tablesOf f)) (g ∙ ap (λ (l : List ℕ). sets l constantsBase (flagsOf (tablesOf f))) e)
+
+pub numbered : (f ix lx : List ℕ) → Indexed f ix → numbersIn (tablesOf f) ≡ true → childrenLower (tablesOf f) ≡ true → lx ≡ filledIndex (tablesOf f) ix → Numbered f lx
+numbered f ix lx x a b e = record { filled = subst (Filled f) (sym e) (filled f ix x b); numbers = a; lower = b }
 
 pub refused-accepted : {n : ℕ} → V′.Refused n ≡ V′.Accepted → ⊥
 refused-accepted {n} e = let z : _≡_ {A = ℕ} 0 1 = cc in omega arith

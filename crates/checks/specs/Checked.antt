@@ -4,17 +4,17 @@ use mathlib.Core.Path.{_≡_}
 use mathlib.Core.Bool.{Bool, true, false}
 use mathlib.Core.List.{List, [], _∷_, map}
 use mathlib.Core.Option.{Option, none, some}
-use lib.ListN.{length, getD, set, drop}
+use lib.ListN.{length, getD, set, drop, replicate}
 use lib.Dec.{eqb, leb}
 use lib.Seq.{sets}
 use Rattle.rules.specs.Base.{both, all}
 use Rattle.rules.specs.Limits.{depthLimit, stepLimit}
-use Rattle.rules.specs.File.{Tables, depths, depth, constants, isConstant}
+use Rattle.rules.specs.File.{Tables, Binding, depths, depth, constants, isConstant}
 use Rattle.rules.specs.Checks.{numbersIn, childrenLower, typesDistinct, typesShallow, childrenOnce, constsConstant, slotFits, pathsFit, check, checks, fault, Check}
 use Rattle.rules.specs.Read.{Read}
 use Rattle.rules.specs.Read as Read
-use Rattle.file.specs.Steps.{depthsBase, constantsBase, indexOf}
-use Rattle.file.specs.Tables.{Indexed, tablesOf}
+use Rattle.file.specs.Steps.{depthsBase, constantsBase, lastBindingsBase, indexOf}
+use Rattle.file.specs.Tables.{Indexed, tablesOf, lastBinding}
 use Rattle.checks.specs.declared.Verdict.{Verdict}
 use Rattle.checks.specs.declared.Verdict.the-variants as V′
 
@@ -28,6 +28,15 @@ flagsAt ix = map (λ x. eqb x 1) (drop constantsBase ix)
 
 unfoldable pub flagsOf : Tables → List ℕ
 flagsOf T = map bitOf (constants T)
+
+-- the area of the last bindings, written binding after binding, the first of these having number k
+unfoldable pub bindingsOver : List ℕ → ℕ → List Binding → List ℕ
+bindingsOver ix k [] = ix
+bindingsOver ix k (b ∷ bs) = bindingsOver (set ix (lastBindingsBase + b .name) (k + 1)) (k + 1) bs
+
+-- the same over zeros, one for each name
+unfoldable pub lastBindings : Tables → List ℕ → List ℕ
+lastBindings T ix = bindingsOver (sets ix lastBindingsBase (replicate (length (T .names)) 0)) 0 (T .bindings)
 
 -- 12: each of l is met for the first time, where m marks what was met before; and the marks afterwards, up to the first repeat
 unfoldable pub once : List ℕ → List ℕ → Bool
@@ -45,11 +54,12 @@ slotsFit T = all (λ b. slotFits T (b .slot)) (T .bindings)
 unfoldable pub fetchedFit : Tables → Bool
 fetchedFit T = all (λ f. leb (length (f .path .steps)) stepLimit) (T .fetched)
 
--- the index of a file that passes 8 and 9: the depth of each type and the constancy of each node stand in it
+-- the index of a file that passes 8 and 9: the depth of each type, the constancy of each node and the last binding of each name stand in it
 pub record Filled (f ix : List ℕ) : Type 0 where
   pub indexed : Indexed f ix
   pub depth-at : (t : ℕ) → t < length (tablesOf f .types) → getD ix (depthsBase + t) 0 ≡ depth (tablesOf f) t
   pub constant-at : (n : ℕ) → n < length (tablesOf f .nodes) → getD ix (constantsBase + n) 0 ≡ bitOf (isConstant (tablesOf f) n)
+  pub last-at : (x : ℕ) → x < length (tablesOf f .names) → getD ix (lastBindingsBase + x) 0 ≡ lastBinding (tablesOf f) x
 
 pub record Numbered (f ix : List ℕ) : Type 0 where
   pub filled : Filled f ix
@@ -79,9 +89,12 @@ laterFault T = verdictOf (fault laterChecks T)
 unfoldable pub allFault : Tables → Verdict
 allFault T = verdictOf (fault checks T)
 
--- the index after the checks
+-- the index with its last three areas filled, and after the checks
+abbrev pub filledIndex : Tables → List ℕ → List ℕ
+filledIndex T ix = lastBindings T (sets (sets ix depthsBase (depths T)) constantsBase (flagsOf T))
+
 unfoldable pub checkedIndex : Tables → List ℕ → List ℕ
-checkedIndex T ix = elim (both (numbersIn T) (childrenLower T)) [ true ↦ sets (sets ix depthsBase (depths T)) constantsBase (flagsOf T) | false ↦ ix ]
+checkedIndex T ix = elim (both (numbersIn T) (childrenLower T)) [ true ↦ filledIndex T ix | false ↦ ix ]
 
 -- the verdict on a file, reading and checking it, and the index afterwards
 unfoldable pub readVerdict : Read Tables → Verdict

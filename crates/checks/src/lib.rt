@@ -1,24 +1,26 @@
 // The whole-file checks 11 to 14 and the verdict on a file. The depth of each type and the constancy of each node are computed once,
-// bottom up, and kept in the index.
+// bottom up, and kept in the index, with the number of each name's last binding.
 ghost use mathlib.Core.Path.{_≡_};
 ghost use mathlib.Core.Bool.{Bool, true, false};
 ghost use mathlib.Core.List.{_∷_, []};
 ghost use Prim.Native.Nat.{ℕ, _+_, _*_, _≤_, _<_, max};
-ghost use lib.ListN.{length, getD, drop};
+ghost use lib.ListN.{length, getD, drop, replicate};
 ghost use lib.Seq.{sets};
 ghost use lib.Dec.{ltb};
 ghost use Rattle.rules.specs.Base.{all, concatMap};
 ghost use Rattle.rules.specs.Limits.{fileLimit};
 ghost use Rattle.rules.specs.File.{typeAt, nodeAt, childTypes, childNodes, deepest, depthOf, depths, depth, constantOf, isConstant};
 ghost use Rattle.rules.specs.Checks.{numbersIn, childrenLower, typesShallow, childrenOnce, slotConstant, constsConstant, slotFits, pathsFit};
-ghost use Rattle.file.specs.Steps.{word, depthsBase, constantsBase, indexLength};
+ghost use Rattle.file.specs.Steps.{word, depthsBase, constantsBase, lastBindingsBase, indexLength};
 ghost use Rattle.file.specs.Tables.{Indexed, tablesOf};
 ghost use Rattle.views.specs.Views.{run, bindingAt, fetchedAt};
 ghost use Rattle.numbers.specs.Numbers.{Words};
-ghost use Rattle.checks.specs.Checked.{bitOf, flagsAt, flagsOf, once, marked, Filled, Numbered, Checked, slotsFit, fetchedFit, laterFault, allFault, checkedIndex, verdictOf, fileVerdict, fileIndex};
+ghost use Rattle.checks.specs.Checked.{bitOf, flagsAt, flagsOf, once, marked, Filled, Numbered, Checked, slotsFit, fetchedFit, lastBindings, laterFault, allFault, checkedIndex, verdictOf, fileVerdict, fileIndex};
 use file::CONSTANTS;
 use file::DEPTHS;
+use file::LAST_BINDINGS;
 use file::Step;
+use file::base;
 use file::read;
 use file::wide;
 use file::wide16;
@@ -163,6 +165,44 @@ fn fill_constants(file: &[u8], index: &mut [u16])
         let b = bit(node_constant(file, &index[..], n));
         index[CONSTANTS + n] = b;
         n += 1;
+    }
+}
+
+// A binding's name alone: its slot is not read.
+fn binding_name(file: &[u8], index: &[u16], k: usize) -> usize
+    requires { ⌜ Indexed (now file) (now index) ⌝ }
+    requires { ⌜ k < length (tablesOf (now file) .bindings) ⌝ }
+    ensures { λ r. ⌜ r ≡ bindingAt (tablesOf (now (file .entry))) k .name ⌝ }
+{
+    word_at(file, wide16(index[base(4) + 1 + k]))
+}
+
+// Zero for each of n names: no binding of it so far.
+fn clear_last_bindings(index: &mut [u16], n: usize)
+    requires { ⌜ (length (now index) ≡ indexLength) × (n ≤ 512) ⌝ }
+    ensures { λ _. ⌜ now (index .exit) ≡ sets (now (index .entry)) lastBindingsBase (replicate n 0) ⌝ }
+{
+    let mut x = 0;
+    while x < n {
+        index[LAST_BINDINGS + x] = 0;
+        x += 1;
+    }
+}
+
+// The last bindings of all names, into their area: a later one of the name takes the place of an earlier.
+fn fill_last_bindings(file: &[u8], index: &mut [u16])
+    requires { ⌜ Indexed (now file) (now index) ⌝ }
+    requires { ⌜ numbersIn (tablesOf (now file)) ≡ true ⌝ }
+    ensures { λ _. ⌜ now (index .exit) ≡ lastBindings (tablesOf (now (file .entry))) (now (index .entry)) ⌝ }
+{
+    let names = count_of(file, &index[..], 0);
+    let n = count_of(file, &index[..], 4);
+    clear_last_bindings(index, names);
+    let mut k = 0;
+    while k < n {
+        let x = binding_name(file, &index[..], k);
+        index[LAST_BINDINGS + x] = (k + 1) as u16;
+        k += 1;
     }
 }
 
@@ -420,10 +460,11 @@ pub fn check(file: &[u8], index: &mut [u16]) -> Verdict
     }
     fill_depths(file, index);
     fill_constants(file, index);
+    fill_last_bindings(file, index);
     later_checks(file, &index[..])
 }
 
-// Reads and checks a file. On acceptance the index finds every record, and holds depths and constancy.
+// Reads and checks a file. On acceptance the index finds every record, and holds depths, constancy and last bindings.
 pub fn verify(file: &[u8], index: &mut [u16]) -> Verdict
     requires { ⌜ (length (now file) ≤ fileLimit) × (length (now index) ≡ indexLength) ⌝ }
     ensures { λ r. ⌜ r ≡ fileVerdict (now (file .entry)) ⌝ }

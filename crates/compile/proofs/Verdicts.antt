@@ -96,6 +96,7 @@ ready f ix v e q k =
       accepted = no-fault (fault checks (tablesOf f)) (sym (ap readVerdict (filled .indexed .accepted)) ∙ sym e ∙ q);
       depths = filled .depth-at;
       constants = λ n h. filled .constant-at n h ∙ bit-flag (isConstant (tablesOf f) n);
+      last-bindings = filled .last-at;
     }
 
 pub accepted-outcome : (f ix : List ℕ) → Each Byte f → Ready f ix → (work plan : List ℕ) → length f ≤ fileLimit → workLimit ≤ length work → Kept.outcomeOf (compiled (tablesOf f) work plan) ≡ outcome f (length plan) (length work)

@@ -54,15 +54,18 @@ bases = 0 ∷ 513 ∷ 1026 ∷ 1283 ∷ 3332 ∷ 3589 ∷ 3846 ∷ 4103 ∷ 4360
 unfoldable pub baseOf : ℕ → ℕ
 baseOf s = getD bases s 0
 
--- the areas of the types' depths and of the nodes' constancy, and the index's length
+-- the areas of the types' depths, of the nodes' constancy and of the names' last bindings, and the index's length
 abbrev pub depthsBase : ℕ
 depthsBase = 4682
 
 abbrev pub constantsBase : ℕ
 constantsBase = 5194
 
+abbrev pub lastBindingsBase : ℕ
+lastBindingsBase = 7242
+
 abbrev pub indexLength : ℕ
-indexLength = 7242
+indexLength = 7754
 
 unfoldable pub sectionOf : ℕ → Reader (List (Unit {0}))
 sectionOf s = section (limitOf s) (recordOf s)

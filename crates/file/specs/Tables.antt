@@ -1,10 +1,12 @@
 -- The tables of an accepted file, and how the index finds their records.
 use Prim.Native.Nat.{ℕ, _+_, _≤_, _<_}
 use mathlib.Core.Path.{_≡_}
-use mathlib.Core.List.{List, []}
+use mathlib.Core.Bool.{true, false}
+use mathlib.Core.List.{List, [], _∷_}
+use lib.Dec.{eqb}
 use lib.ListN.{length, getD}
 use Rattle.rules.specs.Limits.{fileLimit}
-use Rattle.rules.specs.File.{Tables}
+use Rattle.rules.specs.File.{Tables, Binding}
 use Rattle.rules.specs.Read.{Read, Reader, name, type, predicate, node, binding, hoisted, fetched, constraint, comparison, level}
 use Rattle.rules.specs.Read.Read.{got, refused}
 use Rattle.rules.specs.Read as Read
@@ -47,3 +49,12 @@ pub record Indexed (f ix : List ℕ) : Type 0 where
   pub constraints : Section f ix 7 constraint (tablesOf f .constraints)
   pub comparisons : Section f ix 8 comparison (tablesOf f .comparisons)
   pub levels : Section f ix 9 level (tablesOf f .levels)
+
+-- 1 + the number of the last of these bindings that has name x, the first of them having number k; what was found before, if none has it
+unfoldable pub lastFrom : ℕ → ℕ → List Binding → ℕ → ℕ
+lastFrom found k [] x = found
+lastFrom found k (b ∷ bs) x = elim (eqb (b .name) x) [ true ↦ lastFrom (k + 1) (k + 1) bs x | false ↦ lastFrom found (k + 1) bs x ]
+
+-- 1 + the number of name x's last binding, 0 if it has none
+unfoldable pub lastBinding : Tables → ℕ → ℕ
+lastBinding T x = lastFrom 0 0 (T .bindings) x

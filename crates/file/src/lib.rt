@@ -16,13 +16,15 @@ pub enum Step {
     Refused(u8),
 }
 
-// The index has an area for each section: its count, then where each of its records starts. Two further areas hold the depth of each
-// type and, for each node, whether it is constant: the checks fill them.
-pub const INDEX: usize = 7242;
+// The index has an area for each section: its count, then where each of its records starts. Three further areas hold the depth of each
+// type, for each node whether it is constant, and for each name 1 + the number of its last binding: the checks fill them.
+pub const INDEX: usize = 7754;
 
 pub const DEPTHS: usize = 4682;
 
 pub const CONSTANTS: usize = 5194;
+
+pub const LAST_BINDINGS: usize = 7242;
 
 const LIMITS: [usize; 10] = [512, 512, 256, 2048, 256, 256, 256, 256, 256, 64];
 

@@ -1,4 +1,5 @@
--- What the code behind the checks requires: a file that was read and passed every check, with an index that holds its depths and its constancy.
+-- What the code behind the checks requires: a file that was read and passed every check, with an index that holds its depths, its constancy and
+-- its names' last bindings.
 use Prim.Native.Nat.{ℕ, _+_, _<_}
 use mathlib.Core.Path.{_≡_}
 use mathlib.Core.Bool.{Bool, true, false}
@@ -8,8 +9,8 @@ use lib.ListN.{length, getD}
 use Rattle.rules.specs.Limits.{nodeLimit}
 use Rattle.rules.specs.File.{Tables, FieldPattern, depth, isConstant}
 use Rattle.rules.specs.Checks.{checks, fault}
-use Rattle.file.specs.Steps.{depthsBase, constantsBase}
-use Rattle.file.specs.Tables.{Indexed, tablesOf}
+use Rattle.file.specs.Steps.{depthsBase, constantsBase, lastBindingsBase}
+use Rattle.file.specs.Tables.{Indexed, tablesOf, lastBinding}
 
 -- how the index says that a node is constant
 abbrev pub flag : Bool → ℕ
@@ -21,6 +22,7 @@ pub record Ready (f ix : List ℕ) : Type 0 where
   pub accepted : fault checks (tablesOf f) ≡ none
   pub depths : (t : ℕ) → t < length (tablesOf f .types) → getD ix (depthsBase + t) 0 ≡ depth (tablesOf f) t
   pub constants : (n : ℕ) → n < length (tablesOf f .nodes) → getD ix (constantsBase + n) 0 ≡ flag (isConstant (tablesOf f) n)
+  pub last-bindings : (x : ℕ) → x < length (tablesOf f .names) → getD ix (lastBindingsBase + x) 0 ≡ lastBinding (tablesOf f) x
 
 -- "a measure of not-constant and node number falls": a constant stands below every node that is none, so that a Var's Const is lower
 unfoldable pub rank : Tables → ℕ → ℕ

@@ -1,22 +1,28 @@
--- Searches step by step: a run of records from the front, and the bindings from the back.
+-- Searches step by step in a run of records, and what the number of a name's last binding tells.
 use Prim.Native.Nat.{ℕ, suc, _+_, _*_, _-_, _≤_, _<_}
 use mathlib.Core.Path.{_≡_, refl, sym, ap, _∙_, subst}
 use mathlib.Core.Bool.{Bool, true, false}
-use mathlib.Core.List.{List, [], _∷_, _++_}
+use mathlib.Core.List.{List, [], _∷_}
 use mathlib.Core.Option.{Option, none, some, Option·getD}
+use native.Mathlib.Nat.{zero-add}
 use native.Mathlib.Omega.{arith}
 use lib.Dec.{eqb}
-use lib.ListN.{length, getD, take}
-use lib.Seq.{take-suc, take-all}
+use lib.ListN.{length, getD}
 use borrow.Author.Tests.{eq-eqb, ne-eqb}
-use Rattle.rules.specs.Base.{first, lastOr, _>>=_}
+use Rattle.rules.specs.Base.{Each, more, first, lastOr, _>>=_}
 use Rattle.rules.specs.File.{Tables, Binding, Slot, nodeAt, varName}
 use Rattle.rules.specs.File as File
 use Rattle.rules.specs.Constant as Constant
 use Rattle.rules.specs.Constant.{fieldPattern, lookup, constNode, constOf, standsFor}
-use Rattle.file.specs.Tables.{tablesOf}
+use Rattle.rules.specs.Checks.{isName, bindingIn}
+use Rattle.rules.proofs.Cases.{ltb-lt, both-left}
+use Rattle.rules.proofs.Choices.{by-test₂}
+use Rattle.rules.proofs.Each.{each-imply}
+use Rattle.rules.proofs.Sound.{Passed}
+use Rattle.file.specs.Tables.{lastFrom, lastBinding}
 use Rattle.views.specs.Views.{run, alternativeAt, patternAt, alternativeOf, patternOf, slotOf, bindingAt, SeenBinding}
 use Rattle.ready.specs.Ready.{flag}
+use Rattle.ready.proofs.Ranges.{numbers-in}
 use Rattle.tables.specs.Tables.{SeenSlot, constBound}
 use Rattle.tables.specs.declared.MaybeSlot.{MaybeSlot}
 use Rattle.tables.specs.declared.MaybeSlot.the-variants as Ms
@@ -99,63 +105,73 @@ module _ (f : List ℕ) (n at x k : ℕ) where
     unfolding Constant.alternativeOf
     alternative-end h = sym (s .same ∙ first-end (called x) (alternativeAt f) 8 n at k h)
 
--- The last binding of a name, from the back.
-last-snoc : (found : Option Binding) (p : Binding → Bool) (bs : List Binding) (b : Binding) → lastOr found p (bs ++ (b ∷ [])) ≡ elim (p b) [ true ↦ some b | false ↦ lastOr found p bs ]
+-- The last binding of a name, by the number that the index has for it.
+abbrev noBinding : Binding
+noBinding = record { name = 0; slot = Slot.Const 0 }
+
+-- n is 0 where nothing was found, else 1 + the number of what was found among the bindings bs
+abbrev Told : List Binding → ℕ → Option Binding → Type 0
+Told bs n none = n ≡ 0
+Told bs n (some b) = (0 < n) × (n - 1 < length bs) × (b ≡ getD bs (n - 1) noBinding)
+
+-- the bindings from number k on
+told-from : (all : List Binding) (x : ℕ) (bs : List Binding) (k n : ℕ) (o : Option Binding) → k + length bs ≤ length all → ((j : ℕ) → j < length bs → getD all (k + j) noBinding ≡ getD bs j noBinding) → Told all n o
+    → Told all (lastFrom n k bs x) (lastOr o (λ b. eqb (b .name) x) bs)
+unfolding lastFrom lastOr
+told-from all x [] k n o h g t = t
+told-from all x (b ∷ bs) k n o h g t =
+    by-test₂ (Told all) (eqb (b .name) x)
+    (λ q. told-from all x bs (k + 1) (k + 1) (some b) (omega arith) rest (omega arith, omega arith, here))
+    (λ q. told-from all x bs (k + 1) n o (omega arith) rest t)
+  where
+    rest : (j : ℕ) → j < length bs → getD all (k + 1 + j) noBinding ≡ getD bs j noBinding
+    rest j l = let e : k + 1 + j ≡ k + suc j = omega arith in ap (λ (i : ℕ). getD all i noBinding) e ∙ g (suc j) (omega arith)
+
+    here : b ≡ getD all (k + 1 - 1) noBinding
+    here = let e : k + 0 ≡ k + 1 - 1 = omega arith in sym (g 0 (omega arith)) ∙ ap (λ (i : ℕ). getD all i noBinding) e
+
+none-named : (bs : List Binding) (x : ℕ) → Each (λ b. eqb (b .name) x ≡ false) bs → lastOr none (λ b. eqb (b .name) x) bs ≡ none
 unfolding lastOr
-last-snoc found p [] b = refl
-last-snoc found p (a ∷ bs) b =
-    elim (p a) as (λ (t : Bool). _≡_ {A = Option Binding} (elim t [ true ↦ lastOr (some a) p (bs ++ (b ∷ [])) | false ↦ lastOr found p (bs ++ (b ∷ [])) ]) (elim (p b) [ true ↦ some b | false ↦ elim t [ true ↦ lastOr (some a) p bs | false ↦ lastOr found p bs ] ])) [
-      | true ↦ last-snoc (some a) p bs b
-      | false ↦ last-snoc found p bs b
-    ]
-
--- the slot of what was found
-abbrev slotFound : Option Binding → Option Slot
-slotFound o = o >>= λ b. some (b .slot)
-
--- by whether binding b has the name, or else what the bindings before it have
-abbrev lastOf : Bool → Binding → List Binding → ℕ → Option Binding
-lastOf t b bs x = elim t [ true ↦ some b | false ↦ lastOr none (λ b. eqb (b .name) x) bs ]
+none-named [] x h = refl
+none-named (b ∷ bs) x (more e h) =
+    ap (λ (t : Bool). elim t as (λ _. Option Binding) [ true ↦ lastOr (some b) (λ b. eqb (b .name) x) bs | false ↦ lastOr none (λ b. eqb (b .name) x) bs ]) e ∙ none-named bs x h
 
 module _ (T : Tables) (x : ℕ) where
-  -- a search that has the first k bindings before it
-  pub record Looking (k : ℕ) : Type 0 where
-    pub within : k ≤ length (T .bindings)
-    pub same : lookup (T .bindings) x ≡ lookup (take k (T .bindings)) x
+  abbrev last : Option Binding
+  last = lastOr none (λ b. eqb (b .name) x) (T .bindings)
 
-  pub look-start : (k : ℕ) → k ≡ length (T .bindings) → Looking k
-  look-start k e = record { within = omega arith; same = ap (λ (bs : List Binding). lookup bs x) (sym (take-all k (T .bindings) (omega arith))) }
+  told : (n : ℕ) → n ≡ lastBinding T x → Told (T .bindings) n last
+  unfolding lastBinding
+  told n e =
+      subst (λ (i : ℕ). Told (T .bindings) i last) (sym e)
+      (told-from (T .bindings) x (T .bindings) 0 0 none (omega arith) (λ j l. ap (λ (i : ℕ). getD (T .bindings) i noBinding) (zero-add j)) refl)
 
-  module _ (k : ℕ) (l : Looking k) (h : 0 < k) where
-    before : lookup (take k (T .bindings)) x ≡ slotFound (lastOf (eqb (bindingAt T (k - 1) .name) x) (bindingAt T (k - 1)) (take (k - 1) (T .bindings)) x)
-    unfolding lookup bindingAt
-    before =
-        let m : k ≡ suc (k - 1) = omega arith in
-        let i : k - 1 < length (T .bindings) = omega (arith, l .within) in
-        let d : Binding = record { name = 0; slot = Slot.Const 0 } in
-        ap (λ (j : ℕ). lookup (take j (T .bindings)) x) m
-        ∙ ap (λ (bs : List Binding). lookup bs x) (take-suc (T .bindings) (k - 1) d i)
-        ∙ ap slotFound (last-snoc none (λ b. eqb (b .name) x) (take (k - 1) (T .bindings)) (getD (T .bindings) (k - 1) d))
+  -- a name that is none of the file's
+  pub no-name : Passed T → length (T .names) ≤ x → none ≡ lookup (T .bindings) x
+  unfolding lookup bindingIn isName _>>=_
+  no-name k h =
+      sym (ap (λ (o : Option Binding). o >>= λ b. some (b .slot)) (none-named (T .bindings) x
+      (each-imply (λ b e. let l : b .name < length (T .names) = ltb-lt _ _ (both-left (isName T (b .name)) _ e) in ne-eqb (b .name) x (λ q. omega arith)) (numbers-in T k .bindings))))
 
-    pub look-more : (bindingAt T (k - 1) .name ≡ x → ⊥) → Looking (k - 1)
-    unfolding lookup
-    look-more d =
-        record {
-          within = omega (arith, l .within);
-          same = l .same ∙ before ∙ ap (λ (t : Bool). slotFound (lastOf t (bindingAt T (k - 1)) (take (k - 1) (T .bindings)) x)) (ne-eqb _ _ d);
-        }
+  pub last-none : (n : ℕ) → n ≡ lastBinding T x → n ≡ 0 → none ≡ lookup (T .bindings) x
+  unfolding lookup _>>=_
+  last-none n e z = go last (told n e)
+    where
+      go : (o : Option Binding) → Told (T .bindings) n o → none ≡ (o >>= λ b. some (b .slot))
+      go none t = refl
+      go (some b) t = absurd (omega (arith, t .0))
 
-    pub look-hit : bindingAt T (k - 1) .name ≡ x → some (bindingAt T (k - 1) .slot) ≡ lookup (T .bindings) x
-    unfolding _>>=_
-    look-hit d = sym (l .same ∙ before ∙ ap (λ (t : Bool). slotFound (lastOf t (bindingAt T (k - 1)) (take (k - 1) (T .bindings)) x)) (eq-eqb _ _ d))
+  pub last-some : (n : ℕ) → n ≡ lastBinding T x → (n ≡ 0 → ⊥) → (n - 1 < length (T .bindings)) × (some (bindingAt T (n - 1) .slot) ≡ lookup (T .bindings) x)
+  unfolding lookup bindingAt _>>=_
+  last-some n e z = go last (told n e)
+    where
+      go : (o : Option Binding) → Told (T .bindings) n o → (n - 1 < length (T .bindings)) × (some (getD (T .bindings) (n - 1) noBinding .slot) ≡ (o >>= λ b. some (b .slot)))
+      go none t = absurd (z t)
+      go (some b) t = (t .1, ap (λ (b : Binding). some (b .slot)) (sym (t .2)))
 
-  pub look-end : (k : ℕ) → Looking k → k ≤ 0 → none ≡ lookup (T .bindings) x
-  unfolding lookup lastOr _>>=_
-  look-end k l h = let e : k ≡ 0 = omega arith in sym (l .same ∙ ap (λ (j : ℕ). lookup (take j (T .bindings)) x) e)
-
--- the binding that was come to, as its view has it
-pub look-slot : (f : List ℕ) (x k : ℕ) → Looking (tablesOf f) x k → (v : BindingView) → 0 < k → SeenBinding f (bindingAt (tablesOf f) (k - 1)) v → bindingAt (tablesOf f) (k - 1) .name ≡ x → SeenSlot f (lookup (tablesOf f .bindings) x) (Ms.Just (v .slot))
-look-slot f x k l v h s e = record { is = ap (λ (b : Binding). some (b .slot)) (s .is) ∙ look-hit (tablesOf f) x k l h e; inside = s .inside }
+-- the binding that was found, as its view has it
+pub last-slot : (f : List ℕ) (o : Option Slot) (b : Binding) (v : BindingView) → SeenBinding f b v → some (b .slot) ≡ o → SeenSlot f o (Ms.Just (v .slot))
+last-slot f o b v s e = record { is = ap (λ (b : Binding). some (b .slot)) (s .is) ∙ e; inside = s .inside }
 
 -- the Const of the slot that was found
 module _ (f : List ℕ) (o : Option Slot) (r : MaybeSlot) (s : SeenSlot f o r) where

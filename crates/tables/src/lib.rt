@@ -6,13 +6,12 @@ ghost use Rattle.rules.specs.File.{typeAt, nodeAt, varName, recordFields, recor
 ghost use Rattle.rules.specs.Constant as Constant;
 ghost use Rattle.rules.specs.Constant.{fieldPattern, standsFor};
 ghost use Rattle.file.specs.Tables.{Indexed, tablesOf};
-ghost use Rattle.views.specs.Views.{run, fieldAt, alternativeAt, patternAt, bindingAt};
+ghost use Rattle.views.specs.Views.{run, fieldAt, alternativeAt, patternAt};
 ghost use Rattle.ready.specs.Ready.{Ready};
 ghost use Rattle.tables.specs.Tables.{constBound, foundOption, alternativeOption, SeenRun, SeenSlot};
 use file::CONSTANTS;
-use file::base;
+use file::LAST_BINDINGS;
 use file::wide16;
-use file::word_at;
 use views::Alternative;
 use views::NodeView;
 use views::SlotView;
@@ -127,35 +126,26 @@ pub fn alternative_of(file: &[u8], at: usize, n: usize, name: usize) -> MaybeAlt
     MaybeAlternative::Nothing
 }
 
-// A binding's name alone: the search below reads the slot of no other binding than the one it finds.
-fn binding_name(file: &[u8], index: &[u16], k: usize) -> usize
-    requires { ⌜ Indexed (now file) (now index) ⌝ }
-    requires { ⌜ k < length (tablesOf (now file) .bindings) ⌝ }
-    ensures { λ r. ⌜ r ≡ bindingAt (tablesOf (now (file .entry))) k .name ⌝ }
-{
-    word_at(file, wide16(index[base(4) + 1 + k]))
-}
-
-// The slot of a name's last entry among the file's own bindings.
+// The slot of a name's last entry among the file's own bindings: its number stands in the index.
 pub fn lookup(file: &[u8], index: &[u16], name: usize) -> MaybeSlot
-    requires { ⌜ Indexed (now file) (now index) ⌝ }
+    requires { ⌜ Ready (now file) (now index) ⌝ }
     ensures { λ r. ⌜ SeenSlot (now (file .entry)) (Constant.lookup (tablesOf (now (file .entry)) .bindings) name) r ⌝ }
 {
-    let mut k = count_of(file, index, 4);
-    while k > 0 {
-        k -= 1;
-        if binding_name(file, index, k) == name {
-            let b = binding_at(file, index, k);
-            let s = b.slot;
-            return MaybeSlot::Just(s);
-        }
+    if name >= count_of(file, index, 0) {
+        return MaybeSlot::Nothing;
     }
-    MaybeSlot::Nothing
+    let k = wide16(index[LAST_BINDINGS + name]);
+    if k == 0 {
+        return MaybeSlot::Nothing;
+    }
+    let b = binding_at(file, index, k - 1);
+    let s = b.slot;
+    MaybeSlot::Just(s)
 }
 
 // The Const that a name is bound to.
 fn const_of(file: &[u8], index: &[u16], name: usize) -> Found
-    requires { ⌜ Indexed (now file) (now index) ⌝ }
+    requires { ⌜ Ready (now file) (now index) ⌝ }
     ensures { λ r. ⌜ foundOption r ≡ constBound (tablesOf (now (file .entry)) .bindings) name ⌝ }
 {
     let MaybeSlot::Just(s) = lookup(file, index, name) else {
@@ -170,7 +160,7 @@ fn const_of(file: &[u8], index: &[u16], name: usize) -> Found
 
 // The node that a node stands for: a Var bound to Const stands for its node, any other node for itself.
 pub fn folded(file: &[u8], index: &[u16], node: usize) -> usize
-    requires { ⌜ Indexed (now file) (now index) ⌝ }
+    requires { ⌜ Ready (now file) (now index) ⌝ }
     requires { ⌜ node < length (tablesOf (now file) .nodes) ⌝ }
     ensures { λ r. ⌜ r ≡ standsFor (tablesOf (now (file .entry))) node ⌝ }
 {

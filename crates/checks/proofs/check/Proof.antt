@@ -1,4 +1,4 @@
-use mathlib.Core.Path.{_≡_, refl, sym, ap, ap₂, _∙_, subst}
+use mathlib.Core.Path.{sym, _∙_}
 use mathlib.Core.Bool.{Bool, true, false}
 use native.Mathlib.Omega.{arith}
 use Prim.Native.Nat.{ℕ, _+_, _*_, _-_, _≤_, _<_, max}
@@ -12,8 +12,7 @@ use Rattle.file.specs.Tables.{tablesOf, Indexed}
 use Rattle.views.specs.Views.{run}
 use Rattle.checks.proofs.Fill.{indexed-so}
 use Rattle.rules.specs.File.{depths}
-use Rattle.checks.proofs.Verdicts.{all-8, all-9, all-later, index-8, index-9, index-filled, checked, numbered, refused-accepted}
-use lib.Seq.{sets}
+use Rattle.checks.proofs.Verdicts.{all-8, all-9, all-later, index-8, index-9, index-filled, areas, checked, numbered, refused-accepted}
 use Rattle.checks.specs.Checked.{flagsOf}
 use borrow.Author.Needs.{needs}
 use Rattle.checks.proofs.check.Statement.{statement}
@@ -59,24 +58,49 @@ fill-depths-requires c κs = (c .before .before .before .before .before .before 
 
 -- src/lib.rt:422:5
 fill-constants-requires : tie.Need-fill-constants-requires
-fill-constants-requires c κs = (indexed-so _ _ _ (depths (tablesOf (now (c .before .before .before .before .before .before .before .before .before .before .before .before .before .args .file)))) depthsBase (omega arith) (c .before .before .before .fill-depths .ensures) (c .before .before .before .before .before .before .before .before .before .before .before .before .before .pre), sym (c .before .before .before .before .before .before .children-lower .ensures) ∙ not-false _ (c .before .before .before .before .before .if2 .left))
+fill-constants-requires c κs =
+    let o = c .before .before .before .before .before .before in
+    let s = o .before .before .before .before .before .before .before in
+    (indexed-so _ _ _ (depths (tablesOf (now (s .args .file)))) depthsBase (omega arith) (c .before .before .before .fill-depths .ensures) (s .pre), sym (o .children-lower .ensures) ∙ not-false _ (c .before .before .before .before .before .if2 .left))
+
+fill-last-bindings-requires : tie.Need-fill-last-bindings-requires
+fill-last-bindings-requires c κs =
+    let g = c .before .before .before in
+    let d = g .before .before .before .before in
+    let o = d .before .before .before in
+    let s = o .before .before .before .before .before .before .before in
+    let i = indexed-so _ _ _ (depths (tablesOf (now (s .args .file)))) depthsBase (omega arith) (d .fill-depths .ensures) (s .pre) in
+    (indexed-so _ _ _ (flagsOf (tablesOf (now (s .args .file)))) constantsBase (omega arith) (g .fill-constants .ensures) i, sym (o .before .before .before .numbers-in .ensures) ∙ not-false _ (o .before .before .if1 .left))
 
 -- src/lib.rt:423:5
 later-checks-requires : tie.Need-later-checks-requires
-later-checks-requires c κs = numbered _ _ _ _ (c .before .before .before .before .before .before .before .before .before .before .before .before .before .before .before .before .before .pre) (sym (c .before .before .before .before .before .before .before .before .before .before .before .before .before .numbers-in .ensures) ∙ not-false _ (c .before .before .before .before .before .before .before .before .before .before .before .before .if1 .left)) (sym (c .before .before .before .before .before .before .before .before .before .before .children-lower .ensures) ∙ not-false _ (c .before .before .before .before .before .before .before .before .before .if2 .left)) (c .before .before .before .before .before .before .before .fill-depths .ensures) (c .before .before .before .fill-constants .ensures)
+later-checks-requires c κs =
+    let l = c .before .before .before in
+    let g = l .before .before .before .before in
+    let d = g .before .before .before .before in
+    let o = d .before .before .before in
+    let s = o .before .before .before .before .before .before .before in
+    numbered _ _ _ (s .pre) (sym (o .before .before .before .numbers-in .ensures) ∙ not-false _ (o .before .before .if1 .left)) (sym (o .children-lower .ensures) ∙ not-false _ (d .before .before .if2 .left)) (areas _ _ _ _ _ (d .fill-depths .ensures) (g .fill-constants .ensures) (l .fill-last-bindings .ensures))
 
 -- src/lib.rt:409:1
 same-length-3 : tie.Need-same-length-3
-same-length-3 c = c .before .before .before .before .fill-constants .kept .1 .0 ∙ c .before .before .before .before .before .before .before .before .fill-depths .kept .1 .0
+same-length-3 c =
+    let l = c .before .before .before .before in
+    let g = l .before .before .before .before in
+    l .fill-last-bindings .kept .1 .0 ∙ g .fill-constants .kept .1 .0 ∙ g .before .before .before .before .fill-depths .kept .1 .0
 
 -- src/lib.rt:409:1
 returns-3 : tie.Need-returns-3
 returns-3 c =
-    let a = sym (c .before .before .before .before .before .before .before .before .before .before .before .before .before .before .numbers-in .ensures) ∙ not-false _ (c .before .before .before .before .before .before .before .before .before .before .before .before .before .if1 .left) in
-    let b = sym (c .before .before .before .before .before .before .before .before .before .before .before .children-lower .ensures) ∙ not-false _ (c .before .before .before .before .before .before .before .before .before .before .if2 .left) in
-    let i = c .before .before .before .before .fill-constants .ensures in
-    let d = c .before .before .before .before .before .before .before .before .fill-depths .ensures in
-    (c .later-checks .ensures ∙ all-later _ a b, (i ∙ ap (λ l. sets l constantsBase (flagsOf (tablesOf (now (c .before .before .before .before .before .before .before .before .before .before .before .before .before .before .before .before .before .before .args .file))))) d ∙ index-filled _ _ a b, λ e. checked _ _ (numbered _ _ _ _ (c .before .before .before .before .before .before .before .before .before .before .before .before .before .before .before .before .before .before .pre) a b d i) (sym (c .later-checks .ensures) ∙ e)))
+    let l = c .before .before .before .before in
+    let g = l .before .before .before .before in
+    let d = g .before .before .before .before in
+    let o = d .before .before .before in
+    let s = o .before .before .before .before .before .before .before in
+    let a = sym (o .before .before .before .numbers-in .ensures) ∙ not-false _ (o .before .before .if1 .left) in
+    let b = sym (o .children-lower .ensures) ∙ not-false _ (d .before .before .if2 .left) in
+    let i = areas _ _ _ _ _ (d .fill-depths .ensures) (g .fill-constants .ensures) (l .fill-last-bindings .ensures) in
+    (c .later-checks .ensures ∙ all-later _ a b, (i ∙ index-filled _ _ a b, λ e. checked _ _ (numbered _ _ _ (s .pre) a b i) (sym (c .later-checks .ensures) ∙ e)))
 
 pub check-spec : {M : Type 1} → statement M
 check-spec =
@@ -90,6 +114,7 @@ check-spec =
     returns-2
     fill-depths-requires
     fill-constants-requires
+    fill-last-bindings-requires
     later-checks-requires
     same-length-3
     returns-3)

@@ -1,70 +1,79 @@
 use native.Mathlib.Omega.{arith}
+use mathlib.Core.Path.{_∙_}
+use Rattle.ready.proofs.Given.{few-names, passed}
+use Rattle.tables.proofs.Searches.{no-name, last-none, last-some, last-slot}
 use borrow.Author.Needs.{needs}
-use mathlib.Core.Path.{sym, _∙_}
-use Rattle.file.specs.Tables.{tablesOf}
-use Rattle.tables.proofs.Searches.{Looking, look-start, look-more, look-end, look-slot}
 use Rattle.tables.proofs.lookup.Statement.{statement}
 use Rattle.tables.proofs.lookup.Tie as tie
 use Rattle.tables.proofs.lookup.Reads as reads
 use Rattle.tables.proofs.lookup.Lts as lts
-use Rattle.tables.proofs.binding_name.Reads as binding-name-reads
+use Rattle.file.proofs.wide16.Reads as wide16-reads
 use Rattle.views.proofs.binding_at.Reads as binding-at-reads
 use Rattle.views.proofs.count_of.Reads as count-of-reads
 
-abbrev Inv-loop : tie.InvT-loop
-Inv-loop file index name k₀ k = Looking (tablesOf file) name k
+-- src/lib.rt:134:16
+count-of-requires : tie.Need-count-of-requires
+count-of-requires c κs = search needs
 
-abbrev μ-loop : tie.MeasureT-loop
-μ-loop file index name k₀ k = k
+-- src/lib.rt:135:9
+returns : tie.Need-returns
+returns c =
+    let r = c .before .before .before .before .pre in
+    record { is = no-name _ _ (passed _ _ r) (omega (arith, c .before .count-of .ensures, c .if1 .taken)); inside = tt }
 
--- src/lib.rt:168:9
-count-of-requires : tie.Need-count-of-requires Inv-loop μ-loop
-count-of-requires c κs = (search needs, omega arith)
+-- src/lib.rt:137:26
+add-wide16 : tie.Need-add-wide16
+add-wide16 c = omega (arith, c .before .count-of .ensures, c .if1 .left, few-names _ _ (c .before .before .before .before .pre .indexed))
 
--- src/lib.rt:169:5
-loop-holds : tie.Need-loop-holds Inv-loop μ-loop
-loop-holds c = look-start _ _ _ (c .count-of .ensures)
+-- src/lib.rt:137:20
+mul-wide16 : tie.Need-mul-wide16
+mul-wide16 c = omega (arith, c .before .count-of .ensures, c .if1 .left, few-names _ _ (c .before .before .before .before .pre .indexed))
 
--- src/lib.rt:170:9
-sub-k : tie.Need-sub-k Inv-loop μ-loop
-sub-k c = omega arith
+-- src/lib.rt:137:20
+shared-slice-read-wide16 : tie.Need-shared-slice-read-wide16
+shared-slice-read-wide16 c =
+    let i = c .before .before .before .before .before .pre .indexed in
+    omega (arith, c .before .before .count-of .ensures, c .before .if1 .left, few-names _ _ i, i .long)
 
--- src/lib.rt:171:12
-binding-name-requires : tie.Need-binding-name-requires Inv-loop μ-loop
-binding-name-requires c κs = (search needs, omega arith)
+-- src/lib.rt:137:9
+wide16-requires : tie.Need-wide16-requires
+wide16-requires c κs = search needs
 
--- src/lib.rt:172:17
-binding-at-requires : tie.Need-binding-at-requires Inv-loop μ-loop
-binding-at-requires c κs = (search needs, omega arith)
+-- src/lib.rt:139:9
+returns-2 : tie.Need-returns-2
+returns-2 c =
+    let s = c .before .before .before in
+    record { is = last-none _ _ _ (c .before .wide16 .ensures ∙ c .before .before .before .before .before .before .before .pre .last-bindings _ (omega (arith, c .before .before .before .before .count-of .ensures, s .if1 .left))) (c .if2 .taken); inside = tt }
 
--- src/lib.rt:174:13
-returns : tie.Need-returns Inv-loop μ-loop
-returns c = look-slot _ _ _ (c .before .before .before .before .loop .inv) _ (c .before .before .before .loop-test .taken) (c .binding-at .ensures) (sym (c .before .before .binding-name .ensures) ∙ c .before .if1 .taken)
+-- src/lib.rt:141:37
+sub-binding-at : tie.Need-sub-binding-at
+sub-binding-at c = search needs
 
--- src/lib.rt:169:5
-loop-less : tie.Need-loop-less Inv-loop μ-loop
-loop-less c = omega arith
+-- src/lib.rt:141:9
+binding-at-requires : tie.Need-binding-at-requires
+binding-at-requires c κs =
+    let s = c .before .before .before in
+    let r = c .before .before .before .before .before .before .before .pre in
+    (r .indexed, last-some _ _ _ (c .before .wide16 .ensures ∙ r .last-bindings _ (omega (arith, c .before .before .before .before .count-of .ensures, s .if1 .left))) (c .if2 .left) .0)
 
--- src/lib.rt:169:5
-loop-again : tie.Need-loop-again Inv-loop μ-loop
-loop-again c = look-more _ _ _ (c .before .before .before .loop .inv) (c .before .before .loop-test .taken) (λ e. c .if1 .left (c .before .binding-name .ensures ∙ e))
-
--- src/lib.rt:164:1
-returns-2 : tie.Need-returns-2 Inv-loop μ-loop
-returns-2 c = record { is = look-end _ _ _ (c .before .loop .inv) (c .loop-test .left); inside = tt }
+-- src/lib.rt:130:1
+returns-3 : tie.Need-returns-3
+returns-3 c =
+    let e = c .before in
+    let s = c .before .before .before .before in
+    last-slot _ _ _ _ (c .binding-at .ensures) (last-some _ _ _ (e .before .wide16 .ensures ∙ c .before .before .before .before .before .before .before .before .pre .last-bindings _ (omega (arith, c .before .before .before .before .before .count-of .ensures, s .if1 .left))) (e .if2 .left) .1)
 
 pub lookup-spec : {M : Type 1} → statement M
 lookup-spec =
     tie.close
     (tie.spec
-    Inv-loop
-    μ-loop
     count-of-requires
-    loop-holds
-    sub-k
-    binding-name-requires
-    binding-at-requires
     returns
-    loop-less
-    loop-again
-    returns-2)
+    add-wide16
+    mul-wide16
+    shared-slice-read-wide16
+    wide16-requires
+    returns-2
+    sub-binding-at
+    binding-at-requires
+    returns-3)

@@ -7,7 +7,7 @@ use Rattle.constant.proofs.+constant+constant_field+constant_fields+con
 use Rattle.constant.proofs.+constant+constant_field+constant_fields+constant_record+constant_union.Proof.Base.{constant-at, constant-claims}
 
 pub constant-folded-requires : (t : ℕ) → constant-lts.Need-folded-requires (constant-claims t) (constant-at t) constant.Post
-constant-folded-requires t c κs = ((c .before .before .pre .1 .0 .indexed), (c .before .before .pre .1 .1 .0))
+constant-folded-requires t c κs = ((c .before .before .pre .1 .0), (c .before .before .pre .1 .1 .0))
 
 pub constant-node-at-requires : (t : ℕ) → constant-lts.Need-node-at-requires (constant-claims t) (constant-at t) constant.Post
 constant-node-at-requires t c κs = ((c .before .before .before .pre .1 .0 .indexed), stood-in _ _ (c .before .before .before .pre .1 .0) _ _ (c .before .before .before .pre .1 .1 .0) (c .folded .ensures))

@@ -8,7 +8,7 @@ use Rattle.encode.proofs.+put_constant+put_field+put_fields+put_record+
 use Rattle.encode.proofs.+put_constant+put_field+put_fields+put_record+put_union.Proof.Base.{put-constant-at, put-constant-claims}
 
 pub put-constant-folded-requires : (t : ℕ) → put-constant-lts.Need-folded-requires (put-constant-claims t) (put-constant-at t) put-constant.Post
-put-constant-folded-requires t c κs = ((c .before .before .before .pre .1 .0 .indexed), (c .before .before .before .pre .1 .1 .0))
+put-constant-folded-requires t c κs = ((c .before .before .before .pre .1 .0), (c .before .before .before .pre .1 .1 .0))
 
 pub put-constant-node-at-requires : (t : ℕ) → put-constant-lts.Need-node-at-requires (put-constant-claims t) (put-constant-at t) put-constant.Post
 put-constant-node-at-requires t c κs = ((c .before .before .before .before .pre .1 .0 .indexed), stood-in _ _ (c .before .before .before .before .pre .1 .0) _ _ (c .before .before .before .before .pre .1 .1 .0) (c .folded .ensures))

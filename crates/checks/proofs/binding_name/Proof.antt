@@ -7,10 +7,10 @@ use Rattle.rules.specs.File.{Binding}
 use Rattle.file.proofs.Sections.{roomy}
 use Rattle.views.proofs.Slots.{binding-here}
 use borrow.Author.Needs.{needs}
-use Rattle.tables.proofs.binding_name.Statement.{statement}
-use Rattle.tables.proofs.binding_name.Tie as tie
-use Rattle.tables.proofs.binding_name.Reads as reads
-use Rattle.tables.proofs.binding_name.Lts as lts
+use Rattle.checks.proofs.binding_name.Statement.{statement}
+use Rattle.checks.proofs.binding_name.Tie as tie
+use Rattle.checks.proofs.binding_name.Reads as reads
+use Rattle.checks.proofs.binding_name.Lts as lts
 use Rattle.file.proofs.base.Reads as base-reads
 use Rattle.file.proofs.wide16.Reads as wide16-reads
 use Rattle.file.proofs.word_at.Reads as word-at-reads
