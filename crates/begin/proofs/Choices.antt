@@ -2,17 +2,16 @@
 use Prim.Native.Nat.{ℕ, zero, suc, _+_, _*_, _<_}
 use mathlib.Core.Path.{_≡_, refl, sym, ap, _∙_, subst}
 use mathlib.Core.Bool.{Bool, true, false}
-use mathlib.Core.List.{List, [], _∷_}
+use mathlib.Core.List.{List}
 use mathlib.Core.Option.{Option, none, some}
 use native.Mathlib.Omega.{arith}
 use lib.Dec.{eqb}
 use lib.ListN.{length}
-use Rattle.rules.specs.Base.{first}
 use Rattle.rules.specs.File as File
 use Rattle.rules.specs.File.{Tables, FieldPattern, Alternative, typeAt, nodeAt, recordFields, unionTy}
 use Rattle.rules.specs.Constant.{constant, onlyField, alternativeOf}
 use Rattle.rules.specs.Events.{Code}
-use Rattle.rules.specs.Walk.{FieldWalk, narrowBy, injectAlternative, injectOnly}
+use Rattle.rules.specs.Walk.{FieldWalk, injectAlternative, injectOnly}
 use Rattle.rules.proofs.Cases.{true≢false}
 use Rattle.rules.proofs.Each.{each-first}
 use Rattle.rules.proofs.Sound.{Sound, Child}
@@ -31,7 +30,6 @@ use Rattle.tables.specs.declared.Run.the-variants as Ru
 use Rattle.step.specs.Step.{walkState}
 use Rattle.step.specs.declared.Walk.{Walk}
 use Rattle.constrain.specs.Constrain.{orElse, Narrows}
-use Rattle.begin.specs.Pieces.{Lower}
 use Rattle.begin.specs.Begin.{injectFields, injectAt, injected, Chooses}
 use Rattle.begin.specs.declared.Chosen.{Chosen}
 

@@ -15,7 +15,6 @@ use Rattle.rules.proofs.Keeps.{record-children}
 use Rattle.views.specs.Views.{run, fieldAt, patternAt, fieldOf}
 use Rattle.views.specs.declared.FieldTy.{FieldTy}
 use Rattle.views.proofs.Runs.{run-at, length-run}
-use Rattle.slots.specs.Slots.{maybe}
 use Rattle.tables.specs.Tables.{SeenRun, foundOption}
 use Rattle.tables.specs.declared.Found.{Found}
 use Rattle.tables.specs.declared.Found.the-variants as Fo

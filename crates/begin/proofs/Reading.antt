@@ -30,16 +30,9 @@ use Rattle.resolve.specs.Resolved.{given, Answers}
 use Rattle.resolve.specs.declared.Answer.{Answer}
 use Rattle.step.specs.Step.{walkState}
 use Rattle.step.specs.declared.Walk.{Walk}
-use Rattle.begin.specs.Begin.{diagnosed, finish, Begins}
+use Rattle.begin.specs.Begin.{finish, Begins}
 use Rattle.begin.specs.declared.Next.the-variants as Nx
 use Rattle.begin.specs.declared.Begun.{Begun}
-
--- a diagnostic, by whether building falls
-pub diagnosed-falls : (n : ℕ) (code : Code) (falls : Bool) (s : State) → falls ≡ true → report n code (skip s) ≡ diagnosed n code falls s
-diagnosed-falls n code falls s e = ap (λ (x : Bool). diagnosed n code x s) (sym e)
-
-pub diagnosed-stays : (n : ℕ) (code : Code) (falls : Bool) (s : State) → falls ≡ false → report n code s ≡ diagnosed n code falls s
-diagnosed-stays n code falls s e = ap (λ (x : Bool). diagnosed n code x s) (sym e)
 
 -- the kinds that another phase reports
 not-deferred : (f : List ℕ) (v : NodeView) → OneOf (0 ∷ 1 ∷ 2 ∷ 3 ∷ 4 ∷ 6 ∷ 7 ∷ 8 ∷ 9 ∷ 10 ∷ 11 ∷ 14 ∷ 15 ∷ []) (tagOf NodeViews.the-type v) → deferred (nodeOf f v) ≡ false

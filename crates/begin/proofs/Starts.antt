@@ -12,10 +12,10 @@ use types.Run.{OneOf, miss}
 use denote.Enum.Declared.{tagOf}
 use Rattle.rules.specs.File as File
 use Rattle.rules.specs.File.{Tables, Node, FieldPattern, Alternative, typeAt, nodeAt, varName, recordFields, unionTy, constantOf, constants, isConstant}
-use Rattle.rules.specs.Constant.{constant, onlyField}
+use Rattle.rules.specs.Constant.{constant}
 use Rattle.rules.specs.Events.{Code}
 use Rattle.rules.specs.Resolve.{Answer, Resolver, give, resolveNode, resolveBelow, resolve}
-use Rattle.rules.specs.Walk.{FieldWalk, narrowBy, constrain, injectOnly, inject, readAnswer, read, ranged, variable, fieldNode}
+use Rattle.rules.specs.Walk.{FieldWalk, narrowBy, constrain, inject, readAnswer, read, ranged, variable, fieldNode}
 use Rattle.rules.proofs.Cases.{some≢none}
 use Rattle.rules.proofs.BottomUp.{at-place}
 use Rattle.rules.proofs.Idle.{idle-fieldNode}

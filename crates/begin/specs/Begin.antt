@@ -7,10 +7,10 @@ use mathlib.Core.Option.{Option, none, some}
 use Rattle.rules.specs.File as File
 use Rattle.rules.specs.File.{Tables, FieldPattern, Alternative, typeAt, nodeAt, recordFields, unionTy, payload}
 use Rattle.rules.specs.Constant.{constant, onlyField}
-use Rattle.rules.specs.Events.{Code, Narrowing}
+use Rattle.rules.specs.Events.{Narrowing}
 use Rattle.rules.specs.Walk.{FieldWalk, narrowBy, partial, matched, injectOnly, read}
 use Rattle.state.specs.State.{State}
-use Rattle.state.specs.Ops.{ops, narrow, report, skip, closer}
+use Rattle.state.specs.Ops.{ops, narrow, closer}
 use Rattle.slots.specs.Slots.{slotOf}
 use Rattle.begin.specs.Pieces.{Lower}
 use Rattle.begin.specs.declared.Next.{Next}
@@ -18,11 +18,6 @@ use Rattle.begin.specs.declared.Next.the-variants as Nx
 use Rattle.begin.specs.declared.Begun.{Begun}
 use Rattle.begin.specs.declared.Met.{Met}
 use Rattle.begin.specs.declared.Chosen.{Chosen}
-
--- a diagnostic, and whether building falls with it
-abbrev pub diagnosed : ℕ → Code → Bool → State → State
-diagnosed n code true s = report n code (skip s)
-diagnosed n code false s = report n code s
 
 -- a Record against a Union
 unfoldable pub isInjection : Option (List FieldPattern) → Option (List Alternative) → Bool

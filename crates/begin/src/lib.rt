@@ -17,10 +17,9 @@ ghost use Rattle.views.specs.Views.{patternAt, predicateOption};
 ghost use Rattle.slots.specs.Slots.{slotOf};
 ghost use Rattle.ready.specs.Ready.{Ready};
 ghost use Rattle.tables.specs.Tables.{SeenRun};
-ghost use Rattle.lists.specs.Lists.{codeOf};
 ghost use Rattle.step.specs.Step.{walkState};
 ghost use Rattle.begin.specs.Pieces.{Fits, fieldsFor, Pieced};
-ghost use Rattle.begin.specs.Begin.{diagnosed, injectAt, injectFields, isInjection, placeWalk, Begins, Meets, Chooses};
+ghost use Rattle.begin.specs.Begin.{injectAt, injectFields, isInjection, placeWalk, Begins, Meets, Chooses};
 use constrain::constrain;
 use constrain::narrow;
 use constrain::ranged;
@@ -160,16 +159,6 @@ fn done(w: Walk) -> Begun
     }
 }
 
-// A diagnostic. `falls` says whether building falls with it.
-fn diagnose(work: &mut [u8], node: usize, code: Code, falls: bool, w: Walk) -> Walk
-    ensures { λ r. ⌜ ((T : File.Tables) (plan : List ℕ) → walkState T r (now (work .exit)) plan ≡ diagnosed node (codeOf code) falls (walkState T w (now (work .entry)) plan)) ⌝ }
-{
-    if falls {
-        return w.decline(work, node, code);
-    }
-    w.report(work, node, code)
-}
-
 // The kinds that another phase reports.
 fn is_deferred(file: &[u8], index: &[u16], node: usize) -> bool
     requires { ⌜ Indexed (now file) (now index) ⌝ }
@@ -195,7 +184,7 @@ fn unresolved(file: &[u8], index: &[u16], work: &mut [u8], node: usize, mark: u3
     let lists = w.lists;
     let ends = lists.ends;
     if ends.diagnostics == mark {
-        return diagnose(work, node, Code::RejectUnresolvedAccess, true, w);
+        return w.diagnose(work, node, Code::RejectUnresolvedAccess, true);
     }
     w.skip()
 }
@@ -339,10 +328,10 @@ pub fn begin(
     match node_of(file, index, node) {
         NodeView::Var(x) => begin_variable(file, index, work, plan, x, node, ty, address, path, w),
         NodeView::Wildcard => done(w.skip()),
-        NodeView::Never => done(diagnose(work, node, Code::NyiNever, true, w)),
+        NodeView::Never => done(w.diagnose(work, node, Code::NyiNever, true)),
         NodeView::Prefix(_) => done(ranged(file, index, work, plan, node, ty, path, w)),
         NodeView::Fuzzy(_, _, _) => done(ranged(file, index, work, plan, node, ty, path, w)),
-        NodeView::Disjunction => done(diagnose(work, node, Code::NyiDisjunction, true, w)),
+        NodeView::Disjunction => done(w.diagnose(work, node, Code::NyiDisjunction, true)),
         _ => begin_place(file, index, work, node, ty, w),
     }
 }
@@ -381,7 +370,7 @@ fn meet_row(
     if refers_to(predicate, referenced) {
         return w.fact_id(path, from, plan);
     }
-    diagnose(work, node, Code::RejectTypeMismatch, false, w)
+    w.diagnose(work, node, Code::RejectTypeMismatch, false)
 }
 
 // A register's field. The level's own register is the row at hand: reported, and building stays.
@@ -398,7 +387,7 @@ fn meet_field(
     ensures { λ r. ⌜ ((T : File.Tables) (below : FieldWalk State) (ty t : ℕ) → walkState T r (now (work .exit)) (now (plan .exit)) ≡ Rules.matched (ops T) T (address .0) below node (File.Slot.Field (from .0) (pathOf at) ty) t (pathOf path) (walkState T w (now (work .entry)) (now (plan .entry)))) ⌝ }
 {
     if from.0 == address.0 {
-        return diagnose(work, node, Code::NyiRepeatedVariable, false, w);
+        return w.diagnose(work, node, Code::NyiRepeatedVariable, false);
     }
     w.register_field(path, from, at, plan)
 }
@@ -460,10 +449,10 @@ pub fn meet(
     let at = slot.path;
     match kind {
         SlotKind::Row(a, p) => unopened(meet_row(file, index, work, plan, node, a, p, ty, path, w)),
-        SlotKind::Key(_, _) => unopened(diagnose(work, node, Code::NyiWholeKey, true, w)),
-        SlotKind::Derived(_) => unopened(diagnose(work, node, Code::NyiValueMatch, true, w)),
+        SlotKind::Key(_, _) => unopened(w.diagnose(work, node, Code::NyiWholeKey, true)),
+        SlotKind::Derived(_) => unopened(w.diagnose(work, node, Code::NyiValueMatch, true)),
         SlotKind::Field(a, _) => unopened(meet_field(work, plan, node, a, at, address, path, w)),
-        SlotKind::Value(_, _) => unopened(diagnose(work, node, Code::NyiValueMatch, false, w)),
+        SlotKind::Value(_, _) => unopened(w.diagnose(work, node, Code::NyiValueMatch, false)),
         SlotKind::Const(n) => meet_const(file, index, plan, n, ty, path, w),
     }
 }
@@ -500,11 +489,11 @@ fn choose_alternative(
         return unchosen(w);
     };
     if k != 1 {
-        return unchosen(diagnose(work, node, Code::RejectUnionArity, true, w));
+        return unchosen(w.diagnose(work, node, Code::RejectUnionArity, true));
     }
     let p = field_pattern_at(file, at, 0);
     let MaybeAlternative::Just(a) = alternative_of(file, from, m, p.name) else {
-        return unchosen(diagnose(work, node, Code::RejectUnknownAlternative, true, w));
+        return unchosen(w.diagnose(work, node, Code::RejectUnknownAlternative, true));
     };
     Chosen {
         go: true,

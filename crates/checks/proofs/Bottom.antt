@@ -1,25 +1,24 @@
 -- What is computed bottom up: the depths of the types and the constancy of the nodes.
-use Prim.Native.Nat.{ℕ, zero, suc, _+_, _*_, _-_, _≤_, _<_, max}
+use Prim.Native.Nat.{ℕ, zero, suc, _+_, _-_, _≤_, _<_, max}
 use mathlib.Core.Path.{_≡_, refl, sym, ap, ap₂, _∙_, subst}
 use mathlib.Core.Bool.{Bool, true, false}
-use mathlib.Core.List.{List, [], _∷_, _++_, map, append-assoc}
+use mathlib.Core.List.{List, [], _∷_, _++_, map}
 use mathlib.Core.Logic.{⊎-elim}
 use native.Mathlib.Omega.{arith}
 use native.Mathlib.Nat.{add-zero, zero-add}
 use native.Mathlib.Numerals.{add-one}
-use lib.Dec.{ltb, eqb}
-use lib.ListN.{length, getD, set, take, drop, length-append, length-set, List·getD-eq-default, length-map}
-use lib.Seq.{sets, length-sets, getD-take, getD-drop, take-suc, take-append-seam, getD-append-seam, take-append-le, length-take-le, take-take, take-all, getD-set-same, getD-set-other}
-use borrow.Author.Tests.{ltb-true, lt-ltb}
-use Rattle.rules.specs.Base.{both, all, allFrom, bottomUp}
-use Rattle.rules.specs.File as File
-use Rattle.rules.specs.File.{Tables, Ty, Node, typeAt, nodeAt, childTypes, childNodes, deepest, depthOf, depths, depth, constantOf, constants, isConstant}
+use lib.Dec.{ltb}
+use lib.ListN.{length, getD, set, take, drop, length-append, List·getD-eq-default}
+use lib.Seq.{sets, getD-take, getD-drop, take-suc, take-append-seam, getD-append-seam, length-take-le, take-take, take-all}
+use borrow.Author.Tests.{ltb-true}
+use Rattle.rules.specs.Base.{both, all, bottomUp}
+use Rattle.rules.specs.File.{Tables, Ty, Node, typeAt, nodeAt, childTypes, childNodes, deepest, depthOf, depths, constantOf, constants}
 use Rattle.rules.specs.Checks.{childrenLower}
 use Rattle.file.proofs.Readers.{lt-or-le}
-use Rattle.file.proofs.Accepted.{sets-in, sets-below}
+use Rattle.file.proofs.Accepted.{sets-in}
 use Rattle.views.specs.Views.{run}
 use Rattle.numbers.specs.Numbers.{typesLower, nodesLower}
-use Rattle.numbers.proofs.Every.{every, if-both, both-inv, every-at}
+use Rattle.numbers.proofs.Every.{if-both, both-inv, every-at}
 use Rattle.numbers.proofs.Seen.{types-lower-every, nodes-lower-every}
 
 module _ {A B : Type 0} (f : List B → A → B) (d : B) (a : A) where

@@ -1,19 +1,18 @@
 -- The filled index, and what the checks 11, 13 and 14 read in it.
-use Prim.Native.Nat.{ℕ, zero, suc, _+_, _*_, _-_, _≤_, _<_, max}
+use Prim.Native.Nat.{ℕ, _+_, _-_, _≤_, _<_, max}
 use mathlib.Core.Path.{_≡_, refl, sym, ap, ap₂, _∙_, subst}
 use mathlib.Core.Bool.{Bool, true, false}
-use mathlib.Core.List.{List, [], _∷_, _++_, map}
-use mathlib.Core.Logic.{⊎-elim}
+use mathlib.Core.List.{List, _∷_}
 use native.Mathlib.Omega.{arith}
-use native.Mathlib.Nat.{add-zero, zero-add}
+use native.Mathlib.Nat.{zero-add}
 use lib.Dec.{ltb, leb, eqb, lit<}
 use lib.ListN.{length, getD, set, take, drop, List·getD-map, length-map}
 use lib.Seq.{sets, length-sets, getD-take, getD-drop, take-all}
-use borrow.Author.Tests.{ltb-true, lt-ltb, le-ltb, le-leb, lt-leb, eq-eqb, ne-eqb}
-use Rattle.rules.specs.Base.{both, all, concatMap}
+use borrow.Author.Tests.{ltb-true, le-leb, lt-leb, eq-eqb, ne-eqb}
+use Rattle.rules.specs.Base.{both, all}
 use Rattle.rules.specs.Limits.{depthLimit, stepLimit}
 use Rattle.rules.specs.File as File
-use Rattle.rules.specs.File.{Tables, Ty, Node, Slot, typeAt, nodeAt, childTypes, childNodes, deepest, depthOf, depths, depth, constantOf, constants}
+use Rattle.rules.specs.File.{Tables, typeAt, nodeAt, deepest, depthOf, depths, depth, constantOf, constants}
 use Rattle.rules.specs.Read.{Reader}
 use Rattle.rules.specs.Checks.{isName, isType, isNode, slotIn, bindingIn, numbersIn, childrenLower, typesShallow, slotConstant, constsConstant, slotFits}
 use Rattle.file.specs.Steps.{word, baseOf, limitOf, depthsBase, constantsBase, indexLength}
@@ -21,7 +20,7 @@ use Rattle.file.specs.Tables.{Indexed, Section, Stands, tablesOf}
 use Rattle.file.proofs.Readers.{down}
 use Rattle.file.proofs.Sections.{roomy}
 use Rattle.file.proofs.Accepted.{sets-below}
-use Rattle.views.specs.Views.{run, long, byteAt, pathAt, sizeOf, slotOf, bindingAt, fetchedAt, SlotInside, SeenBinding, SeenFetched}
+use Rattle.views.specs.Views.{run, long, byteAt, pathAt, bindingAt, fetchedAt, SlotInside, SeenBinding, SeenFetched}
 use Rattle.views.specs.declared.BindingView.{BindingView}
 use Rattle.views.specs.declared.FetchedView.{FetchedView}
 use Rattle.views.specs.declared.SlotView.{SlotView}

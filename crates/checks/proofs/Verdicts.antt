@@ -1,20 +1,18 @@
 -- The verdict by cases: the first check that fails, and the index afterwards.
-use Prim.Native.Nat.{ℕ, _+_, _<_}
+use Prim.Native.Nat.{ℕ}
 use mathlib.Core.Path.{_≡_, refl, sym, ap, ap₂, _∙_, subst}
 use mathlib.Core.Bool.{Bool, true, false}
 use mathlib.Core.List.{List, [], _∷_}
 use mathlib.Core.Option.{Option, none, some}
 use native.Mathlib.Omega.{arith}
-use lib.ListN.{length, drop}
 use lib.Seq.{sets}
 use Rattle.rules.specs.Base.{both}
 use Rattle.rules.specs.File.{Tables, depths}
-use Rattle.rules.specs.Checks.{Check, fault, checks, numbersIn, childrenLower, typesDistinct, typesShallow, childrenOnce, constsConstant, pathsFit}
+use Rattle.rules.specs.Checks.{Check, fault, numbersIn, childrenLower, typesDistinct, typesShallow, childrenOnce, constsConstant, pathsFit}
 use Rattle.rules.specs.Read.{Read}
 use Rattle.rules.specs.Read as Read
 use Rattle.file.specs.Steps.{stepAt, readAt, indexOf, depthsBase, constantsBase}
 use Rattle.file.specs.Tables.{Indexed, tablesOf}
-use Rattle.file.specs.declared.Step.{Step}
 use Rattle.file.specs.declared.Step.the-variants as St
 use Rattle.file.proofs.Suffix.{faulted}
 use Rattle.checks.specs.Checked.{flagsOf, lastBindings, filledIndex, once, marked, Filled, Numbered, Checked, laterChecks, verdictOf, laterFault, allFault, checkedIndex, readVerdict, fileVerdict, readIndex, fileIndex}

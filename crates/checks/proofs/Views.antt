@@ -1,15 +1,15 @@
 -- What the views of a type and of a node give to depths, constancy and marks.
 use Prim.Native.Nat.{ℕ, _+_, _<_}
-use mathlib.Core.Path.{_≡_, refl, sym, ap, _∙_}
+use mathlib.Core.Path.{_≡_, sym, ap, _∙_}
 use mathlib.Core.Bool.{Bool, true, false}
-use mathlib.Core.List.{List, [], _∷_, map}
+use mathlib.Core.List.{List, [], _∷_}
 use lib.Dec.{ltb}
-use lib.ListN.{length, getD}
+use lib.ListN.{getD}
 use borrow.Author.Tests.{ltb-true}
 use Rattle.rules.specs.Base.{all}
 use Rattle.rules.specs.File.{Ty, Node, childTypes, childNodes, deepest, depthOf, constantOf}
 use Rattle.file.specs.Steps.{word}
-use Rattle.views.specs.Views.{run, fieldAt, alternativeAt, patternAt, SeenType, SeenNode}
+use Rattle.views.specs.Views.{run, patternAt, SeenType, SeenNode}
 use Rattle.views.specs.declared.TypeView.{TypeView}
 use Rattle.views.specs.declared.TypeView.the-variants as Tv
 use Rattle.views.specs.declared.NodeView.{NodeView}

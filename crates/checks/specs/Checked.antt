@@ -1,5 +1,5 @@
 -- The checks 11 to 14 in the steps that the code takes, the filled index, and the verdict on a file.
-use Prim.Native.Nat.{ℕ, zero, suc, _+_, _*_, _≤_, _<_}
+use Prim.Native.Nat.{ℕ, _+_, _<_}
 use mathlib.Core.Path.{_≡_}
 use mathlib.Core.Bool.{Bool, true, false}
 use mathlib.Core.List.{List, [], _∷_, map}
@@ -8,7 +8,7 @@ use lib.ListN.{length, getD, set, drop, replicate}
 use lib.Dec.{eqb, leb}
 use lib.Seq.{sets}
 use Rattle.rules.specs.Base.{both, all}
-use Rattle.rules.specs.Limits.{depthLimit, stepLimit}
+use Rattle.rules.specs.Limits.{stepLimit}
 use Rattle.rules.specs.File.{Tables, Binding, depths, depth, constants, isConstant}
 use Rattle.rules.specs.Checks.{numbersIn, childrenLower, typesDistinct, typesShallow, childrenOnce, constsConstant, slotFits, pathsFit, check, checks, fault, Check}
 use Rattle.rules.specs.Read.{Read}

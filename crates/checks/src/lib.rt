@@ -1,21 +1,21 @@
 // The whole-file checks 11 to 14 and the verdict on a file. The depth of each type and the constancy of each node are computed once,
 // bottom up, and kept in the index, with the number of each name's last binding.
 ghost use mathlib.Core.Path.{_≡_};
-ghost use mathlib.Core.Bool.{Bool, true, false};
+ghost use mathlib.Core.Bool.{true, false};
 ghost use mathlib.Core.List.{_∷_, []};
-ghost use Prim.Native.Nat.{ℕ, _+_, _*_, _≤_, _<_, max};
+ghost use Prim.Native.Nat.{_+_, _≤_, _<_, max};
 ghost use lib.ListN.{length, getD, drop, replicate};
 ghost use lib.Seq.{sets};
 ghost use lib.Dec.{ltb};
 ghost use Rattle.rules.specs.Base.{all, concatMap};
 ghost use Rattle.rules.specs.Limits.{fileLimit};
-ghost use Rattle.rules.specs.File.{typeAt, nodeAt, childTypes, childNodes, deepest, depthOf, depths, depth, constantOf, isConstant};
+ghost use Rattle.rules.specs.File.{typeAt, nodeAt, childNodes, deepest, depthOf, depths, depth, constantOf, isConstant};
 ghost use Rattle.rules.specs.Checks.{numbersIn, childrenLower, typesShallow, childrenOnce, slotConstant, constsConstant, slotFits, pathsFit};
 ghost use Rattle.file.specs.Steps.{word, depthsBase, constantsBase, lastBindingsBase, indexLength};
 ghost use Rattle.file.specs.Tables.{Indexed, tablesOf};
-ghost use Rattle.views.specs.Views.{run, bindingAt, fetchedAt};
+ghost use Rattle.views.specs.Views.{run, bindingAt};
 ghost use Rattle.numbers.specs.Numbers.{Words};
-ghost use Rattle.checks.specs.Checked.{bitOf, flagsAt, flagsOf, once, marked, Filled, Numbered, Checked, slotsFit, fetchedFit, lastBindings, laterFault, allFault, checkedIndex, verdictOf, fileVerdict, fileIndex};
+ghost use Rattle.checks.specs.Checked.{bitOf, flagsAt, flagsOf, once, marked, Filled, Numbered, Checked, slotsFit, fetchedFit, lastBindings, laterFault, allFault, checkedIndex, fileVerdict, fileIndex};
 use file::CONSTANTS;
 use file::DEPTHS;
 use file::LAST_BINDINGS;

@@ -1,14 +1,12 @@
 -- From how a call ends to what the written rules say of it.
 use mathlib.Core.Path.{_≡_, refl, sym, ap, _∙_}
 use mathlib.Core.List.{List, [], _∷_, _++_}
-use Prim.Native.Nat.{ℕ, zero, suc, _+_, _-_, _≤_, _<_}
+use Prim.Native.Nat.{ℕ, suc, _+_, _-_, _<_}
 use native.Mathlib.Nat.{sub-zero}
-use native.Mathlib.Omega.{arith}
 use lib.ListN.{length, take, getD, replicate}
 use lib.Seq.{length-take-le}
 use Rattle.rules.specs.Base.{Each, done, more}
-use Rattle.rules.specs.Compile as Rules
-use Rattle.rules.specs.Compile.{Outcome, returned, buffer, compiled, compile, outcome}
+use Rattle.rules.specs.Compile.{returned, buffer, compiled, compile, outcome}
 use Rattle.rules.specs.Demand1.{Byte}
 use Rattle.compile.specs.Endings.{zeroed, outcomeOf, lengthOf, answerOf, Within}
 use Rattle.compile.specs.declared.Ending.{Ending}

@@ -23,12 +23,12 @@ use Rattle.state.specs.State.{state, stop}
 use Rattle.state.specs.Levels as Kept
 use Rattle.state.specs.Levels.{written, finished, compiled, lists}
 use Rattle.state.proofs.Whole.{exact-file}
-use Rattle.file.specs.Tables.{Indexed, tablesOf}
+use Rattle.file.specs.Tables.{tablesOf}
 use Rattle.ready.specs.Ready.{Ready, flag}
 use Rattle.checks.specs.Checked.{bitOf, Checked, verdictOf, allFault, readVerdict, fileVerdict}
 use Rattle.checks.specs.declared.Verdict.{Verdict}
 use Rattle.checks.specs.declared.Verdict.the-variants as Ve
-use Rattle.compile.specs.Endings.{outcomeOf, Within, callVerdict, Memory, memory, memoryBy}
+use Rattle.compile.specs.Endings.{outcomeOf, callVerdict, Memory, memory, memoryBy}
 use Rattle.levels.specs.Written.{unleveled, between, writtenOf}
 use Rattle.compile.specs.declared.Ending.the-variants.{Planned, Refused}
 use Rattle.levels.specs.declared.Written.{Written}

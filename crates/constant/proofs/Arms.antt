@@ -7,9 +7,7 @@ use native.Mathlib.Omega.{arith}
 use lib.ListN.{length, length-append}
 use types.Run.{OneOf, miss}
 use denote.Enum.Declared.{tagOf}
-use Rattle.rules.specs.Base.{Each}
 use Rattle.rules.specs.File.{Tables, Ty, Node, nameAt, typeAt, nodeAt}
-use Rattle.rules.specs.File as File
 use Rattle.rules.specs.Checks.{isName, nodeIn}
 use Rattle.rules.specs.Constant as Rules
 use Rattle.rules.specs.Constant.{atInt, atStr, atBytes, escape, flipSign, encodeInt, encodePrefix, encodeStr, encodeBytes, constantRecord, constantNode, standsFor}

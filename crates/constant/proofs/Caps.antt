@@ -8,7 +8,6 @@ use Rattle.rules.specs.Constant.{escape, encodePrefix}
 use Rattle.views.specs.Views.{run, byteAt, SeenText}
 use Rattle.views.specs.declared.Text.{Text}
 use Rattle.constant.specs.Sizes.{cap, wrapped}
-use Rattle.constant.specs.declared.Const.{Const}
 use Rattle.constant.specs.declared.Const.the-variants as Co
 use Rattle.constant.specs.declared.Size.{Size}
 use Rattle.constant.specs.declared.Size.the-variants as Si

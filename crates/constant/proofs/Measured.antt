@@ -8,7 +8,7 @@ use lib.Dec.{eqb}
 use lib.ListN.{length, length-append}
 use types.Run.{OneOf, miss}
 use denote.Enum.Declared.{tagOf}
-use Rattle.rules.specs.Base.{Each, _>>=_}
+use Rattle.rules.specs.Base.{_>>=_}
 use Rattle.rules.specs.File.{Tables, Ty}
 use Rattle.rules.specs.File as File
 use Rattle.rules.specs.Constant as Rules

@@ -11,6 +11,7 @@ ghost use Rattle.views.specs.Views.{run, byteAt, fieldAt, alternativeAt, patter
 ghost use Rattle.ready.specs.Ready.{Ready};
 ghost use Rattle.constant.specs.Plain.{leastByte, plain};
 ghost use Rattle.constant.specs.Sizes.{cap, sizeWith, Small, viewOf, constView, intOnly, strOnly, bytesAlone, sizeOf, wrapped, fieldBytes, payloadBytes, Patterns, Fields, Alternatives};
+use file::least;
 use tables::Found;
 use tables::MaybeAlternative;
 use tables::alternative_of;
@@ -57,13 +58,6 @@ fn width(b: u8) -> usize
     ensures { λ r. ⌜ r ≡ length (escape (b ∷ [])) ⌝ }
 {
     if b == 0 { 2 } else { 1 }
-}
-
-// The lesser of two bytes.
-fn least(a: u8, b: u8) -> u8
-    ensures { λ r. ⌜ r ≡ min a b ⌝ }
-{
-    if a < b { a } else { b }
 }
 
 // The least of the n bytes from at on, 255 where there is none. Only one byte is kept, so that the loop becomes vector code.

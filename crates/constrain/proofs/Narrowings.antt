@@ -13,7 +13,7 @@ use Rattle.rules.specs.Walk.{FieldWalk, narrowing, narrowBy, ranged}
 use Rattle.rules.proofs.Cases.{true≢false}
 use Rattle.rules.proofs.Sound.{Sound}
 use Rattle.state.specs.State.{State}
-use Rattle.state.specs.Ops.{ops, narrow, report, skip}
+use Rattle.state.specs.Ops.{ops, narrow}
 use Rattle.tables.proofs.Searches.{stands-self}
 use Rattle.ready.proofs.Constants.{constant-is}
 use Rattle.constant.specs.Sizes.{viewOf, constView}
@@ -21,7 +21,8 @@ use Rattle.constant.specs.declared.Const.{Const}
 use Rattle.constant.specs.declared.Const.the-variants as Co
 use Rattle.constant.proofs.Known.{known-nothing}
 use Rattle.narrow.specs.Narrow.{constOf, narrowedBy}
-use Rattle.constrain.specs.Constrain.{isNothing, orElse, Narrows, mistyped, narrowOr}
+use Rattle.step.specs.Step.{diagnosed}
+use Rattle.constrain.specs.Constrain.{isNothing, orElse, Narrows, narrowOr}
 
 -- a number past the nodes is no constant
 error-at : (T : Tables) (n : ℕ) → length (T .nodes) ≤ n → nodeAt T n ≡ Node.Error
@@ -80,20 +81,12 @@ module _ (T : Tables) (n t : ℕ) (path : File.FieldPath) (s₀ : State) where
   module _ (b : Bool) (s : State) (g : Narrows T n t path s₀ b s) where
     pub or-yes : b ≡ true → (falls : Bool) → s ≡ narrowOr T n t path falls s₀
     unfolding narrowOr orElse
-    or-yes e falls = sym (ap (λ x. orElse x (mistyped n falls) s) e) ∙ g .is (mistyped n falls)
+    or-yes e falls = sym (ap (λ x. orElse x (diagnosed n Code.RejectTypeMismatch falls) s) e) ∙ g .is (diagnosed n Code.RejectTypeMismatch falls)
 
-    or-no : b ≡ false → (falls : Bool) (s′ : State) → s′ ≡ mistyped n falls s → s′ ≡ narrowOr T n t path falls s₀
+    pub or-no : b ≡ false → (falls : Bool) (s′ : State) → s′ ≡ diagnosed n Code.RejectTypeMismatch falls s → s′ ≡ narrowOr T n t path falls s₀
     unfolding narrowOr orElse
-    or-no e falls s′ q = q ∙ sym (ap (λ x. orElse x (mistyped n falls) s) e) ∙ g .is (mistyped n falls)
-
-    pub or-falls : b ≡ false → (falls : Bool) → falls ≡ true → (s′ : State) → s′ ≡ report n Code.RejectTypeMismatch (skip s) → s′ ≡ narrowOr T n t path falls s₀
-    unfolding mistyped
-    or-falls e falls h s′ q = or-no e falls s′ (q ∙ ap (λ x. mistyped n x s) (sym h))
-
-    pub or-stays : b ≡ false → (falls : Bool) → falls ≡ false → (s′ : State) → s′ ≡ report n Code.RejectTypeMismatch s → s′ ≡ narrowOr T n t path falls s₀
-    unfolding mistyped
-    or-stays e falls h s′ q = or-no e falls s′ (q ∙ ap (λ x. mistyped n x s) (sym h))
+    or-no e falls s′ q = q ∙ sym (ap (λ x. orElse x (diagnosed n Code.RejectTypeMismatch falls) s) e) ∙ g .is (diagnosed n Code.RejectTypeMismatch falls)
 
   pub ranged-is : (s : State) → s ≡ narrowOr T n t path false s₀ → (a : ℕ) (below : FieldWalk State) → s ≡ ranged (ops T) T a below n t path s₀
-  unfolding ranged narrowOr mistyped
+  unfolding ranged narrowOr
   ranged-is s e a below = e

@@ -1,6 +1,6 @@
 -- The constraints of a variable: those of one rank in file order, the ranks one after another.
 use Prim.Native.Nat.{ℕ, zero, suc, _+_, _≤_, _<_}
-use mathlib.Core.Path.{_≡_, refl, sym, ap, _∙_, subst}
+use mathlib.Core.Path.{_≡_, refl, sym, ap, _∙_}
 use mathlib.Core.Bool.{Bool, true, false}
 use mathlib.Core.List.{List, [], _∷_, _++_}
 use mathlib.Core.Option.{Option, none, some}
@@ -9,18 +9,16 @@ use native.Mathlib.Omega.{arith}
 use types.Run.{OneOf, miss}
 use denote.Enum.Declared.{tagOf}
 use lib.Dec.{eqb}
-use lib.ListN.{length, drop, getD, drop-of-length-le}
+use lib.ListN.{length, drop, drop-of-length-le}
 use lib.Seq.{drop-cons}
 use borrow.Author.Tests.{eq-eqb, ne-eqb}
 use Rattle.rules.proofs.Cases.{true≢false, some≢none}
 use Rattle.rules.specs.Base.{first, filter}
 use Rattle.rules.specs.File as File
 use Rattle.rules.specs.File.{Tables, Constraint, Node, nodeAt}
-use Rattle.rules.specs.Constant.{constant}
-use Rattle.rules.specs.Events.{Code}
-use Rattle.rules.specs.Walk.{anchorRank, rank, narrowBy, constraintsOf, ranked, constrainEach, constrainBy, constrain}
+use Rattle.rules.specs.Walk.{anchorRank, rank, constraintsOf, ranked, constrainEach, constrainBy, constrain}
 use Rattle.state.specs.State.{State}
-use Rattle.state.specs.Ops.{ops, bound, constrained, report, skip}
+use Rattle.state.specs.Ops.{ops, bound, constrained, skip}
 use Rattle.views.specs.Views.{anchorOf, nodeOf, constraintOf, constraintAt, SeenNode}
 use Rattle.views.specs.declared.Anchor.{Anchor}
 use Rattle.views.specs.declared.Anchor.the-variants as An
@@ -31,7 +29,7 @@ use Rattle.views.proofs.NodeView as NodeViews
 use Rattle.tables.specs.Tables.{foundOption}
 use Rattle.tables.specs.declared.Found.{Found}
 use Rattle.tables.specs.declared.Found.the-variants as Fo
-use Rattle.constrain.specs.Constrain.{mistyped, narrowOr, patternFor, isConstrained}
+use Rattle.constrain.specs.Constrain.{narrowOr, patternFor, isConstrained}
 
 -- A node's rank.
 pub prefix-last : (a : Anchor) → a ≡ An.Prefix → 3 ≡ anchorRank (anchorOf a)
@@ -111,7 +109,7 @@ module _ (T : Tables) (x r t : ℕ) (path : File.FieldPath) where
   by (some p) s = narrowOr T p t path true s
 
   by-rank : (k : Constraint) (ks : List Constraint) (s : State) (b : Bool) → constrainEach (ops T) T (elim b [ true ↦ k ∷ picked T x r ks | false ↦ picked T x r ks ]) t path s ≡ constrainEach (ops T) T (picked T x r ks) t path (by (elim b [ true ↦ some (k .node) | false ↦ none ]) s)
-  unfolding constrainEach by narrowOr mistyped
+  unfolding constrainEach by narrowOr
   by-rank k ks s true = refl
   by-rank k ks s false = refl
 

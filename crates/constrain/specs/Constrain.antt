@@ -11,7 +11,8 @@ use Rattle.rules.specs.Constant.{constant}
 use Rattle.rules.specs.Events.{Code}
 use Rattle.rules.specs.Walk.{narrowBy, rank}
 use Rattle.state.specs.State.{State}
-use Rattle.state.specs.Ops.{ops, report, skip}
+use Rattle.state.specs.Ops.{ops}
+use Rattle.step.specs.Step.{diagnosed}
 use Rattle.constant.specs.declared.Const.{Const}
 use Rattle.constant.specs.declared.Const.the-variants as Co
 
@@ -30,13 +31,9 @@ orElse false k s = k s
 pub record Narrows (T : Tables) (n t : ℕ) (path : File.FieldPath) (s₀ : State) (b : Bool) (s : State) : Type 0 where
   pub is : (k : State → State) → orElse b k s ≡ elim (constant T n t) [ some c ↦ narrowBy (ops T) T c path s₀ | none ↦ k s₀ ]
 
--- a pattern that is no constant at the type of its field; the flag says whether building falls there
-unfoldable pub mistyped : ℕ → Bool → State → State
-mistyped n true s = report n Code.RejectTypeMismatch (skip s)
-mistyped n false s = report n Code.RejectTypeMismatch s
-
+-- a pattern that is no constant at the type of its field is reported; the flag says whether building falls there
 unfoldable pub narrowOr : Tables → ℕ → ℕ → File.FieldPath → Bool → State → State
-narrowOr T n t path falls s = elim (constant T n t) [ some c ↦ narrowBy (ops T) T c path s | none ↦ mistyped n falls s ]
+narrowOr T n t path falls s = elim (constant T n t) [ some c ↦ narrowBy (ops T) T c path s | none ↦ diagnosed n Code.RejectTypeMismatch falls s ]
 
 -- the pattern of a constraint, if it constrains name x and has rank r
 unfoldable pub patternFor : Tables → ℕ → ℕ → Constraint → Option ℕ

@@ -7,7 +7,6 @@ ghost use Rattle.rules.specs.File.{nodeAt};
 ghost use Rattle.rules.specs.Walk as Rules;
 ghost use Rattle.rules.specs.Walk.{FieldWalk};
 ghost use Rattle.state.specs.State.{State};
-ghost use Rattle.state.specs.Ops as Ops;
 ghost use Rattle.state.specs.Ops.{ops};
 ghost use Rattle.file.specs.Tables.{Indexed, tablesOf};
 ghost use Rattle.paths.specs.Paths.{pathOf};
@@ -100,10 +99,7 @@ fn narrow_or_report(
     if n.some {
         return walk;
     }
-    if falls {
-        return walk.decline(work, node, Code::RejectTypeMismatch);
-    }
-    walk.report(work, node, Code::RejectTypeMismatch)
+    walk.diagnose(work, node, Code::RejectTypeMismatch, falls)
 }
 
 // A Prefix or a Fuzzy at a field. Building stays where it is mistyped.

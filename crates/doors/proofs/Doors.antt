@@ -1,5 +1,5 @@
 -- The door table holds: each row by computing the written rules.
-use mathlib.Core.Path.{_≡_, refl}
+use mathlib.Core.Path.{refl}
 use Rattle.rules.specs.Base.{Each, done, more}
 use Rattle.doors.specs.Hex.{openHex}
 use Rattle.doors.specs.Doors.{run, Holds, doors, openRules}

@@ -1,7 +1,6 @@
 -- "Door table": D1 to D10, each a whole file and the whole plan or the refusal that the written rules give. D1's bytes are document 01's own.
 use mathlib.Core.List.{List, [], _∷_}
 use mathlib.Core.Path.{_≡_}
-use Prim.Native.Nat.{ℕ}
 use Prim.Native.String.{String}
 use Rattle.doors.specs.Hex.{hex}
 use Rattle.rules.specs.Limits.{planLimit, workLimit}

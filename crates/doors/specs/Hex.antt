@@ -1,10 +1,10 @@
 -- Bytes written as lower-case hex text, with spaces between them where that helps the reader.
-use mathlib.Core.Bool.{Bool, true, false}
+use mathlib.Core.Bool.{true, false}
 use mathlib.Core.List.{List, [], _∷_}
 use Prim.Native.Nat.{ℕ, _+_, _-_, _*_}
 use Prim.Native.String.{String}
 use Prim.Native.String as Text
-use Prim.Native.Char.{Char, code}
+use Prim.Native.Char.{code}
 use lib.Dec.{leb, eqb}
 
 -- a digit: 0 to 9, a to f

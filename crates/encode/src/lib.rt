@@ -1,5 +1,4 @@
 // The bytes of a constant, written at a place of a lent buffer; the place after them is handed back. What lies past the buffer's end is lost.
-ghost use mathlib.Core.Path.{_≡_};
 ghost use Prim.Native.Nat.{_+_, _*_, _≤_, _<_};
 ghost use mathlib.Core.List.{[], _∷_};
 ghost use lib.ListN.{length};

@@ -1,6 +1,6 @@
 -- What the written rules give past a section's count.
 use Prim.Native.Nat.{ℕ, _≤_}
-use mathlib.Core.Path.{_≡_, refl, sym}
+use mathlib.Core.Path.{_≡_, sym}
 use mathlib.Core.List.{List, []}
 use mathlib.Core.Option.{none}
 use native.Mathlib.Omega.{arith}

@@ -1,5 +1,5 @@
 -- An accepted file: each record of each section is read where the index says.
-use Prim.Native.Nat.{ℕ, zero, suc, _+_, _*_, _-_, _≤_, _<_, zero-le}
+use Prim.Native.Nat.{ℕ, zero, suc, _+_, _-_, _≤_, _<_, zero-le}
 use mathlib.Core.Path.{_≡_, refl, sym, ap, _∙_, subst}
 use mathlib.Core.Bool.{Bool, true, false}
 use mathlib.Core.List.{List, [], _∷_}
@@ -13,16 +13,16 @@ use lib.ListN.{length, getD, set, drop, length-set}
 use lib.Seq.{sets, length-sets, getD-set-same, getD-set-other}
 use Rattle.rules.specs.Limits.{fileLimit}
 use Rattle.rules.specs.File.{Tables, Ty, Predicate, Node, Binding, Hoisted, Fetched, Constraint, Comparison, LevelEntry}
-use Rattle.rules.specs.Read.{Read, Reader, follow, _>>=_, pure, refuse, u16, many, section, end, name, type, predicate, node, binding, hoisted, fetched, constraint, comparison, level}
+use Rattle.rules.specs.Read.{Read, Reader, _>>=_, pure, refuse, u16, many, section, end, name, type, predicate, node, binding, hoisted, fetched, constraint, comparison, level}
 use Rattle.rules.specs.Read.Read.{got, refused}
 use Rattle.rules.specs.Read as Read
 use Rattle.file.specs.Steps.{word, stepOf, readAt, stepAt, skim, recordOf, limitOf, baseOf, sectionOf, count, counted, countAt, starts, entries, sections, filled, indexOf, indexLength}
 use Rattle.file.specs.Tables.{Stands, Section, Indexed, tablesOf, gotTables}
 use Rattle.file.specs.declared.Step.{Step}
 use Rattle.file.specs.declared.Step.the-variants.{Next, Refused}
-use Rattle.file.proofs.Readers.{lt-or-le, down, refused-got, refused-next, bind-inv, then-got, then-refused, step-got, step-refused, step-skim, fixed-u16, needs-fixed, needs-first, cut-short, alike-step, alike-skim}
-use Rattle.file.proofs.Suffix.{Suffix, End, end-end, Ended, ended, faulted, suffix-many, suffix-section, suffix-record, suffix-sections, suffix-name, suffix-type, suffix-predicate, suffix-node, suffix-binding, suffix-hoisted, suffix-fetched, suffix-constraint, suffix-comparison, suffix-level}
-use Rattle.file.proofs.Sections.{apart, roomy, word-in, word-then, count-next, count-in, section-on, section-within, entries-on, sections-more, sections-fault, filled-none, filled-more, file-sections, alike-section}
+use Rattle.file.proofs.Readers.{lt-or-le, refused-got, refused-next, bind-inv, step-got, step-skim, fixed-u16, needs-fixed, needs-first, cut-short, alike-step}
+use Rattle.file.proofs.Suffix.{Suffix, end-end, ended, faulted, suffix-many, suffix-section, suffix-name, suffix-type, suffix-predicate, suffix-node, suffix-binding, suffix-hoisted, suffix-fetched, suffix-constraint, suffix-comparison, suffix-level}
+use Rattle.file.proofs.Sections.{apart, roomy, word-then, count-next, count-in, section-within, entries-on, sections-more, sections-fault, filled-none, filled-more, file-sections, alike-section}
 
 -- a reading in two parts that succeeded, by position
 pub record Parts {A B : Type 0} (f : List ℕ) (r : Reader A) (k : A → Reader B) (p : ℕ) (b : B) (rest : List ℕ) : Type 0 where

@@ -7,17 +7,15 @@ use native.Mathlib.Omega.{arith}
 use native.Mathlib.Nat.{mul-le-mul}
 use borrow.Author.Tests.{lt-ltb, le-ltb, leb-true}
 use lib.Dec.{ltb, leb}
-use lib.ListN.{length, getD, drop, length-drop, List·getD-eq-default}
-use lib.Seq.{drop-drop}
+use lib.ListN.{length, getD, drop, List·getD-eq-default}
 use Rattle.rules.specs.Base.{all}
 use Rattle.rules.specs.File.{Ty, Node, Slot, Anchor, CompareOp}
-use Rattle.rules.specs.Read.{Read, Reader, follow, _>>=_, pure, refuse, u8, u16, u32, optional, many, several, kind, section, char, name, fieldTy, alternative, factTy, recordTy, unionTy, type, predicate, anchor, fieldPattern, one, two, intNode, bytesNode, fuzzyNode, recordNode, node, path, rowSlot, keySlot, derivedSlot, fieldSlot, valueSlot, constSlot, slot, binding, hoisted, fetched, constraint, op, comparison, level}
+use Rattle.rules.specs.Read.{Reader, follow, _>>=_, pure, refuse, u8, u16, many, several, kind, section, char, name, fieldTy, alternative, factTy, recordTy, unionTy, type, predicate, anchor, fieldPattern, one, two, intNode, bytesNode, fuzzyNode, recordNode, node, path, rowSlot, keySlot, derivedSlot, fieldSlot, valueSlot, constSlot, slot, binding, hoisted, fetched, constraint, op, comparison, level}
 use Rattle.rules.specs.Read.Read.{got, refused}
-use Rattle.file.specs.Steps.{stepOf, readAt, stepAt, skim, recordOf}
-use Rattle.file.specs.declared.Step.{Step}
+use Rattle.file.specs.Steps.{readAt, stepAt, skim, recordOf}
 use Rattle.file.specs.declared.Step.the-variants.{Next, Refused}
-use Rattle.file.proofs.Readers.{then-got, then-refused, byte-in, byte-out, kind-in, kind-out, several-in, several-out, step-got, step-refused, step-same, step-skim, many-none, many-more, many-fault, Fixed, fixed-as, fixed-pure, fixed-bind, fixed-many, fixed-u8, fixed-u16, fixed-u32, fixed-optional, fixed-bytes, fixed-in, fixed-then, Needs, needs-fixed, needs-bind, needs-first, needs-kind, cut-short, Alike, alike-refl, alike-step, alike-value, alike-pure, alike-several, alike-map, alike-fixed}
-use Rattle.file.proofs.Suffix.{Ended, ended, faulted, suffix-path}
+use Rattle.file.proofs.Readers.{then-got, then-refused, byte-in, byte-out, kind-in, kind-out, several-in, several-out, step-refused, step-same, step-skim, Fixed, fixed-pure, fixed-bind, fixed-many, fixed-u8, fixed-u16, fixed-u32, fixed-optional, fixed-bytes, fixed-in, fixed-then, needs-fixed, needs-bind, needs-first, needs-kind, cut-short, Alike, alike-refl, alike-step, alike-value, alike-pure, alike-several, alike-map, alike-fixed}
+use Rattle.file.proofs.Suffix.{ended, faulted, suffix-path}
 
 pub times : (w n : ℕ) → w ≤ 8 → n < 256 → n * w ≤ 2040
 times w n h g =

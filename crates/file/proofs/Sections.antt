@@ -1,23 +1,22 @@
 -- Records, counts and sections by cases: the laws that the loops over them go by.
-use Prim.Native.Nat.{ℕ, zero, suc, _+_, _*_, _-_, _≤_, _<_}
-use mathlib.Core.Path.{_≡_, refl, sym, ap, _∙_, subst}
+use Prim.Native.Nat.{ℕ, zero, suc, _+_, _-_, _≤_, _<_}
+use mathlib.Core.Path.{_≡_, refl, sym, ap, _∙_}
 use mathlib.Core.Bool.{Bool, true, false}
 use mathlib.Core.List.{List, [], _∷_}
 use mathlib.Core.Logic.{⊎-elim}
 use native.Mathlib.Omega.{arith}
 use native.Mathlib.Numerals.{add-one}
-use borrow.Author.Tests.{le-leb, lt-leb, leb-true}
+use borrow.Author.Tests.{le-leb, lt-leb}
 use lib.Dec.{leb, lit≤}
-use lib.ListN.{length, getD, set, drop, drop-of-length-le, length-drop}
+use lib.ListN.{length, set, drop, drop-of-length-le}
 use lib.Seq.{sets, drop-cons}
-use Rattle.rules.specs.Read.{Read, Reader, follow, _>>=_, pure, refuse, u8, u16, many, section, end, name, type, predicate, node, binding, hoisted, fetched, constraint, comparison, level}
+use Rattle.rules.specs.Read.{Read, Reader, follow, _>>=_, pure, refuse, u16, many, section, end, name, type, predicate, node, binding, hoisted, fetched, constraint, comparison, level}
 use Rattle.rules.specs.Read.Read.{got, refused}
 use Rattle.rules.specs.Read as Read
-use Rattle.file.specs.Steps.{word, stepOf, readAt, stepAt, skim, recordOf, limitOf, baseOf, sectionOf, count, counted, countAt, starts, entries, sections, filled, indexOf}
-use Rattle.file.specs.declared.Step.{Step}
+use Rattle.file.specs.Steps.{word, readAt, stepAt, skim, recordOf, limitOf, baseOf, sectionOf, count, counted, countAt, starts, entries, sections, filled}
 use Rattle.file.specs.declared.Step.the-variants.{Next, Refused}
-use Rattle.file.proofs.Readers.{lt-or-le, down, refused-got, refused-next, then-got, then-refused, u8-in, byte-in, step-got, step-refused, step-same, many-none, many-more, many-fault, fixed-u16, needs-fixed, needs-first, cut-short, Alike, alike-refl, alike-step, alike-skim, alike-bind, alike-value, alike-pure, alike-refuse, alike-many}
-use Rattle.file.proofs.Suffix.{Ended, ended, faulted, suffix-record, suffix-sections}
+use Rattle.file.proofs.Readers.{lt-or-le, down, refused-next, then-got, then-refused, byte-in, step-got, step-refused, step-same, many-none, many-more, many-fault, fixed-u16, needs-fixed, needs-first, cut-short, Alike, alike-step, alike-skim, alike-bind, alike-value, alike-refuse, alike-many}
+use Rattle.file.proofs.Suffix.{ended, faulted, suffix-record, suffix-sections}
 
 -- the areas of the index stand one behind the other
 pub apart : (s : ℕ) → s < 10 → baseOf s + 1 + limitOf s ≤ baseOf (s + 1)

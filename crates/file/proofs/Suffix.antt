@@ -1,17 +1,15 @@
 -- What is left after a reading is an end of what was there before.
-use Prim.Native.Nat.{ℕ, zero, suc, _+_, _*_, _-_, _≤_, _<_}
+use Prim.Native.Nat.{ℕ, zero, suc, _+_, _-_, _≤_, _<_}
 use mathlib.Core.Path.{_≡_, refl, sym, ap, _∙_, subst}
 use mathlib.Core.Bool.{Bool, true, false}
 use mathlib.Core.List.{List, [], _∷_}
 use native.Mathlib.Omega.{arith}
-use native.Mathlib.Numerals.{add-one}
 use lib.Dec.{ltb, leb}
 use lib.ListN.{length, getD, drop, length-drop}
 use lib.Seq.{drop-drop}
-use Rattle.rules.specs.Read.{Read, Reader, follow, _>>=_, pure, refuse, u8, u16, u32, optional, many, several, kind, section, char, name, fieldTy, alternative, factTy, recordTy, unionTy, type, predicate, anchor, fieldPattern, one, two, intNode, bytesNode, fuzzyNode, recordNode, node, path, rowSlot, keySlot, derivedSlot, fieldSlot, valueSlot, constSlot, slot, binding, hoisted, fetched, constraint, op, comparison, level}
+use Rattle.rules.specs.Read.{Read, Reader, _>>=_, pure, refuse, u8, u16, u32, optional, many, several, kind, section, char, name, fieldTy, alternative, factTy, recordTy, unionTy, type, predicate, anchor, fieldPattern, one, two, intNode, bytesNode, fuzzyNode, recordNode, node, path, rowSlot, keySlot, derivedSlot, fieldSlot, valueSlot, constSlot, slot, binding, hoisted, fetched, constraint, op, comparison, level}
 use Rattle.rules.specs.Read.Read.{got, refused}
 use Rattle.file.specs.Steps.{stepOf, readAt, stepAt, skim, recordReaders, recordOf, limitOf, sectionOf}
-use Rattle.file.specs.declared.Step.{Step}
 use Rattle.file.specs.declared.Step.the-variants.{Next, Refused}
 use Rattle.file.proofs.Readers.{refused-got, refused-next, bind-inv}
 

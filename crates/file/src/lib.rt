@@ -1,8 +1,7 @@
 // Reading a rule file front to back: refusals 3 to 7, and the index of where each record starts.
 ghost use mathlib.Core.Path.{_≡_};
-ghost use mathlib.Core.List.{List};
-ghost use Prim.Native.Nat.{ℕ, _+_, _*_, _-_, _≤_, _<_};
-ghost use lib.ListN.{length, getD};
+ghost use Prim.Native.Nat.{ℕ, _+_, _*_, _-_, _≤_, _<_, min};
+ghost use lib.ListN.{length};
 ghost use lib.Seq.{sets};
 ghost use Rattle.rules.specs.Limits.{fileLimit};
 ghost use Rattle.rules.specs.Read.{u8, many, several, name, type, node, slot, binding, fetched, comparison, fuzzyNode, path};
@@ -61,6 +60,13 @@ pub fn wide16(x: u16) -> usize
     ensures { λ r. ⌜ r ≡ x ⌝ }
 {
     x as usize
+}
+
+// The lesser of two bytes.
+pub fn least(a: u8, b: u8) -> u8
+    ensures { λ r. ⌜ r ≡ min a b ⌝ }
+{
+    if a < b { a } else { b }
 }
 
 // The two bytes at p, the lower first.

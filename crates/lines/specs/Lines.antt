@@ -1,6 +1,6 @@
 -- "Door table": "prints one line of lower-case hex"; "For a refusal it prints `refused` and the number." And hex read back.
-use mathlib.Core.Bool.{Bool, true, false}
-use mathlib.Core.List.{List, [], _∷_, _++_}
+use mathlib.Core.Bool.{true, false}
+use mathlib.Core.List.{List, [], _∷_}
 use Prim.Native.Nat.{ℕ, _+_, _-_, _*_, _/_, _%_}
 use lib.Dec.{ltb}
 use Rattle.rules.specs.Compile.{Outcome}

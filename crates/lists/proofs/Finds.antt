@@ -1,5 +1,5 @@
 -- A name's last entry: of the bindings that the walks have made, else of the file's own.
-use Prim.Native.Nat.{ℕ, _≤_, _<_}
+use Prim.Native.Nat.{ℕ, _<_}
 use mathlib.Core.Path.{_≡_, refl, sym, ap, _∙_, subst}
 use mathlib.Core.Bool.{Bool, true, false}
 use mathlib.Core.List.{List, [], _∷_, _++_}
@@ -11,7 +11,7 @@ use lib.Seq.{take-all}
 use Rattle.rules.specs.Base.{lastOr, _>>=_}
 use Rattle.rules.specs.File.{Tables, Slot, Binding}
 use Rattle.rules.specs.Constant.{lookup}
-use Rattle.rules.proofs.Cases.{ways, some≢none}
+use Rattle.rules.proofs.Cases.{some≢none}
 use Rattle.state.specs.State.{Level, Target, made, bindingsIn}
 use Rattle.state.specs.Ops.{fitting, ops}
 use Rattle.views.specs.Views.{slotOf, SlotInside}

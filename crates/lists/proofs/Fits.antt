@@ -1,20 +1,19 @@
 -- A slot that the tables have room for: the tests of its numbers and of its path, and the slot by value.
 use Prim.Native.Nat.{ℕ, _+_, _≤_, _<_}
-use mathlib.Core.Path.{_≡_, refl, sym, ap, ap₂, _∙_, subst}
+use mathlib.Core.Path.{_≡_, sym, ap, ap₂, _∙_, subst}
 use mathlib.Core.Bool.{Bool, true, false}
-use mathlib.Core.List.{List, _++_}
+use mathlib.Core.List.{List}
 use mathlib.Core.Option.{Option, none, some}
 use native.Mathlib.Omega.{arith}
 use borrow.Author.Tests.{lt-ltb, le-ltb, le-leb, lt-leb}
 use lib.Dec.{ltb, leb}
 use lib.ListN.{length, getD}
 use Rattle.rules.specs.Base.{both}
-use Rattle.rules.specs.Limits.{depthLimit, stepLimit}
+use Rattle.rules.specs.Limits.{depthLimit}
 use Rattle.rules.specs.File as File
 use Rattle.rules.specs.File.{Tables, depth}
-use Rattle.rules.specs.Checks.{isType, isNode, isPredicate, noneOr, slotIn, slotFits}
+use Rattle.rules.specs.Checks.{isType, isPredicate, noneOr}
 use Rattle.rules.proofs.Cases.{both-left, both-right, ltb-lt, leb-le}
-use Rattle.rules.proofs.Sound.{Sound}
 use Rattle.state.specs.Ops.{fitting, roomy}
 use Rattle.file.specs.Steps.{depthsBase}
 use Rattle.file.specs.Tables.{tablesOf}
@@ -27,7 +26,7 @@ use Rattle.views.specs.Views as Views
 use Rattle.paths.specs.declared.PredicateId.{PredicateId}
 use Rattle.views.specs.declared.MaybePredicate.{MaybePredicate}
 use Rattle.views.specs.declared.MaybePredicate.the-variants as Mp
-use Rattle.views.specs.Views.{predicateOption, sizeOf, byteAt, pathAt, run, long, SlotInside, PathInside}
+use Rattle.views.specs.Views.{predicateOption, sizeOf, byteAt, pathAt, long, SlotInside}
 use Rattle.views.specs.declared.SlotView.{SlotView}
 use Rattle.views.specs.declared.SlotView.the-variants as Sv
 use Rattle.views.proofs.Runs.{length-run}

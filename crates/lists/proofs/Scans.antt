@@ -7,12 +7,11 @@ use mathlib.Core.Option.{Option, none, some}
 use native.Mathlib.Omega.{arith}
 use borrow.Author.Tests.{eq-eqb, ne-eqb}
 use lib.Dec.{eqb}
-use lib.ListN.{length, getD, drop, length-drop, drop-of-length-le}
-use lib.Seq.{drop-drop}
+use lib.ListN.{length, drop, length-drop, drop-of-length-le}
 use Rattle.rules.specs.Base.{lastOr, _>>=_}
 use Rattle.rules.specs.File.{Slot, Binding}
 use Rattle.rules.specs.Read as Read
-use Rattle.rules.specs.Read.{Reader, pure, follow, u16, u8, slot, binding}
+use Rattle.rules.specs.Read.{pure, follow, u16, u8, slot, binding}
 use Rattle.rules.specs.Read.Read.{got, refused}
 use Rattle.rules.specs.Constant.{lookup}
 use Rattle.rules.proofs.Cases.{ways}
@@ -23,7 +22,7 @@ use Rattle.file.specs.declared.Step.the-variants.{Next, Refused}
 use Rattle.file.proofs.Readers.{bind-inv, needs-fixed, needs-first, fixed-u16}
 use Rattle.file.proofs.Suffix.{Ended, ended, faulted, suffix-binding, suffix-slot, suffix-one}
 use Rattle.file.proofs.Sections.{word-then}
-use Rattle.views.proofs.Runs.{value-of, rest-of, needs-room}
+use Rattle.views.proofs.Runs.{value-of, needs-room}
 use Rattle.views.proofs.Entries.{kind-found}
 use Rattle.views.proofs.Slots.{BindingRead}
 use Rattle.tables.specs.declared.Found.{Found}

@@ -2,15 +2,15 @@
 // is too long: `over` is set, and nothing changes any more.
 ghost use mathlib.Core.Path.{_≡_};
 ghost use mathlib.Core.Bool.{true, false};
-ghost use mathlib.Core.List.{List, [], _∷_, _++_};
+ghost use mathlib.Core.List.{List, _∷_, _++_};
 ghost use mathlib.Core.Option.{Option·getD, some};
-ghost use Prim.Native.Nat.{ℕ, _+_, _-_, _*_, _≤_, _<_, min};
+ghost use Prim.Native.Nat.{ℕ, _+_, _-_, _*_, _≤_, _<_};
 ghost use lib.Dec.{ltb, leb};
 ghost use lib.ListN.{length, getD, take};
 ghost use Rattle.rules.specs.Base.{both};
 ghost use Rattle.rules.specs.Limits.{depthLimit};
 ghost use Rattle.rules.specs.File.{depth};
-ghost use Rattle.rules.specs.Checks.{noneOr, isType, isPredicate, isNode, slotIn, slotFits};
+ghost use Rattle.rules.specs.Checks.{noneOr, isType, isPredicate};
 ghost use Rattle.rules.specs.Constant as Constant;
 ghost use Rattle.rules.specs.Events.{codeNumber};
 ghost use Rattle.rules.specs.Plan as Plan;
@@ -30,6 +30,7 @@ ghost use Rattle.records.specs.Records.{put, reach};
 ghost use Rattle.lists.specs.Lists.{stateWith, overrun, codeOf, fitsTables, placeOf, plainSizes, endOf, later, apart, nearest, slotFrom, Readable, SeenAt, SeenView, ShortSlot};
 use fields::path_at;
 use file::DEPTHS;
+use file::least;
 use file::wide;
 use file::wide16;
 use file::word_at;
@@ -420,12 +421,6 @@ fn apart(a: u8, b: u8, low: u8, high: u8) -> u8
     ensures { λ r. ⌜ r ≡ apart a b low high ⌝ }
 {
     (a ^ low) | (b ^ high)
-}
-
-fn least(a: u8, b: u8) -> u8
-    ensures { λ r. ⌜ r ≡ min a b ⌝ }
-{
-    if a < b { a } else { b }
 }
 
 // How near two bytes side by side come to a name's two: 0 where these stand somewhere. One byte to carry and no branch, so that the loop becomes

@@ -1,13 +1,12 @@
 -- 10: numbers that rise differ.
-use Prim.Native.Nat.{ℕ, zero, suc, _+_, _*_, _-_, _≤_, _<_}
+use Prim.Native.Nat.{ℕ, _+_, _-_, _≤_, _<_}
 use mathlib.Core.Path.{_≡_, refl, sym, ap, ap₂, _∙_}
 use mathlib.Core.Bool.{Bool, true, false}
 use mathlib.Core.List.{List, [], _∷_}
 use native.Mathlib.Omega.{arith}
-use lib.Dec.{eqb, ltb}
+use lib.Dec.{ltb}
 use borrow.Author.Tests.{lt-ltb, le-ltb, ltb-true, ne-eqb}
 use Rattle.rules.specs.Base.{both, first, distinct}
-use Rattle.file.proofs.Readers.{down}
 use Rattle.views.specs.Views.{run}
 use Rattle.numbers.specs.Numbers.{rising}
 use Rattle.numbers.proofs.Every.{if-both, both-inv}

@@ -3,23 +3,20 @@ use Prim.Native.Nat.{ℕ, zero, suc, _+_, _*_, _-_, _≤_, _<_}
 use mathlib.Core.Path.{_≡_, refl, sym, ap, ap₂, _∙_, subst}
 use mathlib.Core.Bool.{Bool, true, false}
 use mathlib.Core.List.{List, [], _∷_, map}
-use mathlib.Core.Option.{Option, none, some}
 use native.Mathlib.Omega.{arith}
 use native.Mathlib.Nat.{add-zero}
-use lib.Dec.{ltb, eqb}
-use lib.ListN.{length, getD}
+use lib.Dec.{ltb}
+use lib.ListN.{length}
 use borrow.Author.Tests.{lt-ltb, le-ltb}
-use Rattle.rules.specs.Base.{both, all, allFrom, distinct}
+use Rattle.rules.specs.Base.{both, all}
 use Rattle.rules.specs.Limits.{fileLimit}
 use Rattle.rules.specs.File as File
 use Rattle.rules.specs.File.{Tables, Ty, Node, Slot, typeAt, predicateAt, nodeAt, childTypes, childNodes}
 use Rattle.rules.specs.Checks.{isName, isType, isPredicate, isNode, noneOr, typeIn, predicateIn, nodeIn, slotIn, bindingIn, hoistedIn, constraintIn, comparisonIn, levelIn, numbersIn, typeDistinct, typesDistinct}
 use Rattle.file.specs.Steps.{word}
-use Rattle.views.specs.Views.{sizeOf, run, long, fieldAt, alternativeAt, patternAt, typeOf, nodeOf, slotOf, bindingOf, predicateOf, typeOption, predicateOption, SeenType, SeenNode, SeenBinding, bindingAt, hoistedAt, constraintAt, comparisonAt, levelAt}
+use Rattle.views.specs.Views.{sizeOf, run, long, fieldAt, alternativeAt, patternAt, typeOf, nodeOf, slotOf, predicateOf, typeOption, predicateOption, SeenType, SeenNode, SeenBinding, bindingAt, hoistedAt, constraintAt, comparisonAt, levelAt}
 use Rattle.views.specs.declared.TypeView.{TypeView}
-use Rattle.views.specs.declared.TypeView.the-variants as Tv
 use Rattle.views.specs.declared.NodeView.{NodeView}
-use Rattle.views.specs.declared.NodeView.the-variants as Nv
 use Rattle.views.specs.declared.SlotView.{SlotView}
 use Rattle.views.specs.declared.SlotView.the-variants as Sv
 use Rattle.views.specs.declared.MaybePredicate.{MaybePredicate}
@@ -27,8 +24,8 @@ use Rattle.paths.specs.declared.Address.{Address}
 use Rattle.views.specs.declared.BindingView.{BindingView}
 use Rattle.views.specs.declared.MaybeType.{MaybeType}
 use Rattle.views.specs.declared.Predicate.{Predicate}
-use Rattle.numbers.specs.Numbers.{Words, pairsIn, numberAt, recordIn, sectionIn, typesLower, nodesLower}
-use Rattle.numbers.proofs.Every.{every, both-true, every-none, every-yes, allFrom-every, all-every, pairs-law, run-map}
+use Rattle.numbers.specs.Numbers.{Words, pairsIn, recordIn, sectionIn, typesLower, nodesLower}
+use Rattle.numbers.proofs.Every.{every, both-true, allFrom-every, all-every, pairs-law, run-map}
 
 -- any function of the entry, by the view
 module _ {X : Type 0} {f : List ℕ} where

@@ -1,10 +1,8 @@
 // The whole-file checks 8, 9 and 10.
 ghost use mathlib.Core.Path.{_≡_};
-ghost use mathlib.Core.Bool.{Bool};
-ghost use Prim.Native.Nat.{ℕ, _+_, _*_, _≤_, _<_};
+ghost use Prim.Native.Nat.{_+_, _≤_, _<_};
 ghost use lib.ListN.{length};
 ghost use lib.Dec.{ltb};
-ghost use Rattle.rules.specs.Limits.{fileLimit};
 ghost use Rattle.rules.specs.Base.{both, all, distinct};
 ghost use Rattle.rules.specs.File.{typeAt, nodeAt, predicateAt, childTypes, childNodes};
 ghost use Rattle.rules.specs.Checks.{typeIn, predicateIn, nodeIn, bindingIn, hoistedIn, constraintIn, comparisonIn, levelIn, numbersIn, childrenLower, typeDistinct, typesDistinct};

@@ -1,6 +1,5 @@
 -- What a path of the code stands for in the written rules.
 use mathlib.Core.Path.{_≡_}
-use Prim.Native.Nat.{ℕ}
 use lib.ListN.{length, take}
 use Rattle.rules.specs.File as File
 use Rattle.paths.specs.declared.FieldPath.{FieldPath}

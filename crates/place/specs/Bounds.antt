@@ -1,5 +1,5 @@
 -- What one comparison does to a level's edges.
-use mathlib.Core.Option.{Option, none, some}
+use mathlib.Core.Option.{none, some}
 use Prim.Native.Nat.{ℕ}
 use Rattle.rules.specs.Base.{_>>=_}
 use Rattle.rules.specs.File.{Tables, CompareOp, Comparison}

@@ -1,7 +1,7 @@
 // Constants placed in a level: their bytes go straight to the plan. And the comparisons that bound a level.
 ghost use mathlib.Core.Path.{_≡_};
 ghost use mathlib.Core.List.{List};
-ghost use Prim.Native.Nat.{ℕ, _+_, _≤_, _<_};
+ghost use Prim.Native.Nat.{ℕ, _+_, _<_};
 ghost use lib.ListN.{length};
 ghost use Rattle.rules.specs.File.{nameAt};
 ghost use Rattle.rules.specs.Constant.{encodePrefix};

@@ -1,12 +1,12 @@
 // Records of the plan's form, written at a place of a lent buffer and read back. A place outside the buffer takes nothing, so no caller
 // has to show that there is room.
 ghost use mathlib.Core.Path.{_≡_};
-ghost use mathlib.Core.Bool.{Bool, true, false};
+ghost use mathlib.Core.Bool.{true, false};
 ghost use mathlib.Core.List.{List, [], _∷_, _++_};
 ghost use Prim.Native.Nat.{ℕ, _+_, _*_, _≤_, _<_};
 ghost use lib.ListN.{length};
 ghost use Rattle.rules.specs.Limits.{stepLimit};
-ghost use Rattle.rules.specs.Constant.{unionTag, term};
+ghost use Rattle.rules.specs.Constant.{unionTag};
 ghost use Rattle.rules.specs.Events.{Narrowing};
 ghost use Rattle.rules.specs.Placement.{SeekKeyPart};
 ghost use Rattle.rules.specs.Plan as Plan;

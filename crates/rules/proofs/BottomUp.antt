@@ -1,10 +1,10 @@
 -- What `bottomUp` leaves at each place: the entry's own value, of what the entries before it gave.
 use mathlib.Core.List.{List, [], _∷_, _++_, append-nil, append-assoc}
 use mathlib.Core.Path.{_≡_, refl, sym, ap, _∙_, subst}
-use Prim.Native.Nat.{ℕ, zero, suc, _+_, _≤_, _<_}
-use native.Mathlib.Nat.{not-suc-le-zero, le-of-suc-le-suc, add-zero, add-suc}
+use Prim.Native.Nat.{ℕ, zero, suc, _+_, _<_}
+use native.Mathlib.Nat.{not-suc-le-zero, le-of-suc-le-suc, add-zero}
 use native.Mathlib.Omega.{arith}
-use lib.ListN.{length, getD, take, length-append, List·getD-append}
+use lib.ListN.{length, getD, take, length-append}
 use lib.Seq.{take-append-seam, getD-append-seam}
 use Rattle.rules.specs.Base.{bottomUp}
 

@@ -12,7 +12,7 @@ use Rattle.rules.specs.File.{Tables, Slot, Binding, Node, LevelEntry, va
 use Rattle.rules.specs.Constant.{lookup, constNode, constOf}
 use Rattle.rules.specs.Events.{Lists, Walk, bind, constrained, select, report, emit}
 use Rattle.rules.specs.Walk.{walkLevel}
-use Rattle.rules.proofs.Cases.{by-test, ways, eqb-eq}
+use Rattle.rules.proofs.Cases.{by-test, eqb-eq}
 use Rattle.rules.proofs.Sound.{BindingOk, Sound}
 use Rattle.rules.proofs.Keeps.{Keeps}
 use Rattle.rules.proofs.Alone.{walk-keeps}

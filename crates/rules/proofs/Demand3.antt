@@ -1,9 +1,8 @@
 -- Demand 3, of every accepted file.
-use mathlib.Core.Bool.{Bool, true, false}
-use mathlib.Core.List.{List, [], _∷_, _++_, map, append-nil}
+use mathlib.Core.List.{List, [], _∷_, _++_, append-nil}
 use mathlib.Core.Option.{Option, none, some}
 use mathlib.Core.Path.{_≡_, refl, sym, ap, _∙_, subst}
-use Prim.Native.Nat.{ℕ, zero, suc, _+_, _≤_, _<_, min}
+use Prim.Native.Nat.{ℕ, zero, suc, _+_, _<_, min}
 use native.Mathlib.Nat.{not-suc-le-zero, le-of-suc-le-suc}
 use lib.Dec.{leb}
 use lib.ListN.{length, getD, drop}
@@ -13,14 +12,13 @@ use Rattle.rules.specs.Limits.{fileLimit, workLimit, planLimit}
 use Rattle.rules.specs.File.{Tables, Binding, LevelEntry}
 use Rattle.rules.specs.Read.{Read, got, refused, follow, _>>=_, end, file}
 use Rattle.rules.specs.Checks.{checks, fault}
-use Rattle.rules.specs.Events.{Lists, Walk}
+use Rattle.rules.specs.Events.{Lists}
 use Rattle.rules.specs.Walk.{walkLevel}
-use Rattle.rules.specs.Placement.{new, placeAll}
 use Rattle.rules.specs.Levels.{Level, starting, levelOf, level, levelsFrom, levels, leftBy}
-use Rattle.rules.specs.Plan.{Plan, planLevel, planOf, plan, planBytes}
+use Rattle.rules.specs.Plan.{planOf, plan, planBytes}
 use Rattle.rules.specs.Compile.{Outcome, written, checked, reading, outcome}
-use Rattle.rules.specs.Demand3.{Adds, NoneAnew, Kept, LevelKept, entryAt, levelAt, startOf, Holds, Demand3}
-use Rattle.rules.proofs.Cases.{by-test, true≢false}
+use Rattle.rules.specs.Demand3.{LevelKept, entryAt, levelAt, startOf, Holds, Demand3}
+use Rattle.rules.proofs.Cases.{by-test}
 use Rattle.rules.proofs.Sound.{BindingOk, Sound, sound, passed-all}
 use Rattle.rules.proofs.Alone.{walk-keeps}
 use Rattle.rules.proofs.Lists.{AddsTo, adds-keeps, Onwards, onwards-same, onwards-next}

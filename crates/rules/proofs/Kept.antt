@@ -13,7 +13,7 @@ use Rattle.rules.specs.File.{Tables, FieldPath, Anchor, CompareOp, Compa
 use Rattle.rules.specs.Constant.{unionTag, term}
 use Rattle.rules.specs.Lookup.{sameSteps, samePath}
 use Rattle.rules.specs.Events.{Narrowing, Event}
-use Rattle.rules.specs.Placement.{SeekKeyPart, Residual, Guide, Range, RangeEdge, Edges, SeekBuilder, new, withPart, withResidual, withGuide, withRange, withEdges, withCloser, withOpened, fall, placePart, placePrefix, rangeAt, attachable, placeFuzzy, placeNarrowing, closePart, placeCloser, takeHi, takeLo, takeEdge, sided, foldFrom, placeBound, place, placeAll}
+use Rattle.rules.specs.Placement.{SeekKeyPart, Guide, Range, RangeEdge, Edges, SeekBuilder, new, withPart, withResidual, withGuide, withRange, withEdges, withCloser, withOpened, fall, placePart, placePrefix, rangeAt, attachable, placeFuzzy, placeNarrowing, closePart, placeCloser, takeHi, takeLo, takeEdge, sided, foldFrom, placeBound, place, placeAll}
 use Rattle.rules.specs.Levels.{narrowings}
 use Rattle.rules.specs.Demand3.{buildingAfter, beforeFall, partsOf, number, edges, Kept}
 use Rattle.rules.proofs.Cases.{by-test, ways, by-option, true≢false, some≢none, some-injective, eqb-eq, both-left, both-right}

@@ -1,17 +1,17 @@
 -- What a level adds to the four lists stands at their ends, and binds no name anew.
-use mathlib.Core.Bool.{Bool, true, false}
+use mathlib.Core.Bool.{false}
 use mathlib.Core.List.{List, [], _∷_, _++_, append-nil, append-assoc}
 use mathlib.Core.Option.{Option, none, some}
 use mathlib.Core.Path.{_≡_, refl, sym, ap, _∙_, subst}
 use Prim.Native.Nat.{ℕ}
 use lib.Dec.{eqb}
 use Rattle.rules.specs.Base.{lastOr, _>>=_}
-use Rattle.rules.specs.File.{Tables, FieldPath, Slot, Binding}
-use Rattle.rules.specs.Constant.{Const, lookup}
-use Rattle.rules.specs.Events.{Code, Select, Diagnostic, Narrowing, Event, Lists, Walk, bind, constrained, select, report, emit}
+use Rattle.rules.specs.File.{Tables, Binding}
+use Rattle.rules.specs.Constant.{lookup}
+use Rattle.rules.specs.Events.{Lists, Walk, bind, constrained, select, report, emit}
 use Rattle.rules.specs.Demand3.{alreadyBound, NoneAnew, Adds}
 use Rattle.rules.proofs.Cases.{by-test, some≢none}
-use Rattle.rules.proofs.Keeps.{Keeps, narrow, skip}
+use Rattle.rules.proofs.Keeps.{Keeps}
 
 -- a list that goes on from another
 abbrev pub Onwards : {A : Type 0} → List A → List A → Type 0

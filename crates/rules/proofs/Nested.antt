@@ -1,11 +1,10 @@
 -- The shape of a level's events: every closer ends a tag of its own level, and a skip follows each bound.
-use mathlib.Core.Bool.{Bool, true, false}
 use mathlib.Core.List.{List, [], _∷_, _++_, append-nil, append-assoc}
 use mathlib.Core.Path.{_≡_, refl, sym, ap, _∙_, subst}
 use Prim.Native.Nat.{ℕ, zero, suc}
-use Rattle.rules.specs.File.{Tables, FieldPath, Slot, Anchor}
+use Rattle.rules.specs.File.{Tables, FieldPath}
 use Rattle.rules.specs.Constant.{Const}
-use Rattle.rules.specs.Events.{Code, Narrowing, Event, Lists, Walk, bind, constrained, select, report, emit}
+use Rattle.rules.specs.Events.{Narrowing, Event, Walk, bind, constrained, select, report, emit}
 use Rattle.rules.specs.Walk.{narrowing}
 use Rattle.rules.proofs.Keeps.{Keeps, narrow, skip}
 

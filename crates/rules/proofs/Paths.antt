@@ -1,12 +1,10 @@
 -- In an accepted file no path of the walk needs more than fifteen steps: not of an event, not of a select, not of a binding.
-use mathlib.Core.List.{List, [], _∷_, _++_}
-use mathlib.Core.Path.{_≡_, refl}
-use Prim.Native.Nat.{ℕ, _≤_, _<_}
+use Prim.Native.Nat.{_<_}
 use lib.ListN.{length}
 use Rattle.rules.specs.Base.{Each, done, more}
-use Rattle.rules.specs.File.{Tables, FieldPath, Slot, Binding, LevelEntry}
+use Rattle.rules.specs.File.{Tables, FieldPath, Slot, LevelEntry}
 use Rattle.rules.specs.Constant.{Const}
-use Rattle.rules.specs.Events.{Code, Select, Narrowing, Event, Lists, Walk, bind, constrained, select, report, emit}
+use Rattle.rules.specs.Events.{Narrowing, Event, Lists, Walk, bind, constrained, select, report, emit}
 use Rattle.rules.specs.Walk.{narrowing, walkLevel}
 use Rattle.rules.proofs.Each.{each-append, each-imply}
 use Rattle.rules.proofs.Sound.{SlotOk, BindingOk, Sound}

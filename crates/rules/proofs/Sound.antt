@@ -1,17 +1,17 @@
 -- What the checks 8 to 14 give: numbers in range, children lower and less deep, starting slots that fit.
 use mathlib.Core.Bool.{Bool, true, false}
-use mathlib.Core.List.{List, [], _∷_, _++_, map}
+use mathlib.Core.List.{List, [], _∷_}
 use mathlib.Core.Option.{Option, none, some}
 use mathlib.Core.Path.{_≡_, refl, sym, ap, _∙_, subst}
-use Prim.Native.Nat.{ℕ, zero, suc, _+_, _≤_, _<_, max}
-use native.Mathlib.Nat.{le-trans, le-refl, zero-add, le-of-eq, not-suc-le-zero, le-of-suc-le-suc}
+use Prim.Native.Nat.{ℕ, zero, suc, _+_, _≤_, _<_}
+use native.Mathlib.Nat.{zero-add, not-suc-le-zero, le-of-suc-le-suc}
 use native.Mathlib.Omega.{arith}
 use lib.Dec.{leb, ltb}
-use lib.ListN.{length, getD, take, List·getD-eq-default}
+use lib.ListN.{length, getD, take}
 use lib.Seq.{getD-take}
-use Rattle.rules.specs.Base.{Each, done, more, both, all, allFrom, bottomUp}
-use Rattle.rules.specs.Limits.{depthLimit, stepLimit}
-use Rattle.rules.specs.File.{Tables, Ty, Predicate, Slot, Binding, Fetched, FieldPath, LevelEntry, typeAt, predicateAt, factTy, childTypes, deepest, depthOf, depths, depth}
+use Rattle.rules.specs.Base.{Each, done, more, all, allFrom, bottomUp}
+use Rattle.rules.specs.Limits.{depthLimit}
+use Rattle.rules.specs.File.{Tables, Ty, Slot, Binding, FieldPath, typeAt, predicateAt, factTy, childTypes, deepest, depthOf, depths, depth}
 use Rattle.rules.specs.Checks.{Check, check, checks, fault, isName, isType, isPredicate, noneOr, typeIn, predicateIn, slotIn, bindingIn, levelIn, numbersIn, childrenLower, typesDistinct, typesShallow, childrenOnce, constsConstant, slotFits, pathsFit, nodeIn, hoistedIn, constraintIn, comparisonIn}
 use Rattle.rules.proofs.Cases.{true≢false, some≢none, some-injective, by-test, leb-le, ltb-lt, both-left, both-right}
 use Rattle.rules.proofs.Each.{each-passes, each-imply, each-both, each-at}

@@ -5,7 +5,7 @@ use Rattle.rules.specs.Constant.{Const}
 use Rattle.rules.specs.Events.{Event, Walk, bind, constrained, select, report, emit}
 use Rattle.rules.specs.Walk.{narrowing}
 use Rattle.rules.specs.Demand1.{Byte}
-use Rattle.rules.proofs.Keeps.{Keeps, narrow, skip}
+use Rattle.rules.proofs.Keeps.{Keeps, narrow}
 use Rattle.rules.proofs.Each.{perhaps-some, each-snoc}
 use Rattle.rules.proofs.Readers.{TablesOf}
 use Rattle.rules.proofs.Encoded.{ConstOf, constant-bytes}

@@ -7,7 +7,7 @@ use lib.ListN.{length}
 use lib.Dec.{ltb, leb}
 use Rattle.rules.specs.Base.{both, all, allFrom, concatMap, distinct}
 use Rattle.rules.specs.Limits.{depthLimit, stepLimit}
-use Rattle.rules.specs.File.{Tables, FieldTy, Alternative, Ty, Predicate, FieldPattern, Node, FieldPath, Slot, Binding, Hoisted, Fetched, Constraint, Comparison, LevelEntry, childTypes, depths, depth, childNodes, isConstant}
+use Rattle.rules.specs.File.{Tables, Ty, Predicate, Node, Slot, Binding, Hoisted, Constraint, Comparison, LevelEntry, childTypes, depths, depth, childNodes, isConstant}
 
 -- 8: "number at or past its section's count (FFFF for none excepted)". Addresses, registers, path steps and discs are no such numbers.
 unfoldable pub isName : Tables → ℕ → Bool

@@ -1,6 +1,6 @@
 -- "Refusals, by place": the call. For any file, plan buffer and work area: the number returned and what the two buffers hold afterwards.
-use mathlib.Core.Bool.{Bool, true, false}
-use mathlib.Core.List.{List, [], _∷_, _++_}
+use mathlib.Core.Bool.{true, false}
+use mathlib.Core.List.{List, _++_}
 use mathlib.Core.Option.{Option, none, some}
 use Prim.Native.Nat.{ℕ, _+_, _-_, _*_, min}
 use lib.ListN.{length, replicate}

@@ -1,6 +1,6 @@
 -- Demand 1's shape: "one plan or one refusal", what the two buffers hold afterwards, and that all of it is bytes.
 use mathlib.Core.Path.{_≡_}
-use mathlib.Core.List.{List, [], _∷_, _++_}
+use mathlib.Core.List.{List, _++_}
 use Prim.Native.Nat.{ℕ, _-_, _*_, _/_, _%_, _≤_, _<_}
 use lib.ListN.{length, replicate}
 use Rattle.rules.specs.Base.{Each}

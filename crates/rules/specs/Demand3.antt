@@ -11,9 +11,9 @@ use Rattle.rules.specs.File.{Tables, Binding, LevelEntry}
 use Rattle.rules.specs.Read.{got, file}
 use Rattle.rules.specs.Checks.{checks, fault}
 use Rattle.rules.specs.Constant.{unionTag, term}
-use Rattle.rules.specs.Events.{Select, Diagnostic, Narrowing, Event, Lists, Walk}
+use Rattle.rules.specs.Events.{Select, Diagnostic, Narrowing, Event, Lists}
 use Rattle.rules.specs.Walk.{walkLevel}
-use Rattle.rules.specs.Placement.{SeekKeyPart, Guide, Range, RangeEdge, Edges, SeekBuilder, new, place, placeAll}
+use Rattle.rules.specs.Placement.{SeekKeyPart, Guide, Range, Edges, SeekBuilder, new, place, placeAll}
 use Rattle.rules.specs.Levels.{Level, starting, narrowings}
 use Rattle.rules.specs.Plan.{Plan, planLevel, planBytes}
 

@@ -1,6 +1,6 @@
 -- "A file's list of levels": each level from exactly what the one before left.
 use mathlib.Core.List.{List, [], _∷_}
-use Prim.Native.Nat.{ℕ, zero, suc, _+_}
+use Prim.Native.Nat.{ℕ, suc}
 use Rattle.rules.specs.File.{Tables, LevelEntry}
 use Rattle.rules.specs.Events.{Event, Lists, Walk}
 use Rattle.rules.specs.Walk.{walkLevel}

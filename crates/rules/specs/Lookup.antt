@@ -5,7 +5,7 @@ use mathlib.Core.Option.{Option, none, some}
 use Prim.Native.Nat.{ℕ, suc}
 use lib.Dec.{eqb}
 use Rattle.rules.specs.Base.{both, _>>=_, first}
-use Rattle.rules.specs.File.{Tables, FieldTy, Ty, FieldPath, Slot, Hoisted, Fetched, Predicate, typeAt, predicateAt, nodeAt, recordFields, recordTy, fieldPath}
+use Rattle.rules.specs.File.{Tables, FieldTy, Ty, FieldPath, Slot, typeAt, predicateAt, nodeAt, recordFields, recordTy, fieldPath}
 use Rattle.rules.specs.Constant.{fieldPattern}
 
 -- Rust `hoisted_slot`: the first entry for the node decides, even where its name is not bound

@@ -6,8 +6,8 @@ use Prim.Native.Nat.{ℕ, _/_, _%_}
 use lib.ListN.{length, drop}
 use Rattle.rules.specs.Base.{concatMap}
 use Rattle.rules.specs.File.{Tables, Anchor, FieldPath, Slot, Binding}
-use Rattle.rules.specs.Events.{Code, codeNumber, Select, Diagnostic, Narrowing, Lists}
-use Rattle.rules.specs.Placement.{SeekKeyPart, Residual, Guide, Range, RangeEdge, SeekBuilder, SeekKey, seekKey}
+use Rattle.rules.specs.Events.{codeNumber, Select, Diagnostic, Narrowing, Lists}
+use Rattle.rules.specs.Placement.{SeekKeyPart, Residual, Guide, RangeEdge, SeekKey, seekKey}
 use Rattle.rules.specs.Levels.{Level, starting, levels, leftBy, narrowings}
 
 -- A level's counts, seek, guide, residuals and folded comparisons.

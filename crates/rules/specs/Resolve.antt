@@ -1,12 +1,11 @@
 -- "Walk", `resolve`: where a pattern's value lives, its slot.
-use mathlib.Core.Bool.{Bool, true, false}
-use mathlib.Core.List.{List, [], _∷_}
+use mathlib.Core.Bool.{true, false}
 use mathlib.Core.Option.{Option, none, some}
 use Prim.Native.Nat.{ℕ, zero, suc}
 use lib.ListN.{length}
-use Rattle.rules.specs.File.{Tables, Alternative, Ty, Node, FieldPath, Slot, typeAt, nodeAt, isConstant, factTy, unionTy, fieldPath, then, payload}
+use Rattle.rules.specs.File.{Tables, Alternative, Node, FieldPath, Slot, typeAt, nodeAt, isConstant, factTy, unionTy, fieldPath, then, payload}
 use Rattle.rules.specs.Constant.{alternativeOf}
-use Rattle.rules.specs.Lookup.{FieldAt, hoistedSlot, fetchedRegister, fieldOf, slotAt, rowField, rowValue, foldedSlot}
+use Rattle.rules.specs.Lookup.{hoistedSlot, fetchedRegister, fieldOf, slotAt, rowField, rowValue, foldedSlot}
 use Rattle.rules.specs.Events.{Code, Ops}
 
 -- the slot that a read gives, if any, and the walk with what the read added

@@ -6,7 +6,7 @@ use Prim.Native.Nat.{ℕ, zero, suc}
 use lib.ListN.{length}
 use lib.Dec.{eqb}
 use Rattle.rules.specs.Base.{filter}
-use Rattle.rules.specs.File.{Tables, FieldTy, Alternative, Ty, Anchor, FieldPattern, Node, FieldPath, Slot, Constraint, LevelEntry, typeAt, predicateAt, nodeAt, varName, recordFields, factTy, recordTy, unionTy, fieldPath, then, payload}
+use Rattle.rules.specs.File.{Tables, FieldTy, Alternative, Anchor, FieldPattern, Node, FieldPath, Slot, Constraint, LevelEntry, typeAt, predicateAt, nodeAt, recordFields, factTy, recordTy, unionTy, fieldPath, then, payload}
 use Rattle.rules.specs.Constant.{Const, constant, fieldPattern, alternativeOf, onlyField}
 use Rattle.rules.specs.Events.{Code, Narrowing, Lists, Walk, Ops, walkOps}
 use Rattle.rules.specs.Resolve.{resolve, fieldSlot}

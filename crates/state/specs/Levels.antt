@@ -2,7 +2,7 @@
 use mathlib.Core.Bool.{Bool, true, false}
 use mathlib.Core.List.{List, [], _∷_, _++_}
 use mathlib.Core.Option.{Option, none, some}
-use Prim.Native.Nat.{ℕ, _+_, _*_, _-_, _/_, min}
+use Prim.Native.Nat.{ℕ, _+_, _-_, _/_, min}
 use lib.ListN.{length, take}
 use lib.Dec.{leb, eqb}
 use lib.Seq.{sets, slice}
@@ -10,10 +10,10 @@ use Rattle.rules.specs.Base.{both}
 use Rattle.rules.specs.Limits.{planLimit}
 use Rattle.rules.specs.File.{Tables, LevelEntry, predicateAt}
 use Rattle.rules.specs.Walk.{key}
-use Rattle.rules.specs.Placement.{SeekKeyPart, Range, RangeEdge}
+use Rattle.rules.specs.Placement.{Range, RangeEdge}
 use Rattle.rules.specs.Plan as Plan
 use Rattle.rules.specs.Compile.{Outcome}
-use Rattle.state.specs.State.{Ends, Counts, Level, newLevel, Target, measuring, State, state, noEnds, stop, bindingsAt, constrainedAt, selectsAt, diagnosticsAt, partBytes}
+use Rattle.state.specs.State.{Ends, Level, newLevel, Target, measuring, State, state, noEnds, stop, bindingsAt, constrainedAt, selectsAt, diagnosticsAt}
 use Rattle.state.specs.Ops.{ops}
 
 -- The four seeks, as numbers of the plan: 0 Prefix, 1 Composite, 2 PrefixRange, 3 Bounded.

@@ -1,20 +1,20 @@
 -- The walk's operations on that memory: each appends to a run, changes the level, or writes a part or residual at its place in the plan.
 use mathlib.Core.Bool.{Bool, true, false}
-use mathlib.Core.List.{List, [], _∷_, _++_}
+use mathlib.Core.List.{List, [], _++_}
 use mathlib.Core.Option.{Option, none, some}
 use Prim.Native.Nat.{ℕ, _+_}
 use lib.ListN.{length}
 use lib.Dec.{leb}
 use lib.Seq.{sets}
 use Rattle.rules.specs.Base.{both}
-use Rattle.rules.specs.File.{Tables, FieldPath, Slot, Binding, Anchor, depth}
+use Rattle.rules.specs.File.{Tables, FieldPath, Slot, Anchor, depth}
 use Rattle.rules.specs.Limits.{depthLimit}
 use Rattle.rules.specs.Checks.{isType, isPredicate, noneOr}
 use Rattle.rules.specs.Constant.{lookup, unionTag, term}
 use Rattle.rules.specs.Events.{Code, Narrowing, Ops}
-use Rattle.rules.specs.Placement.{SeekKeyPart, Residual, Guide, Range, Edges, rangeAt, foldFrom}
+use Rattle.rules.specs.Placement.{SeekKeyPart, Guide, Edges, rangeAt, foldFrom}
 use Rattle.rules.specs.Plan as Plan
-use Rattle.state.specs.State.{Ends, ends, Counts, counts, Level, Target, State, state, constrainedAt, selectsAt, diagnosticsAt, runsEnd, stop, unless, made, fits}
+use Rattle.state.specs.State.{Ends, ends, Counts, counts, Level, State, state, constrainedAt, selectsAt, diagnosticsAt, runsEnd, stop, unless, made, fits}
 
 -- A record at a list's end, if its run has room: where the list ends, where its run ends, the record, and the ends with that list's moved.
 unfoldable pub append : ℕ → ℕ → List ℕ → (ℕ → Ends) → State → State

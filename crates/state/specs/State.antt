@@ -1,16 +1,16 @@
 -- What the compiler keeps while it walks: the four lists as records in the work area, a level as counts and sizes, and where its bytes go in the plan.
 use mathlib.Core.Bool.{Bool, true, false}
 use mathlib.Core.List.{List, [], _∷_}
-use mathlib.Core.Option.{Option, none, some}
-use Prim.Native.Nat.{ℕ, zero, suc, _+_, _*_, _-_}
-use lib.ListN.{length, take, drop}
+use mathlib.Core.Option.{Option, none}
+use Prim.Native.Nat.{ℕ, zero, suc, _+_, _-_}
+use lib.ListN.{length}
 use lib.Dec.{leb}
-use lib.Seq.{sets, slice}
+use lib.Seq.{slice}
 use Rattle.rules.specs.Base.{both}
 use Rattle.rules.specs.Limits.{planLimit}
 use Rattle.rules.specs.File.{Binding}
 use Rattle.rules.specs.Read as Read
-use Rattle.rules.specs.Placement.{SeekKeyPart, Guide, Range, Edges}
+use Rattle.rules.specs.Placement.{Guide, Range, Edges}
 
 -- The work area's four runs, each as long as a plan may be: a list that does not fit its run does not fit a plan.
 abbrev pub bindingsAt : ℕ

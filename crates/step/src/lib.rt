@@ -10,7 +10,7 @@ ghost use Rattle.paths.specs.Paths.{pathOf};
 ghost use Rattle.slots.specs.Slots.{slotOf};
 ghost use Rattle.seek.specs.Seek.{stateOf};
 ghost use Rattle.lists.specs.Lists.{codeOf, endsOf, stateWith};
-ghost use Rattle.step.specs.Step.{walkState};
+ghost use Rattle.step.specs.Step.{walkState, diagnosed};
 use lists::Code;
 use lists::Lists;
 use lists::bind;
@@ -122,10 +122,13 @@ impl Walk {
         Walk { lists, level }
     }
 
-    // Building falls, with a diagnostic.
-    pub fn decline(self, work: &mut [u8], node: usize, code: Code) -> Walk
-        ensures { λ r. ⌜ ((T : Tables) (p : List ℕ) → walkState T r (now (work .exit)) p ≡ Ops.report node (codeOf code) (Ops.skip (walkState T self (now (work .entry)) p))) ⌝ }
+    // A diagnostic. `falls` says whether building falls with it.
+    pub fn diagnose(self, work: &mut [u8], node: usize, code: Code, falls: bool) -> Walk
+        ensures { λ r. ⌜ ((T : Tables) (p : List ℕ) → walkState T r (now (work .exit)) p ≡ diagnosed node (codeOf code) falls (walkState T self (now (work .entry)) p)) ⌝ }
     {
-        self.skip().report(work, node, code)
+        if falls {
+            return self.skip().report(work, node, code);
+        }
+        self.report(work, node, code)
     }
 }

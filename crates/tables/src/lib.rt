@@ -2,7 +2,7 @@
 ghost use mathlib.Core.Path.{_≡_};
 ghost use Prim.Native.Nat.{_+_, _*_, _≤_, _<_};
 ghost use lib.ListN.{length};
-ghost use Rattle.rules.specs.File.{typeAt, nodeAt, varName, recordFields, recordTy, unionTy, isConstant};
+ghost use Rattle.rules.specs.File.{typeAt, nodeAt, varName, recordTy, unionTy, isConstant};
 ghost use Rattle.rules.specs.Constant as Constant;
 ghost use Rattle.rules.specs.Constant.{fieldPattern, standsFor};
 ghost use Rattle.file.specs.Tables.{Indexed, tablesOf};

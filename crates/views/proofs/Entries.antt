@@ -6,23 +6,20 @@ use mathlib.Core.List.{List, [], _∷_}
 use mathlib.Core.Option.{Option, none, some}
 use mathlib.Core.Logic.{⊎-elim}
 use native.Mathlib.Omega.{arith}
-use lib.Dec.{eqb, ltb}
-use lib.ListN.{length, getD, drop, length-drop, List·getD-eq-default}
+use lib.ListN.{length, getD, drop, List·getD-eq-default}
 use borrow.Author.Tests.{eq-eqb, ne-eqb}
 use Rattle.rules.specs.File as File
-use Rattle.rules.specs.File.{Tables, Ty, Node, Slot, nameAt, typeAt, predicateAt, nodeAt}
-use Rattle.rules.specs.Read.{Read, Reader, _>>=_, pure, refuse, u8, u16, u32, optional, many, several, kind, char, name, type, factTy, recordTy, unionTy, predicate, anchor, node, one, two, intNode, bytesNode, fuzzyNode, recordNode, path, slot, rowSlot, keySlot, derivedSlot, fieldSlot, valueSlot, constSlot, binding, hoisted, fetched, constraint, op, comparison, level}
-use Rattle.rules.specs.Read.Read.{got, refused}
-use Rattle.file.specs.Steps.{word, readAt, baseOf, limitOf}
+use Rattle.rules.specs.File.{Ty, nameAt, typeAt, predicateAt}
+use Rattle.rules.specs.Read.{Read, Reader, _>>=_, pure, refuse, u8, optional, many, several, kind, char, name, type, factTy, recordTy, unionTy, predicate, node, one, two, hoisted, fetched, constraint, op, comparison, level}
+use Rattle.rules.specs.Read.Read.{got}
+use Rattle.file.specs.Steps.{word, readAt, baseOf}
 use Rattle.file.specs.Tables.{Stands, Section, Indexed, tablesOf}
-use Rattle.file.proofs.Readers.{lt-or-le, refused-got, bind-inv, then-got, then-refused, u8-in, byte-in, kind-in, kind-out, Needs, needs-fixed, needs-first, needs-bind, needs-kind, Fixed, fixed-bind, fixed-pure, fixed-u8, fixed-u16, fixed-u32, fixed-optional, fixed-bytes, fixed-many}
-use Rattle.file.proofs.Leaves.{char-cut, char-bad, char-good, typeReaders, nodeReaders, slotReaders, fixed-fieldTy, fixed-alternative, fixed-fieldPattern, fixed-predicate, fixed-hoisted, fixed-constraint, fixed-level}
-use Rattle.file.proofs.Sections.{word-in, word-then}
-use Rattle.views.specs.Views.{sizeOf, run, long, byteAt, fieldAt, alternativeAt, patternAt, pathAt, orNone, anchorKind, opKind, PathInside, SeenType, SeenNode, SeenText, bindingAt, hoistedAt, fetchedAt, constraintAt, comparisonAt, levelAt}
-use Rattle.views.specs.declared.TypeView.{TypeView}
+use Rattle.file.proofs.Readers.{lt-or-le, refused-got, bind-inv, then-got, then-refused, kind-in, kind-out, needs-fixed, needs-first, fixed-bind, fixed-pure, fixed-u16}
+use Rattle.file.proofs.Leaves.{char-cut, char-bad, char-good, typeReaders, fixed-fieldTy, fixed-alternative, fixed-predicate, fixed-hoisted, fixed-constraint, fixed-level}
+use Rattle.file.proofs.Sections.{word-then}
+use Rattle.views.specs.Views.{sizeOf, run, byteAt, orNone, opKind, SeenType, SeenText, hoistedAt, constraintAt, comparisonAt, levelAt}
 use Rattle.views.specs.declared.TypeView.the-variants as Tv
-use Rattle.views.specs.declared.Text.{Text}
-use Rattle.views.proofs.Runs.{value-of, rest-of, needs-room, First, first-byte, one-in, two-in, three-in, optional-in, Finds, finds-byte, finds-long, finds-field, finds-pattern, finds-alternative, Made, several-made, Walked, path-then}
+use Rattle.views.proofs.Runs.{value-of, needs-room, First, first-byte, one-in, two-in, three-in, optional-in, finds-field, finds-alternative, Made, several-made}
 
 -- a kind at p that was read: its byte, and what its reader found
 pub record Kinded {A : Type 0} (f : List ℕ) (rs : List (Reader A)) (p : ℕ) (a : A) (rest : List ℕ) : Type 0 where

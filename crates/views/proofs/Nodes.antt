@@ -1,27 +1,24 @@
 -- The nodes, bindings and fetched entries of an accepted file, and the views that they give.
 use Prim.Native.Nat.{ℕ, zero, suc, _+_, _*_, _-_, _≤_, _<_}
-use mathlib.Core.Path.{_≡_, refl, sym, ap, _∙_, subst}
+use mathlib.Core.Path.{_≡_, refl, sym, ap, _∙_}
 use mathlib.Core.List.{List, [], _∷_}
-use mathlib.Core.Option.{Option}
 use native.Mathlib.Omega.{arith}
 use lib.ListN.{length, getD, drop}
 use Rattle.rules.specs.File as File
-use Rattle.rules.specs.File.{Tables, Node, Slot, nodeAt}
-use Rattle.rules.specs.Read.{Read, Reader, _>>=_, pure, refuse, u8, u16, optional, many, several, anchor, node, one, two, intNode, bytesNode, fuzzyNode, recordNode, path, slot, rowSlot, keySlot, derivedSlot, fieldSlot, valueSlot, constSlot, binding, fetched}
-use Rattle.rules.specs.Read.Read.{got, refused}
+use Rattle.rules.specs.File.{Node, nodeAt}
+use Rattle.rules.specs.Read.{Reader, _>>=_, pure, refuse, u8, many, anchor, node, one, two, intNode, bytesNode, fuzzyNode, recordNode, fetched}
+use Rattle.rules.specs.Read.Read.{got}
 use Rattle.file.specs.Steps.{word, readAt, baseOf}
 use Rattle.file.specs.Tables.{Stands, Indexed, tablesOf}
-use Rattle.file.proofs.Readers.{bind-inv, then-got, u8-in, byte-in, Needs, needs-fixed, needs-first, needs-bind, needs-kind, fixed-bind, fixed-pure, fixed-u8, fixed-u16, fixed-optional, fixed-bytes}
-use Rattle.file.proofs.Leaves.{nodeReaders, slotReaders, fixed-fieldPattern}
+use Rattle.file.proofs.Readers.{then-got, byte-in, needs-fixed, needs-first, needs-bind, needs-kind, fixed-bind, fixed-pure, fixed-u8, fixed-u16, fixed-bytes}
+use Rattle.file.proofs.Leaves.{nodeReaders, fixed-fieldPattern}
 use Rattle.file.proofs.Sections.{word-then}
-use Rattle.views.specs.Views.{run, byteAt, patternAt, pathAt, orNone, anchorKind, anchorOf, predicateOption, nodeOf, slotOf, NodeInside, SlotInside, PathInside, SeenNode, SeenBinding, SeenFetched, bindingAt, fetchedAt}
+use Rattle.views.specs.Views.{anchorKind, anchorOf, nodeOf, NodeInside, SeenNode}
 use Rattle.views.specs.declared.NodeView.{NodeView}
 use Rattle.views.specs.declared.NodeView.the-variants as Nv
-use Rattle.views.specs.declared.BindingView.{BindingView}
-use Rattle.views.specs.declared.FetchedView.{FetchedView}
 use Rattle.views.specs.declared.Anchor.{Anchor}
-use Rattle.views.proofs.Runs.{value-of, rest-of, needs-room, one-in, two-in, optional-in, finds-byte, finds-pattern, many-run, Made, several-made, Walked, path-then}
-use Rattle.views.proofs.Entries.{stands-at, Kinded, kind-found, kind-is, Chosen, chosen}
+use Rattle.views.proofs.Runs.{value-of, needs-room, one-in, two-in, finds-byte, finds-pattern, many-run, Made, several-made}
+use Rattle.views.proofs.Entries.{stands-at, Kinded, kind-found, kind-is, chosen}
 
 abbrev anchorReaders : List (Reader File.Anchor)
 anchorReaders = pure File.Anchor.Prefix ∷ pure File.Anchor.Whole ∷ []

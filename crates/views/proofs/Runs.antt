@@ -1,22 +1,16 @@
 -- What the written rules' readers find in the bytes: numbers, runs of records, and what a reading that succeeded says of the file's length.
 use Prim.Native.Nat.{ℕ, zero, suc, _+_, _*_, _-_, _≤_, _<_}
-use mathlib.Core.Path.{_≡_, refl, sym, ap, _∙_, subst}
-use mathlib.Core.Bool.{Bool, true, false}
+use mathlib.Core.Path.{_≡_, refl, sym, ap, _∙_}
 use mathlib.Core.List.{List, [], _∷_}
-use mathlib.Core.Option.{Option, none, some}
 use mathlib.Core.Logic.{⊎-elim}
 use native.Mathlib.Omega.{arith}
-use native.Mathlib.Nat.{add-zero}
-use lib.Dec.{eqb, ltb}
 use lib.ListN.{length, getD, drop, length-drop}
-use borrow.Author.Tests.{ltb-true}
 use Rattle.rules.specs.File as File
-use Rattle.rules.specs.Read.{Read, Reader, _>>=_, pure, refuse, u8, u16, u32, optional, many, several, kind, char, fieldTy, alternative, fieldPattern, path}
-use Rattle.rules.specs.Read.Read.{got, refused}
+use Rattle.rules.specs.Read.{Read, Reader, _>>=_, pure, u8, u16, u32, optional, many, several, fieldTy, alternative, fieldPattern, path}
+use Rattle.rules.specs.Read.Read.{got}
 use Rattle.file.specs.Steps.{word, readAt}
-use Rattle.file.specs.Tables.{Stands}
-use Rattle.file.proofs.Readers.{lt-or-le, refused-got, bind-inv, then-got, then-refused, u8-in, byte-in, byte-out, kind-in, kind-out, several-in, Needs, needs-fixed, needs-first, needs-bind, Fixed, fixed-u8, fixed-u16, fixed-u32, fixed-many}
-use Rattle.file.proofs.Sections.{word-in, word-then}
+use Rattle.file.proofs.Readers.{lt-or-le, refused-got, bind-inv, then-got, u8-in, byte-in, Needs, needs-fixed, needs-first, Fixed, fixed-u8, fixed-u16, fixed-u32, fixed-many}
+use Rattle.file.proofs.Sections.{word-then}
 use Rattle.views.specs.Views.{run, long, byteAt, fieldAt, alternativeAt, patternAt, pathAt, orNone}
 
 -- a run is read by index

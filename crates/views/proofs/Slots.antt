@@ -1,23 +1,21 @@
 -- The bindings and fetched entries of an accepted file, and the views that they give.
 use Prim.Native.Nat.{ℕ, zero, suc, _+_, _*_, _-_, _≤_, _<_}
-use mathlib.Core.Path.{_≡_, refl, sym, ap, _∙_, subst}
-use mathlib.Core.List.{List, [], _∷_}
-use mathlib.Core.Option.{Option}
+use mathlib.Core.Path.{_≡_, refl, sym, ap, _∙_}
+use mathlib.Core.List.{List, []}
 use native.Mathlib.Omega.{arith}
 use lib.ListN.{length, getD, drop}
 use Rattle.rules.specs.File as File
-use Rattle.rules.specs.File.{Tables, Slot}
-use Rattle.rules.specs.Read.{Read, Reader, _>>=_, pure, refuse, u16, optional, path, slot, rowSlot, keySlot, derivedSlot, fieldSlot, valueSlot, constSlot, binding, fetched}
-use Rattle.rules.specs.Read.Read.{got, refused}
+use Rattle.rules.specs.File.{Slot}
+use Rattle.rules.specs.Read.{Reader, _>>=_, pure, refuse, u16, optional, path, slot, rowSlot, keySlot, derivedSlot, fieldSlot, valueSlot, constSlot, binding, fetched}
+use Rattle.rules.specs.Read.Read.{got}
 use Rattle.file.specs.Steps.{word, readAt, baseOf}
-use Rattle.file.specs.Tables.{Stands, Indexed, tablesOf}
+use Rattle.file.specs.Tables.{Indexed, tablesOf}
 use Rattle.file.proofs.Readers.{bind-inv, then-got, needs-fixed, needs-first, fixed-bind, fixed-pure, fixed-u16, fixed-optional}
 use Rattle.file.proofs.Leaves.{slotReaders}
 use Rattle.file.proofs.Sections.{word-then}
-use Rattle.views.specs.Views.{pathAt, orNone, slotOf, bindingOf, SlotInside, PathInside, SeenBinding, SeenFetched, bindingAt, fetchedAt}
+use Rattle.views.specs.Views.{pathAt, orNone, slotOf, SlotInside, PathInside, SeenBinding, SeenFetched, bindingAt, fetchedAt}
 use Rattle.views.specs.declared.BindingView.{BindingView}
-use Rattle.views.specs.declared.FetchedView.{FetchedView}
-use Rattle.views.proofs.Runs.{value-of, needs-room, one-in, two-in, optional-in, Walked, path-then}
+use Rattle.views.proofs.Runs.{value-of, needs-room, one-in, two-in, optional-in, path-then}
 use Rattle.views.proofs.Entries.{stands-at, Kinded, kind-found, kind-is}
 
 -- an address, a path and a number that were read

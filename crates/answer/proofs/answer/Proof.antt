@@ -1,7 +1,7 @@
 use Prim.Native.Nat.{_/_}
 use Rattle.lines.proofs.Fronts.{length-refusal}
 use lib.ListN.{length}
-use mathlib.Core.Path.{_≡_, refl, sym, ap, _∙_}
+use mathlib.Core.Path.{sym, ap, _∙_}
 use native.Mathlib.Omega.{arith}
 use Rattle.answer.proofs.Answered.{planned-line, refused-line, written, plan-length, work-length}
 use borrow.Author.Needs.{needs}

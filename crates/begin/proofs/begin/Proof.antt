@@ -7,7 +7,7 @@ use Rattle.begin.proofs.begin.Reads as reads
 use Rattle.begin.proofs.begin.Lts as lts
 use Rattle.begin.proofs.begin_place.Reads as begin-place-reads
 use Rattle.begin.proofs.begin_variable.Reads as begin-variable-reads
-use Rattle.begin.proofs.diagnose.Reads as diagnose-reads
+use Rattle.step.proofs.Walk.diagnose.Reads as diagnose-reads
 use Rattle.begin.proofs.done.Reads as done-reads
 use Rattle.constrain.proofs.ranged.Reads as ranged-reads
 use Rattle.entries.proofs.node_of.Reads as node-of-reads

@@ -7,7 +7,7 @@ use Rattle.begin.proofs.choose_alternative.Statement.{statement}
 use Rattle.begin.proofs.choose_alternative.Tie as tie
 use Rattle.begin.proofs.choose_alternative.Reads as reads
 use Rattle.begin.proofs.choose_alternative.Lts as lts
-use Rattle.begin.proofs.diagnose.Reads as diagnose-reads
+use Rattle.step.proofs.Walk.diagnose.Reads as diagnose-reads
 use Rattle.begin.proofs.pairs_of.Reads as pairs-of-reads
 use Rattle.begin.proofs.unchosen.Reads as unchosen-reads
 use Rattle.tables.proofs.alternative_of.Reads as alternative-of-reads

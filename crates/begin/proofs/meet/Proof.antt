@@ -4,7 +4,7 @@ use Rattle.begin.proofs.meet.Statement.{statement}
 use Rattle.begin.proofs.meet.Tie as tie
 use Rattle.begin.proofs.meet.Reads as reads
 use Rattle.begin.proofs.meet.Lts as lts
-use Rattle.begin.proofs.diagnose.Reads as diagnose-reads
+use Rattle.step.proofs.Walk.diagnose.Reads as diagnose-reads
 use Rattle.begin.proofs.meet_const.Reads as meet-const-reads
 use Rattle.begin.proofs.meet_field.Reads as meet-field-reads
 use Rattle.begin.proofs.meet_row.Reads as meet-row-reads

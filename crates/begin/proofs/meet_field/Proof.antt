@@ -4,7 +4,7 @@ use Rattle.begin.proofs.meet_field.Statement.{statement}
 use Rattle.begin.proofs.meet_field.Tie as tie
 use Rattle.begin.proofs.meet_field.Reads as reads
 use Rattle.begin.proofs.meet_field.Lts as lts
-use Rattle.begin.proofs.diagnose.Reads as diagnose-reads
+use Rattle.step.proofs.Walk.diagnose.Reads as diagnose-reads
 use Rattle.step.proofs.Walk.register_field.Reads as register-field-reads
 
 -- src/lib.rt:380:9

@@ -4,7 +4,7 @@ use Rattle.begin.proofs.meet_row.Statement.{statement}
 use Rattle.begin.proofs.meet_row.Tie as tie
 use Rattle.begin.proofs.meet_row.Reads as reads
 use Rattle.begin.proofs.meet_row.Lts as lts
-use Rattle.begin.proofs.diagnose.Reads as diagnose-reads
+use Rattle.step.proofs.Walk.diagnose.Reads as diagnose-reads
 use Rattle.begin.proofs.refers_to.Reads as refers-to-reads
 use Rattle.fields.proofs.fact_ty.Reads as fact-ty-reads
 use Rattle.step.proofs.Walk.fact_id.Reads as fact-id-reads

@@ -4,7 +4,7 @@ use Rattle.begin.proofs.unresolved.Statement.{statement}
 use Rattle.begin.proofs.unresolved.Tie as tie
 use Rattle.begin.proofs.unresolved.Reads as reads
 use Rattle.begin.proofs.unresolved.Lts as lts
-use Rattle.begin.proofs.diagnose.Reads as diagnose-reads
+use Rattle.step.proofs.Walk.diagnose.Reads as diagnose-reads
 use Rattle.begin.proofs.is_deferred.Reads as is-deferred-reads
 use Rattle.step.proofs.Walk.skip.Reads as skip-reads
 

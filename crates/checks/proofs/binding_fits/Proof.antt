@@ -1,17 +1,9 @@
-use mathlib.Core.Path.{_≡_, refl, sym, ap, ap₂, _∙_, subst}
-use mathlib.Core.Bool.{Bool, true, false}
 use native.Mathlib.Omega.{arith}
-use Prim.Native.Nat.{ℕ, _+_, _*_, _-_, _≤_, _<_, max}
-use lib.ListN.{length, getD, drop, take, length-set}
-use lib.Seq.{sets}
-use lib.Dec.{ltb, leb, eqb}
+use Prim.Native.Nat.{_-_}
 use denote.Ref.{now}
-use borrow.Author.Tests.{lt-ltb, le-ltb, le-leb, lt-leb, not-true, not-false}
-use Rattle.rules.specs.Base.{both, all}
-use Rattle.file.specs.Steps.{word, depthsBase, constantsBase}
-use Rattle.file.specs.Tables.{tablesOf, Indexed}
+use Rattle.file.specs.Tables.{tablesOf}
 use Rattle.rules.specs.Checks.{slotFits}
-use Rattle.views.specs.Views.{PathInside, run}
+use Rattle.views.specs.Views.{PathInside}
 use Rattle.numbers.proofs.Seen.{by-slot}
 use Rattle.checks.proofs.Fill.{slot-in, slot-inside, field-type, fits-field, depth-few}
 use borrow.Author.Needs.{needs}

@@ -1,15 +1,10 @@
 use mathlib.Core.Path.{sym, _∙_}
-use mathlib.Core.Bool.{Bool, true, false}
 use native.Mathlib.Omega.{arith}
-use Prim.Native.Nat.{ℕ, _+_, _*_, _-_, _≤_, _<_, max}
-use lib.ListN.{length, getD, drop, take, length-set}
-use lib.Dec.{ltb, leb, eqb}
+use Prim.Native.Nat.{_-_}
 use denote.Ref.{now}
-use borrow.Author.Tests.{lt-ltb, le-ltb, le-leb, lt-leb, not-true, not-false}
-use Rattle.rules.specs.Base.{both, all, concatMap}
-use Rattle.file.specs.Steps.{word, depthsBase, constantsBase}
-use Rattle.file.specs.Tables.{tablesOf, Indexed}
-use Rattle.views.specs.Views.{run}
+use borrow.Author.Tests.{not-true, not-false}
+use Rattle.file.specs.Steps.{depthsBase, constantsBase}
+use Rattle.file.specs.Tables.{tablesOf}
 use Rattle.checks.proofs.Fill.{indexed-so}
 use Rattle.rules.specs.File.{depths}
 use Rattle.checks.proofs.Verdicts.{all-8, all-9, all-later, index-8, index-9, index-filled, areas, checked, numbered, refused-accepted}

@@ -1,16 +1,13 @@
-use mathlib.Core.Path.{_≡_, refl, sym, ap, ap₂, _∙_, subst}
-use mathlib.Core.Bool.{Bool, true, false}
+use mathlib.Core.Path.{_≡_, sym, _∙_}
+use mathlib.Core.Bool.{true}
 use native.Mathlib.Omega.{arith}
-use Prim.Native.Nat.{ℕ, _+_, _*_, _-_, _≤_, _<_, max}
-use lib.ListN.{length, getD, drop, take, length-set}
-use lib.Seq.{sets}
-use lib.Dec.{ltb, leb, eqb}
+use Prim.Native.Nat.{_+_, _-_, _<_, max}
+use lib.ListN.{drop}
+use lib.Dec.{ltb}
 use denote.Ref.{now}
 use borrow.Author.Needs.{needs}
-use borrow.Author.Tests.{lt-ltb, le-ltb, le-leb, lt-leb, not-true, not-false}
-use Rattle.rules.specs.Base.{both, all}
-use Rattle.file.specs.Steps.{word, depthsBase, constantsBase}
-use Rattle.file.specs.Tables.{tablesOf, Indexed}
+use Rattle.rules.specs.Base.{all}
+use Rattle.file.specs.Steps.{word, depthsBase}
 use Rattle.views.specs.Views.{run}
 use Rattle.rules.specs.File.{deepest}
 use Rattle.numbers.specs.Numbers.{Words}

@@ -1,17 +1,12 @@
-use mathlib.Core.Path.{_≡_, refl, sym, ap, ap₂, _∙_, subst}
-use mathlib.Core.Bool.{Bool, true, false}
+use mathlib.Core.Path.{_≡_, refl, _∙_}
 use native.Mathlib.Omega.{arith}
-use Prim.Native.Nat.{ℕ, _+_, _*_, _-_, _≤_, _<_, max}
-use lib.ListN.{length, getD, drop, take, length-set}
+use Prim.Native.Nat.{_-_, _≤_}
+use lib.ListN.{length, take, length-set}
 use lib.Seq.{sets}
-use lib.Dec.{ltb, leb, eqb}
 use denote.Ref.{now}
 use borrow.Author.Needs.{needs}
-use borrow.Author.Tests.{lt-ltb, le-ltb, le-leb, lt-leb, not-true, not-false}
-use Rattle.rules.specs.Base.{both, all}
-use Rattle.file.specs.Steps.{word, depthsBase, constantsBase}
-use Rattle.file.specs.Tables.{tablesOf, Indexed}
-use Rattle.views.specs.Views.{run}
+use Rattle.file.specs.Steps.{constantsBase}
+use Rattle.file.specs.Tables.{tablesOf}
 use Rattle.checks.specs.Checked.{flagsOf}
 use Rattle.checks.proofs.Fill.{nodes-few, indexed-so, flag-stored, flags-done}
 use Rattle.checks.proofs.fill_constants.Statement.{statement}

@@ -1,18 +1,7 @@
-use mathlib.Core.Path.{_≡_, refl, sym, ap, ap₂, _∙_, subst}
-use mathlib.Core.Bool.{Bool, true, false}
+use mathlib.Core.Path.{ap, _∙_}
 use native.Mathlib.Omega.{arith}
-use Prim.Native.Nat.{ℕ, _+_, _*_, _-_, _≤_, _<_, max}
-use lib.ListN.{length, getD, drop, take}
-use lib.Seq.{sets}
-use lib.Dec.{ltb, leb, eqb}
-use denote.Ref.{now}
-use borrow.Author.Needs.{needs}
-use borrow.Author.Tests.{lt-ltb, le-ltb, le-leb, lt-leb, not-true, not-false}
-use Rattle.rules.specs.Base.{both, all}
-use Rattle.file.specs.Steps.{word, depthsBase, constantsBase}
-use Rattle.file.specs.Tables.{tablesOf, Indexed}
-use Rattle.views.specs.Views.{run}
-use Rattle.checks.specs.Checked.{bitOf}
+use Prim.Native.Nat.{ℕ, _-_}
+use lib.Dec.{eqb}
 use Rattle.checks.proofs.Fill.{nodes-few, bit-true}
 use Rattle.checks.proofs.is_constant.Statement.{statement}
 use Rattle.checks.proofs.is_constant.Tie as tie

@@ -1,16 +1,12 @@
-use mathlib.Core.Path.{_≡_, refl, sym, ap, ap₂, _∙_, subst}
-use mathlib.Core.Bool.{Bool, true, false}
+use mathlib.Core.Path.{_≡_, refl, sym, _∙_}
 use native.Mathlib.Omega.{arith}
-use Prim.Native.Nat.{ℕ, _+_, _*_, _-_, _≤_, _<_, max}
-use lib.ListN.{length, getD, drop, take, length-set}
-use lib.Dec.{ltb, leb, eqb}
+use Prim.Native.Nat.{_-_, _≤_, _<_}
+use lib.ListN.{length, drop}
 use denote.Ref.{now}
 use borrow.Author.Needs.{needs}
-use borrow.Author.Tests.{lt-ltb, le-ltb, le-leb, lt-leb, not-true, not-false}
-use Rattle.rules.specs.Base.{both, all, concatMap}
-use Rattle.file.specs.Steps.{word, depthsBase, constantsBase}
-use Rattle.file.specs.Tables.{tablesOf, Indexed}
-use Rattle.views.specs.Views.{run}
+use borrow.Author.Tests.{not-true, not-false}
+use Rattle.rules.specs.Base.{concatMap}
+use Rattle.file.specs.Tables.{tablesOf}
 use Rattle.rules.specs.File.{childNodes}
 use Rattle.checks.specs.Checked.{once, marked}
 use Rattle.checks.proofs.Fill.{nodes-few}

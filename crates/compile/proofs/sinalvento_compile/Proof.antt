@@ -1,4 +1,3 @@
-use mathlib.Core.Path.{sym, ap, _∙_}
 use Rattle.rules.proofs.Demand3.{demand3}
 use Rattle.compile.proofs.Ends.{result-is, plan-is, work-is}
 use borrow.Author.Needs.{needs}

@@ -1,8 +1,6 @@
 use Prim.Native.Nat.{_-_}
 use native.Mathlib.Omega.{arith}
 use borrow.Author.Needs.{needs}
-use lib.ListN.{length}
-use mathlib.Core.Path.{_≡_}
 use Rattle.file.specs.Tables.{tablesOf}
 use Rattle.constrain.proofs.Ranks.{Seeking, seek-first, seek-more, seek-hit, seek-end}
 use Rattle.constrain.proofs.is_constrained.Statement.{statement}

@@ -1,7 +1,7 @@
 use borrow.Author.Needs.{needs}
-use mathlib.Core.Path.{_≡_, refl, sym, ap, _∙_}
+use mathlib.Core.Path.{refl, sym, _∙_}
 use native.Mathlib.Omega.{arith}
-use Rattle.file.proofs.Leaves.{comparison-cut, comparison-bad, comparison-in, type-small}
+use Rattle.file.proofs.Leaves.{comparison-cut, comparison-bad, comparison-in}
 use Rattle.file.proofs.comparison_end.Statement.{statement}
 use Rattle.file.proofs.comparison_end.Tie as tie
 use Rattle.file.proofs.comparison_end.Reads as reads

@@ -1,4 +1,4 @@
-use mathlib.Core.Path.{_≡_, refl, sym, ap, _∙_}
+use mathlib.Core.Path.{sym, ap, _∙_}
 use native.Mathlib.Omega.{arith}
 use Rattle.file.proofs.Sections.{count-cut, count-over, count-in}
 use Rattle.file.specs.declared.Step.the-variants.{Next}

@@ -1,8 +1,7 @@
-use Rattle.file.specs.Steps.{stepAt}
 use borrow.Author.Needs.{needs}
-use mathlib.Core.Path.{_≡_, refl, sym, ap, _∙_}
+use mathlib.Core.Path.{sym, _∙_}
 use native.Mathlib.Omega.{arith}
-use Rattle.file.proofs.Leaves.{fetched-cut, fetched-in, fetched-fault, path-within, type-small}
+use Rattle.file.proofs.Leaves.{fetched-cut, fetched-in, fetched-fault, path-within}
 use Rattle.file.proofs.fetched_end.Statement.{statement}
 use Rattle.file.proofs.fetched_end.Tie as tie
 use Rattle.file.proofs.fetched_end.Reads as reads

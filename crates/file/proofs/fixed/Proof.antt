@@ -1,5 +1,4 @@
-use Rattle.file.proofs.Leaves.{type-small}
-use mathlib.Core.Path.{sym, _≡_, refl, ap, _∙_}
+use mathlib.Core.Path.{sym}
 use native.Mathlib.Omega.{arith}
 use Rattle.file.proofs.Readers.{fixed-bytes, fixed-in, cut-short, needs-fixed}
 use borrow.Author.Needs.{needs}

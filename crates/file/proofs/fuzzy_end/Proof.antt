@@ -1,6 +1,6 @@
-use mathlib.Core.Path.{_≡_, refl, sym, ap, _∙_}
+use mathlib.Core.Path.{sym}
 use native.Mathlib.Omega.{arith}
-use Rattle.file.proofs.Leaves.{fuzzy-cut, fuzzy-bad, fuzzy-in, type-small}
+use Rattle.file.proofs.Leaves.{fuzzy-cut, fuzzy-bad, fuzzy-in}
 use borrow.Author.Needs.{needs}
 use Rattle.file.proofs.fuzzy_end.Statement.{statement}
 use Rattle.file.proofs.fuzzy_end.Tie as tie

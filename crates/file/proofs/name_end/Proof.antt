@@ -1,10 +1,10 @@
 use native.Mathlib.Omega.{arith}
-use mathlib.Core.Path.{_≡_, refl, sym, ap, _∙_}
+use mathlib.Core.Path.{_≡_, sym, _∙_}
 use borrow.Author.Needs.{needs}
 use Prim.Native.Nat.{_≤_}
 use lib.ListN.{length}
 use Rattle.rules.specs.Read.{name, many, char}
-use Rattle.file.specs.Steps.{stepOf, stepAt}
+use Rattle.file.specs.Steps.{stepAt}
 use Rattle.file.proofs.Readers.{many-none, many-more, many-fault}
 use Rattle.file.proofs.Leaves.{name-in, name-cut, char-cut, char-bad, char-good}
 use Rattle.file.proofs.name_end.Statement.{statement}

@@ -1,7 +1,7 @@
 use borrow.Author.Needs.{needs}
-use mathlib.Core.Path.{_≡_, refl, sym, ap, _∙_}
+use mathlib.Core.Path.{sym, _∙_}
 use native.Mathlib.Omega.{arith}
-use Rattle.file.proofs.Leaves.{node-cut, node-plain, node-bytes, node-fuzzy, node-record, node-bad, node-small, type-small}
+use Rattle.file.proofs.Leaves.{node-cut, node-plain, node-bytes, node-fuzzy, node-record, node-bad, node-small}
 use Rattle.file.proofs.node_end.Statement.{statement}
 use Rattle.file.proofs.node_end.Tie as tie
 use Rattle.file.proofs.node_end.Reads as reads

@@ -3,12 +3,12 @@ use Rattle.file.proofs.Accepted.{indexed}
 use Rattle.file.specs.Tables.{Indexed}
 use denote.Ref.{now}
 use borrow.Author.Needs.{needs}
-use mathlib.Core.Path.{_≡_, refl, sym, ap, _∙_, subst}
+use mathlib.Core.Path.{_≡_, refl, sym, _∙_, subst}
 use native.Mathlib.Omega.{arith}
-use Prim.Native.Nat.{_≤_, _+_, _-_}
+use Prim.Native.Nat.{_≤_, _-_}
 use lib.ListN.{length}
 use Rattle.rules.specs.Read as Read
-use Rattle.file.specs.Steps.{stepAt, sections, sectionOf, filled, indexOf}
+use Rattle.file.specs.Steps.{stepAt, sections, filled, indexOf}
 use Rattle.file.proofs.Sections.{section-within, sections-more, sections-fault, sections-over, sections-whole, filled-none, filled-more, filled-fault, file-sections}
 use Rattle.file.proofs.read.Statement.{statement}
 use Rattle.file.proofs.read.Tie as tie

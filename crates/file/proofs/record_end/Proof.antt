@@ -1,4 +1,4 @@
-use mathlib.Core.Path.{_≡_, refl, sym, ap, _∙_}
+use mathlib.Core.Path.{sym, _∙_}
 use native.Mathlib.Omega.{arith}
 use Rattle.file.proofs.Leaves.{record-name, record-type, record-node, record-binding, record-fetched, record-comparison, record-fixed, record-small}
 use borrow.Author.Needs.{needs}

@@ -1,4 +1,4 @@
-use mathlib.Core.Path.{_≡_, refl, sym, ap, _∙_}
+use mathlib.Core.Path.{_≡_, sym, _∙_}
 use native.Mathlib.Omega.{arith}
 use Rattle.file.specs.declared.Step.the-variants.{Next, Refused}
 use Rattle.file.specs.Steps.{stepAt, recordOf, starts}

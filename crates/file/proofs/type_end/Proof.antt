@@ -1,4 +1,4 @@
-use mathlib.Core.Path.{sym, _∙_, _≡_, refl, ap}
+use mathlib.Core.Path.{sym, _∙_}
 use native.Mathlib.Omega.{arith}
 use Rattle.file.proofs.Leaves.{type-cut, type-plain, type-record, type-union, type-bad, type-small}
 use borrow.Author.Needs.{needs}

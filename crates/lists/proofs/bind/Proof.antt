@@ -1,7 +1,7 @@
-use mathlib.Core.Path.{_≡_, refl, sym, ap, _∙_}
+use mathlib.Core.Path.{refl}
 use native.Mathlib.Omega.{arith}
 use Rattle.rules.specs.Plan as Plan
-use Rattle.records.proofs.Stores.{next, byte-is, word-is}
+use Rattle.records.proofs.Stores.{next}
 use Rattle.state.specs.Ops as Ops
 use Rattle.lists.proofs.Appends.{over, not-over, stops, appended, no-room, counted, too-many}
 use Rattle.lists.proofs.Forms.{binding-end}

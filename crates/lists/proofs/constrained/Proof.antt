@@ -1,9 +1,7 @@
-use mathlib.Core.Path.{_≡_, refl, sym, ap, _∙_}
-use native.Mathlib.Omega.{arith}
+use mathlib.Core.Path.{refl}
 use Rattle.rules.specs.Plan as Plan
 use Rattle.state.specs.Ops as Ops
-use Rattle.records.proofs.Stores.{next, byte-is, word-is}
-use Rattle.lists.proofs.Appends.{over, not-over, stops, appended, no-room, counted, too-many}
+use Rattle.lists.proofs.Appends.{over, not-over, stops, appended, no-room}
 use borrow.Author.Needs.{needs}
 use Rattle.lists.proofs.constrained.Statement.{statement}
 use Rattle.lists.proofs.constrained.Tie as tie

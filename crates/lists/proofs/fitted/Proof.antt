@@ -1,6 +1,5 @@
 use denote.Ref.{now}
-use mathlib.Core.Path.{_≡_, refl, sym, ap, _∙_}
-use native.Mathlib.Omega.{arith}
+use mathlib.Core.Path.{sym, _∙_}
 use Rattle.lists.proofs.Fits.{short, fitted-yes, fitted-no}
 use borrow.Author.Needs.{needs}
 use Rattle.lists.proofs.fitted.Statement.{statement}

@@ -10,7 +10,7 @@ use Rattle.lists.proofs.nearest.Tie as tie
 use Rattle.lists.proofs.nearest.Reads as reads
 use Rattle.lists.proofs.nearest.Lts as lts
 use Rattle.lists.proofs.apart.Reads as apart-reads
-use Rattle.lists.proofs.least.Reads as least-reads
+use Rattle.file.proofs.least.Reads as least-reads
 
 abbrev Inv-loop : tie.InvT-loop
 Inv-loop bytes low high near₀ i₀ near i = (near ≡ nearest bytes low high (i - 1)) × (1 ≤ i) × (i - 1 ≤ length bytes - 1)

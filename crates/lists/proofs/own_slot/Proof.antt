@@ -1,5 +1,4 @@
-use mathlib.Core.Path.{_≡_, refl, sym, ap, _∙_}
-use native.Mathlib.Omega.{arith}
+use mathlib.Core.Path.{ap, _∙_}
 use Rattle.file.specs.Tables.{tablesOf}
 use denote.Ref.{now}
 use Rattle.state.specs.Ops.{fitting}

@@ -1,4 +1,4 @@
-use mathlib.Core.Path.{_≡_, ap, sym, _∙_}
+use mathlib.Core.Path.{ap, _∙_}
 use Rattle.views.specs.Views.{orNone}
 use Rattle.views.proofs.Entries.{none-is, some-is}
 use borrow.Author.Needs.{needs}

@@ -1,8 +1,3 @@
-use mathlib.Core.Path.{_≡_, refl, sym, ap, _∙_}
-use native.Mathlib.Omega.{arith}
-use Prim.Native.Nat.{ℕ}
-use lib.Dec.{ltb}
-use Rattle.rules.specs.Checks.{noneOr, isPredicate}
 use Rattle.lists.proofs.Fits.{no-predicate, some-predicate}
 use borrow.Author.Needs.{needs}
 use Rattle.lists.proofs.predicate_in.Statement.{statement}

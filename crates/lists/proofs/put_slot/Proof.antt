@@ -1,7 +1,6 @@
-use mathlib.Core.Path.{_≡_, refl, sym, ap, ap₂, _∙_}
-use native.Mathlib.Omega.{arith}
+use mathlib.Core.Path.{refl, ap, ap₂}
 use Rattle.rules.specs.Plan as Plan
-use mathlib.Core.List.{List, [], _∷_, _++_}
+use mathlib.Core.List.{_∷_, _++_}
 use Prim.Native.Nat.{ℕ}
 use Rattle.lists.proofs.Forms.{slot-put, two-is}
 use borrow.Author.Needs.{needs}

@@ -1,12 +1,8 @@
-use borrow.Author.Tests.{not-false}
-use mathlib.Core.Path.{_≡_, refl, sym, ap, _∙_}
-use native.Mathlib.Omega.{arith}
+use mathlib.Core.Path.{refl}
 use Rattle.rules.specs.Plan as Plan
-use Rattle.state.specs.State.{stop}
 use Rattle.state.specs.Ops as Ops
-use Rattle.records.proofs.Stores.{next, byte-is, word-is}
-use Rattle.lists.specs.Lists.{stateWith}
-use Rattle.lists.proofs.Appends.{over, not-over, appended, no-room, stops, counted, too-many}
+use Rattle.records.proofs.Stores.{next, byte-is}
+use Rattle.lists.proofs.Appends.{over, not-over, appended, no-room, stops}
 use borrow.Author.Needs.{needs}
 use Rattle.lists.proofs.report.Statement.{statement}
 use Rattle.lists.proofs.report.Tie as tie

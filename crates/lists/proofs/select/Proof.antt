@@ -1,9 +1,9 @@
 use Rattle.lists.proofs.Forms.{select-end}
-use mathlib.Core.Path.{_≡_, refl, sym, ap, _∙_}
+use mathlib.Core.Path.{refl}
 use native.Mathlib.Omega.{arith}
 use Rattle.rules.specs.Plan as Plan
 use Rattle.state.specs.Ops as Ops
-use Rattle.records.proofs.Stores.{next, byte-is, word-is}
+use Rattle.records.proofs.Stores.{next, word-is}
 use Rattle.lists.proofs.Appends.{over, not-over, stops, appended, no-room, counted, too-many}
 use borrow.Author.Needs.{needs}
 use Rattle.lists.proofs.select.Statement.{statement}

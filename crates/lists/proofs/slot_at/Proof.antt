@@ -1,7 +1,6 @@
 use native.Mathlib.Omega.{arith}
-use mathlib.Core.Path.{_≡_, refl, sym, ap, ap₂, _∙_}
+use mathlib.Core.Path.{ap, ap₂, _∙_}
 use Rattle.rules.specs.File.{Slot}
-use Rattle.views.specs.Views.{PathInside}
 use Rattle.views.proofs.Slots.{row-here, key-here, derived-here, field-here, value-here, const-here, field-is}
 use Rattle.lists.proofs.Scans.{there, seen-view}
 use Rattle.lists.proofs.slot_at.Statement.{statement}

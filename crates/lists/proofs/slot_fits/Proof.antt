@@ -1,4 +1,4 @@
-use mathlib.Core.Path.{_≡_, refl}
+use mathlib.Core.Path.{refl}
 use Rattle.rules.specs.Checks.{isType}
 use Rattle.state.specs.Ops.{roomy}
 use Rattle.lists.proofs.Fits.{fits-as, inside-as}

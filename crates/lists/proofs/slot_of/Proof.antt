@@ -1,5 +1,4 @@
-use mathlib.Core.Path.{_≡_, refl, sym, ap, _∙_}
-use native.Mathlib.Omega.{arith}
+use mathlib.Core.Path.{refl}
 use Rattle.lists.proofs.Fits.{plain-slot, field-slot, inside-as, short-as}
 use borrow.Author.Needs.{needs}
 use Rattle.lists.proofs.slot_of.Statement.{statement}

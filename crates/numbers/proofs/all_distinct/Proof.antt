@@ -1,17 +1,11 @@
-use mathlib.Core.Path.{_≡_, refl, sym, ap, ap₂, _∙_}
-use mathlib.Core.Bool.{Bool, true, false}
+use mathlib.Core.Path.{_≡_, refl, sym, _∙_}
 use native.Mathlib.Omega.{arith}
-use Prim.Native.Nat.{ℕ, _+_, _*_, _-_, _≤_, _<_}
-use lib.ListN.{length, getD}
-use lib.Dec.{ltb, eqb}
+use Prim.Native.Nat.{_-_}
 use denote.Ref.{now}
 use borrow.Author.Needs.{needs}
-use borrow.Author.Tests.{lt-ltb, le-ltb, not-true, not-false}
-use Rattle.rules.specs.Base.{both, all, distinct}
-use Rattle.file.specs.Steps.{word}
-use Rattle.file.specs.Tables.{tablesOf}
+use Rattle.rules.specs.Base.{distinct}
 use Rattle.views.specs.Views.{run}
-use Rattle.numbers.specs.Numbers.{Words, numberAt, among}
+use Rattle.numbers.specs.Numbers.{Words, numberAt}
 use Rattle.numbers.proofs.Every.{distinct-none, distinct-more, distinct-stop, words-first, words-next, among-as}
 use Rattle.numbers.proofs.Rising.{run-differs}
 use Rattle.numbers.proofs.all_distinct.Statement.{statement}

@@ -1,12 +1,6 @@
-use mathlib.Core.Path.{_≡_, refl, sym, ap, ap₂, _∙_}
-use mathlib.Core.Bool.{Bool, true, false}
-use native.Mathlib.Omega.{arith}
-use Prim.Native.Nat.{ℕ, _+_, _*_, _-_, _≤_, _<_}
-use lib.ListN.{length, getD}
-use lib.Dec.{ltb, eqb}
-use borrow.Author.Tests.{lt-ltb, le-ltb, not-true, not-false}
-use Rattle.rules.specs.Base.{both, all, distinct}
-use Rattle.file.specs.Tables.{tablesOf}
+use mathlib.Core.Path.{sym, _∙_}
+use Prim.Native.Nat.{_-_}
+use borrow.Author.Tests.{not-true, not-false}
 use Rattle.rules.specs.Checks.{childrenLower}
 use Rattle.numbers.specs.Numbers.{typesLower, nodesLower}
 use Rattle.numbers.proofs.Every.{both-false, both-then}

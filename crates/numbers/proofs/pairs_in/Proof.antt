@@ -1,18 +1,9 @@
 use Rattle.numbers.proofs.Every.{both-false, both-then}
-use mathlib.Core.Path.{_≡_, refl, sym, ap, ap₂, _∙_}
-use mathlib.Core.Bool.{Bool, true, false}
+use mathlib.Core.Path.{sym, _∙_}
 use native.Mathlib.Omega.{arith}
-use Prim.Native.Nat.{ℕ, _+_, _*_, _-_, _≤_, _<_}
-use lib.ListN.{length, getD}
-use lib.Dec.{ltb, eqb}
-use denote.Ref.{now}
-use borrow.Author.Tests.{lt-ltb, le-ltb, not-true, not-false}
-use Rattle.rules.specs.Base.{both, all, distinct}
-use Rattle.file.specs.Steps.{word}
-use Rattle.file.specs.Tables.{tablesOf}
-use Rattle.views.specs.Views.{run}
+use Prim.Native.Nat.{_-_}
+use borrow.Author.Tests.{not-true, not-false}
 use Rattle.numbers.specs.Numbers.{pairsIn}
-use borrow.Author.Needs.{needs}
 use Rattle.numbers.proofs.pairs_in.Statement.{statement}
 use Rattle.numbers.proofs.pairs_in.Tie as tie
 use Rattle.numbers.proofs.pairs_in.Reads as reads

@@ -1,16 +1,9 @@
 use denote.Ref.{now}
-use mathlib.Core.Path.{_≡_, refl, sym, ap, ap₂, _∙_}
-use mathlib.Core.Bool.{Bool, true, false}
-use native.Mathlib.Omega.{arith}
-use Prim.Native.Nat.{ℕ, _+_, _*_, _-_, _≤_, _<_}
-use lib.ListN.{length, getD}
-use lib.Dec.{ltb, eqb}
-use borrow.Author.Tests.{lt-ltb, le-ltb, not-true, not-false}
-use Rattle.rules.specs.Base.{both, all, distinct}
+use mathlib.Core.Path.{_∙_}
+use Prim.Native.Nat.{_-_}
 use Rattle.file.specs.Tables.{tablesOf}
 use Rattle.numbers.specs.Numbers.{recordIn}
 use Rattle.numbers.proofs.Seen.{record-is, size-is, record-rest}
-use borrow.Author.Needs.{needs}
 use Rattle.numbers.proofs.record_in.Statement.{statement}
 use Rattle.numbers.proofs.record_in.Tie as tie
 use Rattle.numbers.proofs.record_in.Reads as reads

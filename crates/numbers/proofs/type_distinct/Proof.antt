@@ -1,12 +1,8 @@
-use mathlib.Core.Path.{_≡_, refl, sym, ap, ap₂, _∙_}
-use mathlib.Core.Bool.{Bool, true, false}
+use mathlib.Core.Path.{sym, ap, _∙_}
 use native.Mathlib.Omega.{arith}
-use Prim.Native.Nat.{ℕ, _+_, _*_, _-_, _≤_, _<_}
-use lib.ListN.{length, getD}
-use lib.Dec.{ltb, eqb}
-use borrow.Author.Tests.{lt-ltb, le-ltb, not-true, not-false}
-use Rattle.rules.specs.Base.{both, all, distinct}
-use Rattle.file.specs.Tables.{tablesOf}
+use Prim.Native.Nat.{_-_}
+use borrow.Author.Tests.{not-true, not-false}
+use Rattle.rules.specs.Base.{distinct}
 use Rattle.rules.specs.Checks.{typeDistinct}
 use Rattle.numbers.proofs.Every.{both-false, both-then}
 use Rattle.numbers.proofs.Seen.{by-type, type-as, words-8, words-4-first, words-8-first, record-names, union-names, union-discs}

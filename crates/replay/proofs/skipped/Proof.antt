@@ -1,5 +1,4 @@
 use Rattle.replay.proofs.Pairing.{skipped-empty, skipped-first}
-use mathlib.Core.Path.{refl, sym}
 use borrow.Author.Needs.{needs}
 use Rattle.replay.proofs.skipped.Statement.{statement}
 use Rattle.replay.proofs.skipped.Tie as tie

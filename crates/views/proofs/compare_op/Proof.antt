@@ -1,11 +1,5 @@
-use mathlib.Core.Path.{_≡_, refl, sym, ap, _∙_}
+use mathlib.Core.Path.{_≡_, sym, ap}
 use native.Mathlib.Omega.{arith}
-use Prim.Native.Nat.{_+_, _*_, _≤_, _<_}
-use lib.ListN.{length, getD}
-use denote.Ref.{now}
-use borrow.Author.Needs.{needs}
-use Rattle.file.specs.Tables.{tablesOf}
-use Rattle.file.specs.Steps.{word}
 use Rattle.views.specs.Views.{opKind}
 use Rattle.views.proofs.compare_op.Statement.{statement}
 use Rattle.views.proofs.compare_op.Tie as tie

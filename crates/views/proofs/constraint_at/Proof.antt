@@ -1,12 +1,5 @@
-use mathlib.Core.Path.{_≡_, refl, sym, ap, _∙_}
 use native.Mathlib.Omega.{arith}
-use Prim.Native.Nat.{_+_, _*_, _≤_, _<_}
-use lib.ListN.{length, getD}
-use denote.Ref.{now}
-use Rattle.file.specs.Tables.{tablesOf}
-use Rattle.file.specs.Steps.{word}
 use Rattle.views.proofs.Entries.{constraint-here}
-use borrow.Author.Needs.{needs}
 use Rattle.views.proofs.constraint_at.Statement.{statement}
 use Rattle.views.proofs.constraint_at.Tie as tie
 use Rattle.views.proofs.constraint_at.Reads as reads

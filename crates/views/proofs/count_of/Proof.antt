@@ -1,10 +1,7 @@
-use mathlib.Core.Path.{_≡_, refl, sym, ap, _∙_}
+use mathlib.Core.Path.{ap, _∙_}
 use native.Mathlib.Omega.{arith}
-use Prim.Native.Nat.{_+_, _*_, _≤_, _<_}
-use lib.ListN.{length, getD}
+use lib.ListN.{getD}
 use denote.Ref.{now}
-use Rattle.file.specs.Tables.{tablesOf}
-use Rattle.file.specs.Steps.{word}
 use Rattle.file.proofs.Sections.{roomy}
 use Rattle.views.proofs.Entries.{size-found}
 use borrow.Author.Needs.{needs}

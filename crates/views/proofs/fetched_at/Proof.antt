@@ -1,11 +1,8 @@
-use mathlib.Core.Path.{_≡_, refl, sym, ap, _∙_}
+use mathlib.Core.Path.{ap, _∙_}
 use native.Mathlib.Omega.{arith}
-use Prim.Native.Nat.{ℕ, _+_, _*_, _≤_, _<_}
-use lib.ListN.{length, getD}
 use denote.Ref.{now}
 use Rattle.file.specs.Steps.{word}
 use Rattle.views.proofs.Slots.{fetched-here, seen-fetched}
-use borrow.Author.Needs.{needs}
 use Rattle.views.proofs.fetched_at.Statement.{statement}
 use Rattle.views.proofs.fetched_at.Tie as tie
 use Rattle.views.proofs.fetched_at.Reads as reads

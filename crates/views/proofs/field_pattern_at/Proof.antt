@@ -1,10 +1,4 @@
-use mathlib.Core.Path.{_≡_, refl, sym, ap, _∙_}
-use native.Mathlib.Omega.{arith}
-use Prim.Native.Nat.{_+_, _*_, _≤_, _<_}
-use lib.ListN.{length, getD}
-use denote.Ref.{now}
-use Rattle.file.specs.Tables.{tablesOf}
-use Rattle.file.specs.Steps.{word}
+use mathlib.Core.Path.{refl}
 use Rattle.views.specs.Views.{patternAt}
 use borrow.Author.Needs.{needs}
 use Rattle.views.proofs.field_pattern_at.Statement.{statement}

@@ -1,11 +1,5 @@
-use mathlib.Core.Path.{_≡_, refl, sym, ap, _∙_}
+use mathlib.Core.Path.{refl}
 use native.Mathlib.Omega.{arith}
-use Prim.Native.Nat.{_+_, _*_, _≤_, _<_}
-use lib.ListN.{length, getD}
-use denote.Ref.{now}
-use Rattle.file.specs.Tables.{tablesOf}
-use Rattle.file.specs.Steps.{baseOf, word}
-use Rattle.rules.specs.File.{nameAt}
 use Rattle.views.proofs.Entries.{name-seen}
 use borrow.Author.Needs.{needs}
 use Rattle.views.proofs.name_at.Statement.{statement}

@@ -1,10 +1,6 @@
 use Rattle.views.proofs.Arms.{last-arm}
-use mathlib.Core.Path.{_≡_, refl, sym, ap, _∙_}
+use mathlib.Core.Path.{refl}
 use native.Mathlib.Omega.{arith}
-use Prim.Native.Nat.{ℕ, _+_, _*_, _≤_, _<_}
-use lib.ListN.{length, getD}
-use denote.Ref.{now}
-use Rattle.file.specs.Steps.{word}
 use Rattle.rules.specs.File.{Node}
 use Rattle.views.proofs.Nodes.{node-here, seen-none, one-room, seen-one, two-room, seen-two, seen-int, bytes-here, patterns-here, seen-bytes, seen-record, fuzzy-here, seen-fuzzy}
 use borrow.Author.Needs.{needs}

@@ -1,10 +1,9 @@
-use mathlib.Core.Path.{_≡_, refl, sym, ap, _∙_}
+use mathlib.Core.Path.{_≡_, ap, _∙_}
 use native.Mathlib.Omega.{arith}
-use Prim.Native.Nat.{_+_, _*_, _≤_, _<_, ℕ}
-use lib.ListN.{length, getD}
+use Prim.Native.Nat.{_+_, ℕ}
+use lib.ListN.{getD}
 use denote.Ref.{now}
-use Rattle.file.specs.Tables.{tablesOf}
-use Rattle.file.specs.Steps.{word, baseOf}
+use Rattle.file.specs.Steps.{baseOf}
 use Rattle.views.proofs.Entries.{predicate-here}
 use borrow.Author.Needs.{needs}
 use Rattle.views.proofs.predicate_at.Statement.{statement}

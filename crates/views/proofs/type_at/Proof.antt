@@ -1,9 +1,4 @@
-use mathlib.Core.Path.{_≡_, refl, sym, ap, _∙_}
 use native.Mathlib.Omega.{arith}
-use Prim.Native.Nat.{ℕ, _+_, _*_, _≤_, _<_}
-use lib.ListN.{length, getD}
-use denote.Ref.{now}
-use Rattle.file.specs.Steps.{word}
 use Rattle.views.proofs.Entries.{type-here, seen-int, seen-str, seen-bytes, seen-fact, seen-record, seen-union, fact-room, fields-here, alternatives-here}
 use borrow.Author.Needs.{needs}
 use Rattle.views.proofs.type_at.Statement.{statement}

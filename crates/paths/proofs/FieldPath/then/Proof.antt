@@ -1,7 +1,7 @@
 use Rattle.rules.specs.File as File
 use Rattle.paths.specs.Paths.{pathOf}
 use mathlib.Core.List.{List}
-use mathlib.Core.Path.{refl, ap}
+use mathlib.Core.Path.{ap}
 use Prim.Native.Nat.{ℕ}
 use Rattle.paths.proofs.Laws.{then-steps, then-count}
 use borrow.Author.Needs.{needs}
