@@ -13,151 +13,114 @@ use Rattle.constrain.proofs.ranged.Reads as ranged-reads
 use Rattle.entries.proofs.node_of.Reads as node-of-reads
 use Rattle.step.proofs.Walk.skip.Reads as skip-reads
 
--- src/lib.rt:337:9
 done-requires : tie.Need-done-requires
 done-requires c κs = search needs
 
--- src/lib.rt:337:9
 returns : tie.Need-returns
 returns c = over-done _ _ _ _ _ _ _ _ _ (c .before .if1 .taken) (c .done .ensures)
 
--- src/lib.rt:339:11
 node-of-requires : tie.Need-node-of-requires
 node-of-requires c κs = search needs
 
--- src/lib.rt:340:23
 enum-known-x : tie.Need-enum-known-x
 enum-known-x c = search needs
 
--- src/lib.rt:340:29
 begin-variable-requires : tie.Need-begin-variable-requires
 begin-variable-requires c κs = (c .before .before .before .before .before .before .before .before .before .before .before .before .pre .0, (c .before .before .before .before .before .before .before .before .before .before .before .before .pre .1 .known, var-node _ _ _ _ (c .before .before .before .before .before .node-of .ensures) _ (c .before .before .before .x .given .1)))
 
--- src/lib.rt:341:36
 enum-told : tie.Need-enum-told
 enum-told c = search needs
 
--- src/lib.rt:341:36
 skip-requires : tie.Need-skip-requires
 skip-requires c κs = search needs
 
--- src/lib.rt:341:31
 done-requires-2 : tie.Need-done-requires-2
 done-requires-2 c κs = search needs
 
--- src/lib.rt:342:42
 enum-told-2 : tie.Need-enum-told-2
 enum-told-2 c = search needs
 
--- src/lib.rt:342:33
 diagnose-requires : tie.Need-diagnose-requires
 diagnose-requires c κs = search needs
 
--- src/lib.rt:342:28
 done-requires-3 : tie.Need-done-requires-3
 done-requires-3 c κs = search needs
 
--- src/lib.rt:343:57
 enum-told-3 : tie.Need-enum-told-3
 enum-told-3 c = search needs
 
--- src/lib.rt:343:37
 ranged-requires : tie.Need-ranged-requires
 ranged-requires c κs = search needs
 
--- src/lib.rt:343:32
 done-requires-4 : tie.Need-done-requires-4
 done-requires-4 c κs = search needs
 
--- src/lib.rt:344:62
 enum-told-4 : tie.Need-enum-told-4
 enum-told-4 c = search needs
 
--- src/lib.rt:344:42
 ranged-requires-2 : tie.Need-ranged-requires-2
 ranged-requires-2 c κs = search needs
 
--- src/lib.rt:344:37
 done-requires-5 : tie.Need-done-requires-5
 done-requires-5 c κs = search needs
 
--- src/lib.rt:345:48
 enum-told-5 : tie.Need-enum-told-5
 enum-told-5 c = search needs
 
--- src/lib.rt:345:39
 diagnose-requires-2 : tie.Need-diagnose-requires-2
 diagnose-requires-2 c κs = search needs
 
--- src/lib.rt:345:34
 done-requires-6 : tie.Need-done-requires-6
 done-requires-6 c κs = search needs
 
--- src/lib.rt:346:14
 begin-place-requires : tie.Need-begin-place-requires
 begin-place-requires c κs = search needs
 
--- src/lib.rt:320:1
 same-length : tie.Need-same-length
 same-length c = search needs
 
--- src/lib.rt:320:1
 same-length-2 : tie.Need-same-length-2
 same-length-2 c = search needs
 
--- src/lib.rt:320:1
 returns-2 : tie.Need-returns-2
 returns-2 c = as-var _ _ _ _ _ _ _ _ (c .before .before .before .before .before .before .before .before .before .before .node-of .ensures) _ (c .before .before .before .before .before .before .before .before .x .given .1) _ _ (c .before .before .before .before .begin-variable .ensures)
 
--- src/lib.rt:320:1
 returns-3 : tie.Need-returns-3
 returns-3 c = begins-done _ _ _ _ _ _ _ _ _ _ (c .done2 .ensures) (as-wildcard _ _ _ _ _ _ _ _ (c .before .before .before .before .node-of .ensures) (c .before .before .enum-told .given .1) _ (c .before .skip .ensures _ _ _))
 
--- src/lib.rt:320:1
 same-length-3 : tie.Need-same-length-3
 same-length-3 c = search needs
 
--- src/lib.rt:320:1
 returns-4 : tie.Need-returns-4
 returns-4 c = begins-done _ _ _ _ _ _ _ _ _ _ (c .done3 .ensures) (as-never _ _ _ _ _ _ _ _ (c .before .before .before .before .before .before .before .node-of .ensures) (c .before .before .before .before .before .enum-told2 .given .1) _ (c .before .before .before .diagnose .ensures _ _))
 
--- src/lib.rt:320:1
 same-length-4 : tie.Need-same-length-4
 same-length-4 c = search needs
 
--- src/lib.rt:320:1
 same-length-5 : tie.Need-same-length-5
 same-length-5 c = search needs
 
--- src/lib.rt:320:1
 returns-5 : tie.Need-returns-5
 returns-5 c = begins-done _ _ _ _ _ _ _ _ _ _ (c .done4 .ensures) (as-prefix _ _ _ _ _ _ _ _ (c .before .before .before .before .before .before .before .before .before .before .node-of .ensures) _ (c .before .before .before .before .before .ranged .ensures) _ (c .before .before .before .before .before .before .before .before .enum-told3 .given .1))
 
--- src/lib.rt:320:1
 same-length-6 : tie.Need-same-length-6
 same-length-6 c = search needs
 
--- src/lib.rt:320:1
 same-length-7 : tie.Need-same-length-7
 same-length-7 c = search needs
 
--- src/lib.rt:320:1
 returns-6 : tie.Need-returns-6
 returns-6 c = begins-done _ _ _ _ _ _ _ _ _ _ (c .done5 .ensures) (as-fuzzy _ _ _ _ _ _ _ _ (c .before .before .before .before .before .before .before .before .before .before .node-of .ensures) _ (c .before .before .before .before .before .ranged2 .ensures) _ _ _ (c .before .before .before .before .before .before .before .before .enum-told4 .given .1))
 
--- src/lib.rt:320:1
 same-length-8 : tie.Need-same-length-8
 same-length-8 c = search needs
 
--- src/lib.rt:320:1
 returns-7 : tie.Need-returns-7
 returns-7 c = begins-done _ _ _ _ _ _ _ _ _ _ (c .done6 .ensures) (as-disjunction _ _ _ _ _ _ _ _ (c .before .before .before .before .before .before .before .node-of .ensures) (c .before .before .before .before .before .enum-told5 .given .1) _ (c .before .before .before .diagnose2 .ensures _ _))
 
--- src/lib.rt:320:1
 same-length-9 : tie.Need-same-length-9
 same-length-9 c = search needs
 
--- src/lib.rt:320:1
 returns-8 : tie.Need-returns-8
 returns-8 c = as-place _ _ _ _ _ _ _ _ (c .before .before .before .before .before .node-of .ensures) (c .before .before .before .before .match .keys7) _ _ (c .before .before .begin-place .ensures _ _ _)
 

@@ -8,27 +8,21 @@ use Rattle.begin.proofs.begin_read.Reads as begin-read-reads
 use Rattle.begin.proofs.is_injection.Reads as is-injection-reads
 use Rattle.slots.proofs.Slot.plain.Reads as plain-reads
 
--- src/lib.rt:308:8
 is-injection-requires : tie.Need-is-injection-requires
 is-injection-requires c κs = search needs
 
--- src/lib.rt:309:13
 plain-requires : tie.Need-plain-requires
 plain-requires c κs = search needs
 
--- src/lib.rt:310:9
 returns : tie.Need-returns
 returns c = λ a path plan. place-injection _ a _ _ path _ _ (c .before .before .is-injection .ensures) (c .before .if1 .taken) _ _
 
--- src/lib.rt:316:5
 begin-read-requires : tie.Need-begin-read-requires
 begin-read-requires c κs = search needs
 
--- src/lib.rt:296:1
 same-length : tie.Need-same-length
 same-length c = search needs
 
--- src/lib.rt:296:1
 returns-2 : tie.Need-returns-2
 returns-2 c = λ a path plan. place-read _ a _ _ path _ _ (c .before .before .before .before .before .is-injection .ensures) (c .before .before .before .before .if1 .left) _ _ (c .before .before .begin-read .ensures a _ path plan)
 

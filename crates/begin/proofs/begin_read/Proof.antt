@@ -8,31 +8,24 @@ use Rattle.begin.proofs.begin_pieces.Reads as begin-pieces-reads
 use Rattle.resolve.proofs.resolve.Reads as resolve-reads
 use Rattle.step.proofs.Walk.listed.Reads as listed-reads
 
--- src/lib.rt:232:9
 resolve-requires : tie.Need-resolve-requires
 resolve-requires c κs = search needs
 
--- src/lib.rt:235:9
 listed-requires : tie.Need-listed-requires
 listed-requires c κs = search needs
 
--- src/lib.rt:238:9
 same-length : tie.Need-same-length
 same-length c = search needs
 
--- src/lib.rt:238:9
 returns : tie.Need-returns
 returns c = λ a ty path plan. read-some _ a _ ty path _ _ _ _ _ plan (c .before .before .before .before .before .before .before .resolve .ensures) (c .before .before .listed .ensures _ _ plan) (c .before .if1 .taken)
 
--- src/lib.rt:244:5
 begin-pieces-requires : tie.Need-begin-pieces-requires
 begin-pieces-requires c κs = search needs
 
--- src/lib.rt:227:1
 same-length-2 : tie.Need-same-length-2
 same-length-2 c = search needs
 
--- src/lib.rt:227:1
 returns-2 : tie.Need-returns-2
 returns-2 c = λ a ty path plan. read-none _ a _ ty path _ _ _ _ _ plan (c .before .before .before .before .before .before .before .before .before .before .resolve .ensures) (c .before .before .before .before .before .listed .ensures _ _ plan) (c .before .before .before .before .if1 .left) _ _ (c .before .before .begin-pieces .ensures a ty path plan _ (diagnostics-at _ _ _ plan))
 

@@ -11,43 +11,33 @@ use Rattle.lists.proofs.lookup.Reads as lookup-reads
 use Rattle.slots.proofs.Slot.field.Reads as field-reads
 use Rattle.step.proofs.Walk.bind.Reads as bind-reads
 
--- src/lib.rt:265:9
 lookup-requires : tie.Need-lookup-requires
 lookup-requires c κs = search needs
 
--- src/lib.rt:268:9
 same-length : tie.Need-same-length
 same-length c = search needs
 
--- src/lib.rt:268:9
 returns : tie.Need-returns
 returns c = variable-bound _ _ _ _ _ _ _ (c .before .before .lookup .result) (looked-up _ _ (c .before .before .lookup .result) _ _ _ (c .before .before .lookup .ensures)) (c .before .before .before .before .before .before .before .before .pre .1 .1) (c .before .if1 .taken) _
 
--- src/lib.rt:274:9
 field-requires : tie.Need-field-requires
 field-requires c κs = search needs
 
--- src/lib.rt:275:9
 bind-requires : tie.Need-bind-requires
 bind-requires c κs = search needs
 
--- src/lib.rt:276:10
 constrain-requires : tie.Need-constrain-requires
 constrain-requires c κs = (c .before .before .before .before .before .before .before .before .before .before .before .before .before .before .pre .0, c .before .before .before .before .before .before .before .before .before .before .before .before .before .before .pre .1 .0)
 
--- src/lib.rt:276:5
 done-requires : tie.Need-done-requires
 done-requires c κs = search needs
 
--- src/lib.rt:248:1
 same-length-2 : tie.Need-same-length-2
 same-length-2 c = search needs
 
--- src/lib.rt:248:1
 same-length-3 : tie.Need-same-length-3
 same-length-3 c = search needs
 
--- src/lib.rt:248:1
 returns-2 : tie.Need-returns-2
 returns-2 c = begins-done _ _ _ _ _ _ _ _ _ _ (c .done .ensures) (variable-new _ _ _ _ _ _ _ (c .before .before .before .before .before .before .before .before .before .before .before .before .before .before .lookup .result) (looked-up _ _ (c .before .before .before .before .before .before .before .before .before .before .before .before .before .before .lookup .result) _ _ _ (c .before .before .before .before .before .before .before .before .before .before .before .before .before .before .lookup .ensures)) (c .before .before .before .before .before .before .before .before .before .before .before .before .before .if1 .left) _ _ _ (c .before .before .before .before .before .before .before .before .before .before .before .before .field .ensures) (c .before .before .before .before .before .before .before .before .before .before .bind .ensures _ _) (c .before .before .before .before .before .constrain .ensures))
 

@@ -8,35 +8,27 @@ use Rattle.begin.proofs.choose_alternative.Reads as choose-alternative-
 use Rattle.begin.proofs.unchosen.Reads as unchosen-reads
 use Rattle.constrain.proofs.narrow.Reads as narrow-reads
 
--- src/lib.rt:484:9
 narrow-requires : tie.Need-narrow-requires
 narrow-requires c κs = search needs
 
--- src/lib.rt:487:9
 unchosen-requires : tie.Need-unchosen-requires
 unchosen-requires c κs = search needs
 
--- src/lib.rt:487:9
 same-length : tie.Need-same-length
 same-length c = search needs
 
--- src/lib.rt:487:9
 returns : tie.Need-returns
 returns c = λ a. chooses-done _ a _ _ _ _ _ _ _ (c .unchosen .ensures) (whole-constant _ a _ _ _ _ _ _ (c .before .before .before .before .before .narrow .ensures _) (c .before .if1 .taken))
 
--- src/lib.rt:489:5
 choose-alternative-requires : tie.Need-choose-alternative-requires
 choose-alternative-requires c κs = search needs
 
--- src/lib.rt:470:1
 same-length-2 : tie.Need-same-length-2
 same-length-2 c = search needs
 
--- src/lib.rt:470:1
 same-length-3 : tie.Need-same-length-3
 same-length-3 c = search needs
 
--- src/lib.rt:470:1
 returns-2 : tie.Need-returns-2
 returns-2 c = λ a. whole-other _ a _ _ _ _ _ _ (c .before .before .before .before .before .before .before .before .narrow .ensures _) (c .before .before .before .before .if1 .left) _ _ (c .before .before .choose-alternative .ensures a _ _)
 

@@ -14,95 +14,72 @@ use Rattle.tables.proofs.alternative_of.Reads as alternative-of-reads
 use Rattle.tables.proofs.union_ty.Reads as union-ty-reads
 use Rattle.views.proofs.field_pattern_at.Reads as field-pattern-at-reads
 
--- src/lib.rt:494:26
 pairs-of-requires : tie.Need-pairs-of-requires
 pairs-of-requires c κs = search needs
 
--- src/lib.rt:494:17
 enum-known-k : tie.Need-enum-known-k
 enum-known-k c = search needs
 
--- src/lib.rt:495:9
 enum-told : tie.Need-enum-told
 enum-told c = search needs
 
--- src/lib.rt:495:9
 unchosen-requires : tie.Need-unchosen-requires
 unchosen-requires c κs = search needs
 
--- src/lib.rt:495:9
 returns : tie.Need-returns
 returns c = λ a path plan. chooses-done _ a _ path _ _ _ _ plan (c .unchosen .ensures) (no-record _ a _ path _ _ _ _ (c .before .before .before .pairs-of .ensures) (c .before .enum-told .given .1))
 
--- src/lib.rt:497:28
 union-ty-requires : tie.Need-union-ty-requires
 union-ty-requires c κs = search needs
 
--- src/lib.rt:497:17
 enum-known-m : tie.Need-enum-known-m
 enum-known-m c = search needs
 
--- src/lib.rt:498:9
 enum-told-2 : tie.Need-enum-told-2
 enum-told-2 c = search needs
 
--- src/lib.rt:498:9
 unchosen-requires-2 : tie.Need-unchosen-requires-2
 unchosen-requires-2 c κs = search needs
 
--- src/lib.rt:498:9
 returns-2 : tie.Need-returns-2
 returns-2 c = λ a path plan. chooses-done _ a _ path _ _ _ _ plan (c .unchosen2 .ensures) (no-union _ a _ path _ _ _ _ (c .before .before .before .before .before .before .before .pairs-of .ensures) _ (c .before .before .before .union-ty .ensures) (c .before .enum-told2 .given .1))
 
--- src/lib.rt:501:25
 diagnose-requires : tie.Need-diagnose-requires
 diagnose-requires c κs = search needs
 
--- src/lib.rt:501:9
 unchosen-requires-3 : tie.Need-unchosen-requires-3
 unchosen-requires-3 c κs = search needs
 
--- src/lib.rt:501:9
 same-length : tie.Need-same-length
 same-length c = search needs
 
--- src/lib.rt:501:9
 returns-3 : tie.Need-returns-3
 returns-3 c = λ a path plan. chooses-done _ a _ path _ _ _ _ plan (c .unchosen3 .ensures) (arity _ a _ path _ _ _ _ (c .before .before .before .before .before .before .before .before .before .before .before .before .before .pairs-of .ensures) _ (c .before .before .before .before .before .before .before .before .before .union-ty .ensures) _ _ _ _ (c .before .before .before .before .before .before .before .before .before .before .before .k .given .1) (c .before .before .before .before .before .before .before .m .given .1) (c .before .before .before .before .before .if1 .taken) _ (c .before .before .before .diagnose .ensures _ plan))
 
--- src/lib.rt:503:9
 field-pattern-at-requires : tie.Need-field-pattern-at-requires
 field-pattern-at-requires c κs = omega (arith, run-inside _ _ _ _ _ (c .before .before .before .before .before .before .before .before .pairs-of .ensures) _ _ (c .before .before .before .before .before .before .k .given .1), c .if1 .left)
 
--- src/lib.rt:504:37
 alternative-of-requires : tie.Need-alternative-of-requires
 alternative-of-requires c κs = run-inside _ _ _ _ _ (c .before .before .before .before .before .union-ty .ensures) _ _ (c .before .before .before .m .given .1)
 
--- src/lib.rt:504:32
 enum-known-a : tie.Need-enum-known-a
 enum-known-a c = search needs
 
--- src/lib.rt:505:34
 enum-told-3 : tie.Need-enum-told-3
 enum-told-3 c = search needs
 
--- src/lib.rt:505:25
 diagnose-requires-2 : tie.Need-diagnose-requires-2
 diagnose-requires-2 c κs = search needs
 
--- src/lib.rt:505:9
 unchosen-requires-4 : tie.Need-unchosen-requires-4
 unchosen-requires-4 c κs = search needs
 
--- src/lib.rt:505:9
 same-length-2 : tie.Need-same-length-2
 same-length-2 c = search needs
 
--- src/lib.rt:505:9
 returns-4 : tie.Need-returns-4
 returns-4 c = λ a path plan. chooses-done _ a _ path _ _ _ _ plan (c .unchosen4 .ensures) (unknown _ a _ path _ _ _ _ (c .before .before .before .before .before .before .before .before .before .before .before .before .before .before .before .before .before .pairs-of .ensures) _ (c .before .before .before .before .before .before .before .before .before .before .before .before .before .union-ty .ensures) _ _ _ _ (c .before .before .before .before .before .before .before .before .before .before .before .before .before .before .before .k .given .1) (c .before .before .before .before .before .before .before .before .before .before .before .m .given .1) (c .before .before .before .before .before .before .before .before .before .if1 .left) _ (c .before .before .before .before .before .before .before .before .field-pattern-at .ensures) _ (c .before .before .before .before .before .before .before .alternative-of .ensures) (c .before .before .before .before .before .enum-told3 .given .1) _ (c .before .before .before .diagnose2 .ensures _ plan))
 
--- src/lib.rt:482:1
 returns-5 : tie.Need-returns-5
 returns-5 c = λ a path plan. known _ a _ path _ _ _ _ (c .before .before .before .before .before .before .before .before .before .before .before .before .before .pairs-of .ensures) _ (c .before .before .before .before .before .before .before .before .before .union-ty .ensures) _ _ _ _ (c .before .before .before .before .before .before .before .before .before .before .before .k .given .1) (c .before .before .before .before .before .before .before .m .given .1) (c .before .before .before .before .before .if1 .left) _ (c .before .before .before .before .field-pattern-at .ensures) _ (c .before .before .before .alternative-of .ensures) (sound-tables _ _ (c .before .before .before .before .before .before .before .before .before .before .before .before .before .before .before .before .before .pre .0)) (c .before .before .before .before .before .before .before .before .before .before .before .before .before .before .before .before .before .pre .1) _ (c .before .a .given .1) _
 

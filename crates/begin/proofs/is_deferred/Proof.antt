@@ -6,43 +6,33 @@ use Rattle.begin.proofs.is_deferred.Reads as reads
 use Rattle.begin.proofs.is_deferred.Lts as lts
 use Rattle.entries.proofs.node_of.Reads as node-of-reads
 
--- src/lib.rt:163:11
 node-of-requires : tie.Need-node-of-requires
 node-of-requires c κs = search needs
 
--- src/lib.rt:164:28
 enum-told : tie.Need-enum-told
 enum-told c = search needs
 
--- src/lib.rt:165:34
 enum-told-2 : tie.Need-enum-told-2
 enum-told-2 c = search needs
 
--- src/lib.rt:166:31
 enum-told-3 : tie.Need-enum-told-3
 enum-told-3 c = search needs
 
--- src/lib.rt:167:28
 enum-told-4 : tie.Need-enum-told-4
 enum-told-4 c = search needs
 
--- src/lib.rt:159:1
 returns : tie.Need-returns
 returns c = never-deferred _ _ _ (c .before .before .node-of .ensures) (c .enum-told .given .1)
 
--- src/lib.rt:159:1
 returns-2 : tie.Need-returns-2
 returns-2 c = disjunction-deferred _ _ _ (c .before .before .node-of .ensures) (c .enum-told2 .given .1)
 
--- src/lib.rt:159:1
 returns-3 : tie.Need-returns-3
 returns-3 c = subquery-deferred _ _ _ (c .before .before .node-of .ensures) (c .enum-told3 .given .1)
 
--- src/lib.rt:159:1
 returns-4 : tie.Need-returns-4
 returns-4 c = error-deferred _ _ _ (c .before .before .node-of .ensures) (c .enum-told4 .given .1)
 
--- src/lib.rt:159:1
 returns-5 : tie.Need-returns-5
 returns-5 c = other-not _ _ _ (c .before .node-of .ensures) (c .match .keys5)
 

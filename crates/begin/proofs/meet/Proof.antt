@@ -10,127 +10,96 @@ use Rattle.begin.proofs.meet_field.Reads as meet-field-reads
 use Rattle.begin.proofs.meet_row.Reads as meet-row-reads
 use Rattle.begin.proofs.unopened.Reads as unopened-reads
 
--- src/lib.rt:441:23
 enum-known-kind : tie.Need-enum-known-kind
 enum-known-kind c = search needs
 
--- src/lib.rt:441:41
 meet-row-requires : tie.Need-meet-row-requires
 meet-row-requires c κs = search needs
 
--- src/lib.rt:441:32
 unopened-requires : tie.Need-unopened-requires
 unopened-requires c κs = search needs
 
--- src/lib.rt:442:50
 enum-told : tie.Need-enum-told
 enum-told c = search needs
 
--- src/lib.rt:442:41
 diagnose-requires : tie.Need-diagnose-requires
 diagnose-requires c κs = search needs
 
--- src/lib.rt:442:32
 unopened-requires-2 : tie.Need-unopened-requires-2
 unopened-requires-2 c κs = search needs
 
--- src/lib.rt:443:51
 enum-told-2 : tie.Need-enum-told-2
 enum-told-2 c = search needs
 
--- src/lib.rt:443:42
 diagnose-requires-2 : tie.Need-diagnose-requires-2
 diagnose-requires-2 c κs = search needs
 
--- src/lib.rt:443:33
 unopened-requires-3 : tie.Need-unopened-requires-3
 unopened-requires-3 c κs = search needs
 
--- src/lib.rt:444:25
 enum-known-kind-2 : tie.Need-enum-known-kind-2
 enum-known-kind-2 c = search needs
 
--- src/lib.rt:444:43
 meet-field-requires : tie.Need-meet-field-requires
 meet-field-requires c κs = search needs
 
--- src/lib.rt:444:34
 unopened-requires-4 : tie.Need-unopened-requires-4
 unopened-requires-4 c κs = search needs
 
--- src/lib.rt:445:52
 enum-told-3 : tie.Need-enum-told-3
 enum-told-3 c = search needs
 
--- src/lib.rt:445:43
 diagnose-requires-3 : tie.Need-diagnose-requires-3
 diagnose-requires-3 c κs = search needs
 
--- src/lib.rt:445:34
 unopened-requires-5 : tie.Need-unopened-requires-5
 unopened-requires-5 c κs = search needs
 
--- src/lib.rt:446:25
 enum-known-kind-3 : tie.Need-enum-known-kind-3
 enum-known-kind-3 c = search needs
 
--- src/lib.rt:446:31
 meet-const-requires : tie.Need-meet-const-requires
 meet-const-requires c κs = search needs
 
--- src/lib.rt:422:1
 same-length : tie.Need-same-length
 same-length c = search needs
 
--- src/lib.rt:422:1
 same-length-2 : tie.Need-same-length-2
 same-length-2 c = search needs
 
--- src/lib.rt:422:1
 returns : tie.Need-returns
 returns c = meets-done _ _ _ _ _ _ _ _ _ (c .unopened .ensures) (of-row _ _ _ _ _ (c .before .before .before .before .before .before .before .before .before .before .before .before .before .before .before .before .args .slot) _ _ _ (c .before .before .before .before .before .before .before .before .before .kind .given .1) _ (c .before .before .before .before .before .meet-row .ensures))
 
--- src/lib.rt:422:1
 same-length-3 : tie.Need-same-length-3
 same-length-3 c = search needs
 
--- src/lib.rt:422:1
 returns-2 : tie.Need-returns-2
 returns-2 c = meets-done _ _ _ _ _ _ _ _ _ (c .unopened2 .ensures) (of-key _ _ _ _ _ (c .before .before .before .before .before .before .before .before .before .before .before .before .args .slot) _ _ _ (c .before .before .before .before .before .enum-told .given .1) _ (c .before .before .before .diagnose .ensures _ _))
 
--- src/lib.rt:422:1
 same-length-4 : tie.Need-same-length-4
 same-length-4 c = search needs
 
--- src/lib.rt:422:1
 returns-3 : tie.Need-returns-3
 returns-3 c = meets-done _ _ _ _ _ _ _ _ _ (c .unopened3 .ensures) (of-derived _ _ _ _ _ (c .before .before .before .before .before .before .before .before .before .before .before .before .args .slot) _ _ (c .before .before .before .before .before .enum-told2 .given .1) _ (c .before .before .before .diagnose2 .ensures _ _))
 
--- src/lib.rt:422:1
 same-length-5 : tie.Need-same-length-5
 same-length-5 c = search needs
 
--- src/lib.rt:422:1
 same-length-6 : tie.Need-same-length-6
 same-length-6 c = search needs
 
--- src/lib.rt:422:1
 returns-4 : tie.Need-returns-4
 returns-4 c = meets-done _ _ _ _ _ _ _ _ _ (c .unopened4 .ensures) (of-field _ _ _ _ _ (c .before .before .before .before .before .before .before .before .before .before .before .before .before .before .before .before .args .slot) _ _ _ (c .before .before .before .before .before .before .before .before .before .kind2 .given .1) _ (c .before .before .before .before .before .meet-field .ensures _))
 
--- src/lib.rt:422:1
 same-length-7 : tie.Need-same-length-7
 same-length-7 c = search needs
 
--- src/lib.rt:422:1
 returns-5 : tie.Need-returns-5
 returns-5 c = meets-done _ _ _ _ _ _ _ _ _ (c .unopened5 .ensures) (of-value _ _ _ _ _ (c .before .before .before .before .before .before .before .before .before .before .before .before .args .slot) _ _ _ (c .before .before .before .before .before .enum-told3 .given .1) _ (c .before .before .before .diagnose3 .ensures _ _))
 
--- src/lib.rt:422:1
 same-length-8 : tie.Need-same-length-8
 same-length-8 c = search needs
 
--- src/lib.rt:422:1
 returns-6 : tie.Need-returns-6
 returns-6 c = of-const _ _ _ _ _ (c .before .before .before .before .before .before .before .before .before .before .before .before .args .slot) _ _ (c .before .before .before .before .before .kind3 .given .1) _ _ (c .before .before .meet-const .ensures _ _ _)
 

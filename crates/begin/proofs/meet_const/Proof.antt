@@ -7,27 +7,21 @@ use Rattle.begin.proofs.meet_const.Lts as lts
 use Rattle.begin.proofs.unopened.Reads as unopened-reads
 use Rattle.constrain.proofs.narrow.Reads as narrow-reads
 
--- src/lib.rt:382:9
 narrow-requires : tie.Need-narrow-requires
 narrow-requires c κs = search needs
 
--- src/lib.rt:385:9
 unopened-requires : tie.Need-unopened-requires
 unopened-requires c κs = search needs
 
--- src/lib.rt:385:9
 same-length : tie.Need-same-length
 same-length c = search needs
 
--- src/lib.rt:385:9
 returns : tie.Need-returns
 returns c = λ a node work. meets-done _ a _ _ _ _ _ work _ (c .unopened .ensures) (const-bytes _ a _ _ node _ _ _ _ (c .before .before .before .before .before .narrow .ensures work) (c .before .if1 .taken))
 
--- src/lib.rt:369:1
 same-length-2 : tie.Need-same-length-2
 same-length-2 c = search needs
 
--- src/lib.rt:369:1
 returns-2 : tie.Need-returns-2
 returns-2 c = λ a node work. const-pieces _ a _ _ node _ _ _ _ (c .before .before .before .before .narrow .ensures work) (c .if1 .left) _
 

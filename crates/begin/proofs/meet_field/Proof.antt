@@ -7,27 +7,21 @@ use Rattle.begin.proofs.meet_field.Lts as lts
 use Rattle.step.proofs.Walk.diagnose.Reads as diagnose-reads
 use Rattle.step.proofs.Walk.register_field.Reads as register-field-reads
 
--- src/lib.rt:380:9
 diagnose-requires : tie.Need-diagnose-requires
 diagnose-requires c κs = search needs
 
--- src/lib.rt:380:9
 same-length : tie.Need-same-length
 same-length c = search needs
 
--- src/lib.rt:380:9
 returns : tie.Need-returns
 returns c = λ T below ty t. field-own T _ below _ _ _ _ _ _ _ (c .before .before .before .before .if1 .taken) _ (c .before .before .diagnose .ensures T _)
 
--- src/lib.rt:382:5
 register-field-requires : tie.Need-register-field-requires
 register-field-requires c κs = search needs
 
--- src/lib.rt:367:1
 same-length-2 : tie.Need-same-length-2
 same-length-2 c = search needs
 
--- src/lib.rt:367:1
 returns-2 : tie.Need-returns-2
 returns-2 c = λ T below ty t. field-other T _ below _ _ _ _ _ _ _ (c .before .before .before .before .if1 .left) _ (c .before .before .register-field .ensures T _)
 

@@ -9,35 +9,27 @@ use Rattle.begin.proofs.refers_to.Reads as refers-to-reads
 use Rattle.fields.proofs.fact_ty.Reads as fact-ty-reads
 use Rattle.step.proofs.Walk.fact_id.Reads as fact-id-reads
 
--- src/lib.rt:359:9
 fact-ty-requires : tie.Need-fact-ty-requires
 fact-ty-requires c κs = search needs
 
--- src/lib.rt:360:8
 refers-to-requires : tie.Need-refers-to-requires
 refers-to-requires c κs = search needs
 
--- src/lib.rt:361:9
 fact-id-requires : tie.Need-fact-id-requires
 fact-id-requires c κs = search needs
 
--- src/lib.rt:361:9
 same-length : tie.Need-same-length
 same-length c = search needs
 
--- src/lib.rt:361:9
 returns : tie.Need-returns
 returns c = λ a below. row-refers _ a below _ _ _ _ _ _ _ _ (c .before .before .before .before .before .refers-to .ensures) (c .before .before .before .before .before .before .fact-ty .ensures) (c .before .before .before .before .if1 .taken) _ (c .before .before .fact-id .ensures _ _)
 
--- src/lib.rt:363:5
 diagnose-requires : tie.Need-diagnose-requires
 diagnose-requires c κs = search needs
 
--- src/lib.rt:344:1
 same-length-2 : tie.Need-same-length-2
 same-length-2 c = search needs
 
--- src/lib.rt:344:1
 returns-2 : tie.Need-returns-2
 returns-2 c = λ a below. row-other _ a below _ _ _ _ _ _ _ _ (c .before .before .before .before .before .refers-to .ensures) (c .before .before .before .before .before .before .fact-ty .ensures) (c .before .before .before .before .if1 .left) _ (c .before .before .diagnose .ensures _ _)
 

@@ -6,19 +6,15 @@ use Rattle.begin.proofs.pairs_of.Reads as reads
 use Rattle.begin.proofs.pairs_of.Lts as lts
 use Rattle.entries.proofs.node_of.Reads as node-of-reads
 
--- src/lib.rt:64:38
 node-of-requires : tie.Need-node-of-requires
 node-of-requires c κs = search needs
 
--- src/lib.rt:64:29
 enum-known-k : tie.Need-enum-known-k
 enum-known-k c = search needs
 
--- src/lib.rt:60:1
 returns : tie.Need-returns
 returns c = record-is _ _ _ (c .before .before .before .node-of .ensures) _ _ (c .before .k .given .1)
 
--- src/lib.rt:60:1
 returns-2 : tie.Need-returns-2
 returns-2 c = record-not _ _ _ (c .before .node-of .ensures) (c .match .keys2)
 

@@ -11,64 +11,50 @@ use Rattle.tables.proofs.field_pattern.Reads as field-pattern-reads
 use Rattle.tables.proofs.record_ty.Reads as record-ty-reads
 use Rattle.views.proofs.field_ty_at.Reads as field-ty-at-reads
 
--- src/lib.rt:94:26
 pairs-of-requires : tie.Need-pairs-of-requires
 pairs-of-requires c κs = search needs
 
--- src/lib.rt:94:17
 enum-known-n : tie.Need-enum-known-n
 enum-known-n c = search needs
 
--- src/lib.rt:95:9
 enum-told : tie.Need-enum-told
 enum-told c = search needs
 
--- src/lib.rt:95:9
 returns : tie.Need-returns
 returns c = nothing-there _ _ _ _ _ (c .before .before .before .before .before .pre .1 .1) (no-pairs _ _ _ _ _ (c .before .before .pairs-of .ensures) (c .enum-told .given .1))
 
--- src/lib.rt:101:28
 record-ty-requires : tie.Need-record-ty-requires
 record-ty-requires c κs = search needs
 
--- src/lib.rt:101:17
 enum-known-k : tie.Need-enum-known-k
 enum-known-k c = search needs
 
--- src/lib.rt:102:9
 enum-told-2 : tie.Need-enum-told-2
 enum-told-2 c = search needs
 
--- src/lib.rt:102:9
 returns-2 : tie.Need-returns-2
 returns-2 c = nothing-there _ _ _ _ _ (c .before .before .before .before .before .before .before .before .before .pre .1 .1) (no-fields _ _ _ _ _ (c .before .before .before .before .before .before .pairs-of .ensures) _ (c .before .before .record-ty .ensures) (c .enum-told2 .given .1))
 
--- src/lib.rt:108:9
 field-ty-at-requires : tie.Need-field-ty-at-requires
 field-ty-at-requires c κs =
     let i = run-inside _ _ _ _ _ (c .before .before .before .record-ty .ensures) _ _ (c .before .k .given .1) in
     let k = count-is _ _ _ _ _ (c .before .before .before .before .before .before .before .pairs-of .ensures) _ (c .before .before .before .record-ty .ensures) _ _ _ _ (c .before .before .before .before .before .n .given .1) (c .before .k .given .1) in
     omega (arith, i, k, c .before .before .before .before .before .before .before .before .before .before .pre .1 .1)
 
--- src/lib.rt:109:27
 field-pattern-requires : tie.Need-field-pattern-requires
 field-pattern-requires c κs = run-inside _ _ _ _ _ (c .before .before .before .before .before .before .before .before .pairs-of .ensures) _ _ (c .before .before .before .before .before .before .n .given .1)
 
--- src/lib.rt:109:22
 enum-known-p : tie.Need-enum-known-p
 enum-known-p c = search needs
 
--- src/lib.rt:116:9
 enum-told-3 : tie.Need-enum-told-3
 enum-told-3 c = search needs
 
--- src/lib.rt:88:1
 returns-3 : tie.Need-returns-3
 returns-3 c =
     let s = c .before .before .before .before .before .before .before .before .before .before .before .before .before .before .before .pre in
     piece-some _ _ _ _ _ (c .before .before .before .before .before .before .before .before .before .before .before .before .pairs-of .ensures) _ (c .before .before .before .before .before .before .before .before .record-ty .ensures) _ _ _ _ (c .before .before .before .before .before .before .before .before .before .before .n .given .1) (c .before .before .before .before .before .before .k .given .1) (sound-tables _ _ (s .0)) (s .1 .0) _ (s .1 .1) _ (c .before .before .before .before .field-ty-at .ensures) _ (c .before .before .before .field-pattern .ensures) _ (c .before .p .given .1)
 
--- src/lib.rt:88:1
 returns-4 : tie.Need-returns-4
 returns-4 c =
     let s = c .before .before .before .before .before .before .before .before .before .before .before .before .before .before .pre in

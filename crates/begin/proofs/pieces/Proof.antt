@@ -10,39 +10,30 @@ use Rattle.begin.proofs.pieces.Lts as lts
 use Rattle.begin.proofs.pairs_of.Reads as pairs-of-reads
 use Rattle.tables.proofs.record_ty.Reads as record-ty-reads
 
--- src/lib.rt:77:26
 pairs-of-requires : tie.Need-pairs-of-requires
 pairs-of-requires c κs = search needs
 
--- src/lib.rt:77:17
 enum-known-n : tie.Need-enum-known-n
 enum-known-n c = search needs
 
--- src/lib.rt:78:9
 enum-told : tie.Need-enum-told
 enum-told c = search needs
 
--- src/lib.rt:78:9
 returns : tie.Need-returns
 returns c = (ap length (sym (no-pairs _ _ _ _ _ (c .before .before .pairs-of .ensures) (c .enum-told .given .1))), omega arith)
 
--- src/lib.rt:80:31
 record-ty-requires : tie.Need-record-ty-requires
 record-ty-requires c κs = search needs
 
--- src/lib.rt:80:20
 enum-known-k : tie.Need-enum-known-k
 enum-known-k c = search needs
 
--- src/lib.rt:83:9
 enum-told-2 : tie.Need-enum-told-2
 enum-told-2 c = search needs
 
--- src/lib.rt:72:1
 returns-2 : tie.Need-returns-2
 returns-2 c = (count-is _ _ _ _ _ (c .before .before .before .before .before .before .before .pairs-of .ensures) _ (c .before .before .before .record-ty .ensures) _ _ _ _ (c .before .before .before .before .before .n .given .1) (c .before .k .given .1), omega (arith, run-inside _ _ _ _ _ (c .before .before .before .record-ty .ensures) _ _ (c .before .k .given .1), c .before .before .before .before .before .before .before .before .before .before .pre .0 .indexed .small))
 
--- src/lib.rt:72:1
 returns-3 : tie.Need-returns-3
 returns-3 c = (ap length (sym (no-fields _ _ _ _ _ (c .before .before .before .before .before .before .pairs-of .ensures) _ (c .before .before .record-ty .ensures) (c .enum-told2 .given .1))), omega arith)
 

@@ -5,31 +5,24 @@ use Rattle.begin.proofs.refers_to.Tie as tie
 use Rattle.begin.proofs.refers_to.Reads as reads
 use Rattle.begin.proofs.refers_to.Lts as lts
 
--- src/lib.rt:245:30
 enum-known-p : tie.Need-enum-known-p
 enum-known-p c = search needs
 
--- src/lib.rt:246:9
 enum-told : tie.Need-enum-told
 enum-told c = search needs
 
--- src/lib.rt:246:9
 returns : tie.Need-returns
 returns c = refers-none _ _ (c .enum-told .given .1)
 
--- src/lib.rt:248:33
 enum-known-referenced : tie.Need-enum-known-referenced
 enum-known-referenced c = search needs
 
--- src/lib.rt:251:9
 enum-told-2 : tie.Need-enum-told-2
 enum-told-2 c = search needs
 
--- src/lib.rt:242:1
 returns-2 : tie.Need-returns-2
 returns-2 c = refers-both _ _ _ (c .before .before .before .before .before .before .p .given .1) _ (c .before .before .before .referenced .given .1)
 
--- src/lib.rt:242:1
 returns-3 : tie.Need-returns-3
 returns-3 c = refers-nothing _ _ _ (c .before .before .before .p .given .1) (c .enum-told2 .given .1)
 

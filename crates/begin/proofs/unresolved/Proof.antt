@@ -8,35 +8,27 @@ use Rattle.step.proofs.Walk.diagnose.Reads as diagnose-reads
 use Rattle.begin.proofs.is_deferred.Reads as is-deferred-reads
 use Rattle.step.proofs.Walk.skip.Reads as skip-reads
 
--- src/lib.rt:192:8
 is-deferred-requires : tie.Need-is-deferred-requires
 is-deferred-requires c κs = search needs
 
--- src/lib.rt:193:9
 skip-requires : tie.Need-skip-requires
 skip-requires c κs = search needs
 
--- src/lib.rt:193:9
 returns : tie.Need-returns
 returns c = λ plan before e. unresolved-deferred _ _ _ _ _ (c .before .before .is-deferred .ensures) (c .before .if1 .taken) _ (c .skip .ensures _ _ plan)
 
--- src/lib.rt:198:9
 diagnose-requires : tie.Need-diagnose-requires
 diagnose-requires c κs = search needs
 
--- src/lib.rt:198:9
 same-length : tie.Need-same-length
 same-length c = search needs
 
--- src/lib.rt:198:9
 returns-2 : tie.Need-returns-2
 returns-2 c = λ plan before e. unresolved-quiet _ _ _ _ _ (c .before .before .before .before .before .before .before .before .before .is-deferred .ensures) (c .before .before .before .before .before .before .before .before .if1 .left) _ _ (diagnostics-at _ _ _ _) e (c .before .before .before .before .if2 .taken) _ (c .before .before .diagnose .ensures _ plan)
 
--- src/lib.rt:200:5
 skip-requires-2 : tie.Need-skip-requires-2
 skip-requires-2 c κs = search needs
 
--- src/lib.rt:188:1
 returns-3 : tie.Need-returns-3
 returns-3 c = λ plan before e. unresolved-told _ _ _ _ _ (c .before .before .before .before .before .before .is-deferred .ensures) (c .before .before .before .before .before .if1 .left) _ _ (diagnostics-at _ _ _ _) e (c .before .if2 .left) _ (c .skip2 .ensures _ _ plan)
 

@@ -24,50 +24,39 @@ Inv-loop file index m n p left₀ q₀ left q = (all (λ c. getD (flagsAt index)
 abbrev μ-loop : tie.MeasureT-loop
 μ-loop file index m n p left₀ q₀ left q = left
 
--- src/lib.rt:110:5
 loop-holds : tie.Need-loop-holds Inv-loop μ-loop
 loop-holds c = (refl, c .before .before .pre .1 .0, c .before .before .pre .1 .1)
 
--- src/lib.rt:111:30
 word-at-requires : tie.Need-word-at-requires Inv-loop μ-loop
 word-at-requires c κs = words-first _ _ _ _ _ (c .before .loop .inv .1) (c .loop-test .taken)
 
--- src/lib.rt:111:18
 add-if1 : tie.Need-add-if1 Inv-loop μ-loop
 add-if1 c = omega (arith, run-low _ _ _ _ (c .before .loop-test .taken) _ (c .before .before .loop .inv .2) .0, c .word-at .ensures .0, c .before .before .before .before .before .pre .0)
 
--- src/lib.rt:111:12
 mul-if1 : tie.Need-mul-if1 Inv-loop μ-loop
 mul-if1 c = omega (arith, run-low _ _ _ _ (c .before .loop-test .taken) _ (c .before .before .loop .inv .2) .0, c .word-at .ensures .0, c .before .before .before .before .before .pre .0)
 
--- src/lib.rt:111:12
 shared-slice-read-if1 : tie.Need-shared-slice-read-if1 Inv-loop μ-loop
 shared-slice-read-if1 c = omega (arith, run-low _ _ _ _ (c .before .before .loop-test .taken) _ (c .before .before .before .loop .inv .2) .0, c .before .word-at .ensures .0, c .before .before .before .before .before .before .pre .0)
 
--- src/lib.rt:112:13
 returns : tie.Need-returns Inv-loop μ-loop
 returns c = let l = c .before .before .before .before .loop in sym (l .inv .0 ∙ run-no _ _ _ _ _ (c .before .before .before .loop-test .taken) (flag-no _ _ _ _ (c .before .before .word-at .ensures .0) refl (c .if1 .taken)))
 
--- src/lib.rt:114:9
 add-q : tie.Need-add-q Inv-loop μ-loop
 add-q c = let x = c .before .before .before .before .loop .inv .1 in omega (arith, words-first _ _ _ _ _ x (c .before .before .before .loop-test .taken), x .small)
 
--- src/lib.rt:115:9
 sub-left : tie.Need-sub-left Inv-loop μ-loop
 sub-left c = search needs
 
--- src/lib.rt:110:5
 loop-less : tie.Need-loop-less Inv-loop μ-loop
 loop-less c = search needs
 
--- src/lib.rt:110:5
 loop-again : tie.Need-loop-again Inv-loop μ-loop
 loop-again c =
     let l = c .before .before .before .before .loop in
     let h = c .before .before .before .loop-test .taken in
     (l .inv .0 ∙ run-yes _ _ _ _ _ h (flag-yes _ _ _ _ (c .before .before .word-at .ensures .0) refl (c .if1 .left)), words-next _ _ _ _ _ (l .inv .1) h, run-low _ _ _ _ h _ (l .inv .2) .1)
 
--- src/lib.rt:102:1
 returns-2 : tie.Need-returns-2 Inv-loop μ-loop
 returns-2 c = sym (c .before .loop .inv .0 ∙ run-done _ _ _ _ _ (omega arith))
 

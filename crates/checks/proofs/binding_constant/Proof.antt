@@ -11,64 +11,50 @@ use Rattle.checks.proofs.binding_constant.Lts as lts
 use Rattle.checks.proofs.is_constant.Reads as is-constant-reads
 use Rattle.views.proofs.binding_at.Reads as binding-at-reads
 
--- src/lib.rt:207:9
 binding-at-requires : tie.Need-binding-at-requires
 binding-at-requires c κs = (c .before .before .pre .0 .filled .indexed, c .before .before .pre .1)
 
--- src/lib.rt:210:32
 enum-told : tie.Need-enum-told
 enum-told c = search needs
 
--- src/lib.rt:211:32
 enum-told-2 : tie.Need-enum-told-2
 enum-told-2 c = search needs
 
--- src/lib.rt:212:33
 enum-told-3 : tie.Need-enum-told-3
 enum-told-3 c = search needs
 
--- src/lib.rt:213:37
 enum-told-4 : tie.Need-enum-told-4
 enum-told-4 c = search needs
 
--- src/lib.rt:214:34
 enum-told-5 : tie.Need-enum-told-5
 enum-told-5 c = search needs
 
--- src/lib.rt:215:25
 enum-known-slot : tie.Need-enum-known-slot
 enum-known-slot c = search needs
 
--- src/lib.rt:215:31
 is-constant-requires : tie.Need-is-constant-requires
 is-constant-requires c κs = let a = c .before .before .before .before .before .before in (a .pre .0 .filled, const-node _ _ _ _ (c .before .before .before .binding-at .ensures) _ (c .before .slot .given .1) (slot-in _ (a .pre .0 .numbers) _ (a .pre .1)))
 
--- src/lib.rt:202:1
 returns : tie.Need-returns
 unfolding slotConstant
 returns c = by-slot (slotConstant _) (c .before .before .binding-at .ensures) (c .enum-told .given .1)
 
--- src/lib.rt:202:1
 returns-2 : tie.Need-returns-2
 unfolding slotConstant
 returns-2 c = by-slot (slotConstant _) (c .before .before .binding-at .ensures) (c .enum-told2 .given .1)
 
--- src/lib.rt:202:1
 returns-3 : tie.Need-returns-3
 unfolding slotConstant
 returns-3 c = by-slot (slotConstant _) (c .before .before .binding-at .ensures) (c .enum-told3 .given .1)
 
--- src/lib.rt:202:1
 returns-4 : tie.Need-returns-4
 unfolding slotConstant
 returns-4 c = by-slot (slotConstant _) (c .before .before .binding-at .ensures) (c .enum-told4 .given .1)
 
--- src/lib.rt:202:1
 returns-5 : tie.Need-returns-5
 unfolding slotConstant
 returns-5 c = by-slot (slotConstant _) (c .before .before .binding-at .ensures) (c .enum-told5 .given .1)
 
--- src/lib.rt:202:1
 returns-6 : tie.Need-returns-6
 unfolding slotConstant
 returns-6 c = c .is-constant .ensures ∙ by-slot (slotConstant _) (c .before .before .before .before .binding-at .ensures) (c .before .before .slot .given .1)

@@ -15,83 +15,65 @@ use Rattle.checks.proofs.depth_of.Reads as depth-of-reads
 use Rattle.file.proofs.wide.Reads as wide-reads
 use Rattle.views.proofs.binding_at.Reads as binding-at-reads
 
--- src/lib.rt:240:9
 binding-at-requires : tie.Need-binding-at-requires
 binding-at-requires c κs = (c .before .before .pre .0 .filled .indexed, c .before .before .pre .1)
 
--- src/lib.rt:243:32
 enum-told : tie.Need-enum-told
 enum-told c = search needs
 
--- src/lib.rt:244:32
 enum-told-2 : tie.Need-enum-told-2
 enum-told-2 c = search needs
 
--- src/lib.rt:245:33
 enum-told-3 : tie.Need-enum-told-3
 enum-told-3 c = search needs
 
--- src/lib.rt:246:28
 enum-known-slot : tie.Need-enum-known-slot
 enum-known-slot c = search needs
 
--- src/lib.rt:246:48
 add-wide : tie.Need-add-wide
 unfolding PathInside
 add-wide c = let i = slot-inside (tablesOf (now (c .before .before .before .before .before .before .args .file))) _ _ _ (c .before .before .before .binding-at .ensures) _ (c .before .slot .given .1) in omega (arith, i, c .before .before .before .before .before .before .pre .0 .filled .indexed .small)
 
--- src/lib.rt:246:43
 shared-slice-read-wide : tie.Need-shared-slice-read-wide
 unfolding PathInside
 shared-slice-read-wide c = let i = slot-inside (tablesOf (now (c .before .before .before .before .before .before .before .args .file))) _ _ _ (c .before .before .before .before .binding-at .ensures) _ (c .before .before .slot .given .1) in omega (arith, i)
 
--- src/lib.rt:246:38
 wide-requires : tie.Need-wide-requires
 wide-requires c κs = search needs
 
--- src/lib.rt:246:59
 depth-of-requires : tie.Need-depth-of-requires
 depth-of-requires c κs = let a = c .before .before .before .before .before .before .before .before in (a .pre .0 .filled, field-type _ _ _ _ (c .before .before .before .before .before .binding-at .ensures) _ _ _ (c .before .before .before .slot .given .1) (slot-in _ (a .pre .0 .numbers) _ (a .pre .1)))
 
--- src/lib.rt:246:38
 add-result : tie.Need-add-result
 add-result c =
     let a = c .before .before .before .before .before .before .before .before .before in
     omega (arith, c .before .wide .ensures .1, depth-few _ _ (a .pre .0 .filled .indexed) _ _ (field-type _ _ _ _ (c .before .before .before .before .before .before .binding-at .ensures) _ _ _ (c .before .before .before .before .slot .given .1) (slot-in _ (a .pre .0 .numbers) _ (a .pre .1))) (c .depth-of .ensures))
 
--- src/lib.rt:247:34
 enum-told-4 : tie.Need-enum-told-4
 enum-told-4 c = search needs
 
--- src/lib.rt:248:31
 enum-told-5 : tie.Need-enum-told-5
 enum-told-5 c = search needs
 
--- src/lib.rt:235:1
 returns : tie.Need-returns
 unfolding slotFits
 returns c = by-slot (slotFits _) (c .before .before .binding-at .ensures) (c .enum-told .given .1)
 
--- src/lib.rt:235:1
 returns-2 : tie.Need-returns-2
 unfolding slotFits
 returns-2 c = by-slot (slotFits _) (c .before .before .binding-at .ensures) (c .enum-told2 .given .1)
 
--- src/lib.rt:235:1
 returns-3 : tie.Need-returns-3
 unfolding slotFits
 returns-3 c = by-slot (slotFits _) (c .before .before .binding-at .ensures) (c .enum-told3 .given .1)
 
--- src/lib.rt:235:1
 returns-4 : tie.Need-returns-4
 returns-4 c = fits-field _ _ _ _ (c .before .before .before .before .before .before .binding-at .ensures) _ _ _ _ _ (c .before .before .before .before .slot .given .1) (c .before .wide .ensures .0) (c .depth-of .ensures)
 
--- src/lib.rt:235:1
 returns-5 : tie.Need-returns-5
 unfolding slotFits
 returns-5 c = by-slot (slotFits _) (c .before .before .binding-at .ensures) (c .enum-told4 .given .1)
 
--- src/lib.rt:235:1
 returns-6 : tie.Need-returns-6
 unfolding slotFits
 returns-6 c = by-slot (slotFits _) (c .before .before .binding-at .ensures) (c .enum-told5 .given .1)

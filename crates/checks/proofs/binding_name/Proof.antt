@@ -15,37 +15,29 @@ use Rattle.file.proofs.base.Reads as base-reads
 use Rattle.file.proofs.wide16.Reads as wide16-reads
 use Rattle.file.proofs.word_at.Reads as word-at-reads
 
--- src/lib.rt:160:32
 base-requires : tie.Need-base-requires
 base-requires c κs = search needs
 
--- src/lib.rt:160:32
 add-wide16 : tie.Need-add-wide16
 add-wide16 c = let a = c .before .before .before in omega (arith, roomy 4 (omega arith), a .pre .0 .long, a .pre .0 .bindings .under, a .pre .1)
 
--- src/lib.rt:160:32
 add-wide16-2 : tie.Need-add-wide16-2
 add-wide16-2 c = let a = c .before .before .before in omega (arith, roomy 4 (omega arith), a .pre .0 .long, a .pre .0 .bindings .under, a .pre .1)
 
--- src/lib.rt:160:26
 mul-wide16 : tie.Need-mul-wide16
 mul-wide16 c = let a = c .before .before .before in omega (arith, roomy 4 (omega arith), a .pre .0 .long, a .pre .0 .bindings .under, a .pre .1)
 
--- src/lib.rt:160:26
 shared-slice-read-wide16 : tie.Need-shared-slice-read-wide16
 shared-slice-read-wide16 c = let a = c .before .before .before .before in omega (arith, roomy 4 (omega arith), a .pre .0 .long, a .pre .0 .bindings .under, a .pre .1)
 
--- src/lib.rt:160:19
 wide16-requires : tie.Need-wide16-requires
 wide16-requires c κs = search needs
 
--- src/lib.rt:160:5
 word-at-requires : tie.Need-word-at-requires
 word-at-requires c κs =
     let a = c .before .before .before .before .before in
     binding-here _ _ (a .pre .0) _ _ (a .pre .1) (c .wide16 .ensures ∙ ap (λ k. getD (now (a .args .index)) (k + 1 + a .args .k) 0) (c .before .before .base .ensures)) .room
 
--- src/lib.rt:155:1
 returns : tie.Need-returns
 returns c =
     let a = c .before .before .before .before .before .before in

@@ -20,38 +20,30 @@ use Rattle.checks.proofs.later_checks.Reads as later-checks-reads
 use Rattle.numbers.proofs.children_lower.Reads as children-lower-reads
 use Rattle.numbers.proofs.numbers_in.Reads as numbers-in-reads
 
--- src/lib.rt:415:9
 numbers-in-requires : tie.Need-numbers-in-requires
 numbers-in-requires c κs = c .before .before .before .pre
 
--- src/lib.rt:416:9
 same-length : tie.Need-same-length
 same-length c = search needs
 
--- src/lib.rt:416:9
 returns : tie.Need-returns
 returns c = let a = sym (c .before .numbers-in .ensures) ∙ not-true _ (c .if1 .taken) in (all-8 _ a, (index-8 _ _ a, λ e. absurd (refused-accepted e)))
 
--- src/lib.rt:418:9
 children-lower-requires : tie.Need-children-lower-requires
 children-lower-requires c κs = c .before .before .before .before .before .before .pre
 
--- src/lib.rt:419:9
 same-length-2 : tie.Need-same-length-2
 same-length-2 c = search needs
 
--- src/lib.rt:419:9
 returns-2 : tie.Need-returns-2
 returns-2 c =
     let a = sym (c .before .before .before .before .numbers-in .ensures) ∙ not-false _ (c .before .before .before .if1 .left) in
     let b = sym (c .before .children-lower .ensures) ∙ not-true _ (c .if2 .taken) in
     (all-9 _ a b, (index-9 _ _ a b, λ e. absurd (refused-accepted e)))
 
--- src/lib.rt:421:5
 fill-depths-requires : tie.Need-fill-depths-requires
 fill-depths-requires c κs = (c .before .before .before .before .before .before .before .before .before .pre, sym (c .before .before .children-lower .ensures) ∙ not-false _ (c .before .if2 .left))
 
--- src/lib.rt:422:5
 fill-constants-requires : tie.Need-fill-constants-requires
 fill-constants-requires c κs =
     let o = c .before .before .before .before .before .before in
@@ -67,7 +59,6 @@ fill-last-bindings-requires c κs =
     let i = indexed-so _ _ _ (depths (tablesOf (now (s .args .file)))) depthsBase (omega arith) (d .fill-depths .ensures) (s .pre) in
     (indexed-so _ _ _ (flagsOf (tablesOf (now (s .args .file)))) constantsBase (omega arith) (g .fill-constants .ensures) i, sym (o .before .before .before .numbers-in .ensures) ∙ not-false _ (o .before .before .if1 .left))
 
--- src/lib.rt:423:5
 later-checks-requires : tie.Need-later-checks-requires
 later-checks-requires c κs =
     let l = c .before .before .before in
@@ -77,14 +68,12 @@ later-checks-requires c κs =
     let s = o .before .before .before .before .before .before .before in
     numbered _ _ _ (s .pre) (sym (o .before .before .before .numbers-in .ensures) ∙ not-false _ (o .before .before .if1 .left)) (sym (o .children-lower .ensures) ∙ not-false _ (d .before .before .if2 .left)) (areas _ _ _ _ _ (d .fill-depths .ensures) (g .fill-constants .ensures) (l .fill-last-bindings .ensures))
 
--- src/lib.rt:409:1
 same-length-3 : tie.Need-same-length-3
 same-length-3 c =
     let l = c .before .before .before .before in
     let g = l .before .before .before .before in
     l .fill-last-bindings .kept .1 .0 ∙ g .fill-constants .kept .1 .0 ∙ g .before .before .before .before .fill-depths .kept .1 .0
 
--- src/lib.rt:409:1
 returns-3 : tie.Need-returns-3
 returns-3 c =
     let l = c .before .before .before .before in

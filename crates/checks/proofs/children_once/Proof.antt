@@ -9,15 +9,12 @@ use Rattle.checks.proofs.children_once.Reads as reads
 use Rattle.checks.proofs.children_once.Lts as lts
 use Rattle.checks.proofs.mark_nodes.Reads as mark-nodes-reads
 
--- src/lib.rt:382:29
 slice-aggregate-mark-nodes : tie.Need-slice-aggregate-mark-nodes
 slice-aggregate-mark-nodes c = search needs
 
--- src/lib.rt:382:5
 mark-nodes-requires : tie.Need-mark-nodes-requires
 mark-nodes-requires c κs = search needs
 
--- src/lib.rt:376:1
 returns : tie.Need-returns
 returns c = c .before .mark-nodes .ensures .0 ∙ marks-tell _ (c .before .before .before .before .before .pre .1) 2048 (nodes-few _ _ (c .before .before .before .before .before .pre .0))
 

@@ -17,39 +17,30 @@ Inv-loop index₀ n x₀ index x = (index ≡ sets index₀ lastBindingsBase (ta
 abbrev μ-loop : tie.MeasureT-loop
 μ-loop index₀ n x₀ index x = n - x
 
--- src/lib.rt:186:5
 loop-holds : tie.Need-loop-holds Inv-loop μ-loop
 loop-holds c = (refl, refl)
 
--- src/lib.rt:187:15
 add-index : tie.Need-add-index Inv-loop μ-loop
 add-index c = omega (arith, c .before .before .pre .1)
 
--- src/lib.rt:187:9
 mul-index : tie.Need-mul-index Inv-loop μ-loop
 mul-index c = omega (arith, c .before .before .pre .1)
 
--- src/lib.rt:187:9
 slice-write-index : tie.Need-slice-write-index Inv-loop μ-loop
 slice-write-index c = omega (arith, c .before .before .pre .0, c .before .before .pre .1, c .before .loop .inv .1)
 
--- src/lib.rt:188:9
 add-x : tie.Need-add-x Inv-loop μ-loop
 add-x c = search needs
 
--- src/lib.rt:186:5
 loop-less : tie.Need-loop-less Inv-loop μ-loop
 loop-less c = omega arith
 
--- src/lib.rt:186:5
 loop-again : tie.Need-loop-again Inv-loop μ-loop
 loop-again c = (clear-more _ _ _ _ (c .before .loop .inv .0) (c .loop-test .taken), simp length-set (c .before .loop .inv .1))
 
--- src/lib.rt:181:1
 same-length : tie.Need-same-length Inv-loop μ-loop
 same-length c = c .before .loop .inv .1
 
--- src/lib.rt:181:1
 returns : tie.Need-returns Inv-loop μ-loop
 returns c = clear-end _ _ _ _ (c .before .loop .inv .0) (c .loop-test .left)
 

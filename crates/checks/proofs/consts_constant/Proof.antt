@@ -23,35 +23,27 @@ Inv-loop file index n b₀ b = (constsConstant (tablesOf file) ≡ every (λ k. 
 abbrev μ-loop : tie.MeasureT-loop
 μ-loop file index n b₀ b = n - b
 
--- src/lib.rt:223:9
 count-of-requires : tie.Need-count-of-requires Inv-loop μ-loop
 count-of-requires c κs = (c .before .before .pre .filled .indexed, omega arith)
 
--- src/lib.rt:225:5
 loop-holds : tie.Need-loop-holds Inv-loop μ-loop
 loop-holds c = (consts-every _ ∙ every-start _ _ _ (c .count-of .ensures), omega arith, c .count-of .ensures)
 
--- src/lib.rt:226:13
 binding-constant-requires : tie.Need-binding-constant-requires Inv-loop μ-loop
 binding-constant-requires c κs = (c .before .before .before .before .before .pre, omega (arith, c .before .loop .inv .2, c .loop-test .taken))
 
--- src/lib.rt:227:13
 returns : tie.Need-returns Inv-loop μ-loop
 returns c = sym (c .before .before .before .loop .inv .0 ∙ every-no _ _ _ (omega arith) (sym (c .before .binding-constant .ensures) ∙ not-true _ (c .if1 .taken)))
 
--- src/lib.rt:229:9
 add-b : tie.Need-add-b Inv-loop μ-loop
 add-b c = search needs
 
--- src/lib.rt:225:5
 loop-less : tie.Need-loop-less Inv-loop μ-loop
 loop-less c = omega arith
 
--- src/lib.rt:225:5
 loop-again : tie.Need-loop-again Inv-loop μ-loop
 loop-again c = (c .before .before .before .loop .inv .0 ∙ every-yes _ _ _ _ (omega arith) (sym (c .before .binding-constant .ensures) ∙ not-false _ (c .if1 .left)), omega arith, c .before .before .before .loop .inv .2)
 
--- src/lib.rt:219:1
 returns-2 : tie.Need-returns-2 Inv-loop μ-loop
 returns-2 c = sym (c .before .loop .inv .0 ∙ every-none _ _ _ (omega arith))
 

@@ -27,54 +27,42 @@ Inv-loop file index t w n p left₀ q₀ most₀ left q most = (deepest (drop de
 abbrev μ-loop : tie.MeasureT-loop
 μ-loop file index t w n p left₀ q₀ most₀ left q most = left
 
--- src/lib.rt:54:5
 loop-holds : tie.Need-loop-holds Inv-loop μ-loop
 loop-holds c = (omega arith, c .before .before .pre .1 .0, c .before .before .pre .1 .1, omega arith)
 
--- src/lib.rt:55:39
 word-at-requires : tie.Need-word-at-requires Inv-loop μ-loop
 word-at-requires c κs = words-first _ _ _ _ _ (c .before .loop .inv .1) (c .loop-test .taken)
 
--- src/lib.rt:55:30
 add-wide16 : tie.Need-add-wide16 Inv-loop μ-loop
 add-wide16 c = omega (arith, run-low _ _ _ _ (c .before .loop-test .taken) _ (c .before .before .loop .inv .2) .0, c .word-at .ensures .0, c .before .before .before .before .before .pre .0)
 
--- src/lib.rt:55:24
 mul-wide16 : tie.Need-mul-wide16 Inv-loop μ-loop
 mul-wide16 c = omega (arith, run-low _ _ _ _ (c .before .loop-test .taken) _ (c .before .before .loop .inv .2) .0, c .word-at .ensures .0, c .before .before .before .before .before .pre .0)
 
--- src/lib.rt:55:24
 shared-slice-read-wide16 : tie.Need-shared-slice-read-wide16 Inv-loop μ-loop
 shared-slice-read-wide16 c = omega (arith, run-low _ _ _ _ (c .before .before .loop-test .taken) _ (c .before .before .before .loop .inv .2) .0, c .before .word-at .ensures .0, c .before .before .before .before .before .before .pre .0)
 
--- src/lib.rt:55:13
 wide16-requires : tie.Need-wide16-requires Inv-loop μ-loop
 wide16-requires c κs = search needs
 
--- src/lib.rt:56:9
 larger-requires : tie.Need-larger-requires Inv-loop μ-loop
 larger-requires c κs = search needs
 
--- src/lib.rt:57:9
 add-q : tie.Need-add-q Inv-loop μ-loop
 add-q c = let x = c .before .before .before .before .before .loop .inv .1 in omega (arith, words-first _ _ _ _ _ x (c .before .before .before .before .loop-test .taken), x .small, x .stride)
 
--- src/lib.rt:58:9
 sub-left : tie.Need-sub-left Inv-loop μ-loop
 sub-left c = search needs
 
--- src/lib.rt:54:5
 loop-less : tie.Need-loop-less Inv-loop μ-loop
 loop-less c = search needs
 
--- src/lib.rt:54:5
 loop-again : tie.Need-loop-again Inv-loop μ-loop
 loop-again c =
     let l = c .before .before .before .before .before .loop in
     let h = c .before .before .before .before .loop-test .taken in
     (l .inv .0 ∙ deepest-turn _ (now (c .before .before .before .before .before .before .before .before .args .index)) (c .before .before .before .before .before .before .before .before .args .w) _ _ _ _ _ _ h (c .before .before .before .word-at .ensures .0) (c .before .wide16 .ensures) (c .larger .ensures), words-next _ _ _ _ _ (l .inv .1) h, run-low _ _ _ _ h _ (l .inv .2) .1, omega (arith, l .inv .3, c .larger .ensures, c .before .wide16 .ensures, c .before .before .shared-slice-known3 .given (4682 + c .before .before .before .word-at .result)))
 
--- src/lib.rt:45:1
 returns : tie.Need-returns Inv-loop μ-loop
 returns c = (sym (c .before .loop .inv .0 ∙ deepest-end _ _ _ _ _ _ (omega arith)), c .before .loop .inv .3)
 

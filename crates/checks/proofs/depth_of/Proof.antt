@@ -9,23 +9,18 @@ use Rattle.checks.proofs.depth_of.Reads as reads
 use Rattle.checks.proofs.depth_of.Lts as lts
 use Rattle.file.proofs.wide16.Reads as wide16-reads
 
--- src/lib.rt:174:18
 add-wide16 : tie.Need-add-wide16
 add-wide16 c = let a = c .before .before in omega (arith, types-few _ _ (a .pre .0 .indexed), a .pre .1)
 
--- src/lib.rt:174:12
 mul-wide16 : tie.Need-mul-wide16
 mul-wide16 c = let a = c .before .before in omega (arith, types-few _ _ (a .pre .0 .indexed), a .pre .1)
 
--- src/lib.rt:174:12
 shared-slice-read-wide16 : tie.Need-shared-slice-read-wide16
 shared-slice-read-wide16 c = let a = c .before .before .before in omega (arith, types-few _ _ (a .pre .0 .indexed), a .pre .1, a .pre .0 .indexed .long)
 
--- src/lib.rt:174:5
 wide16-requires : tie.Need-wide16-requires
 wide16-requires c κs = search needs
 
--- src/lib.rt:169:1
 returns : tie.Need-returns
 returns c = let a = c .before .before .before .before in c .wide16 .ensures ∙ a .pre .0 .depth-at _ (a .pre .1)
 

@@ -25,49 +25,38 @@ Inv-loop file index n k₀ k = (fetchedFit (tablesOf file) ≡ every (λ j. leb 
 abbrev μ-loop : tie.MeasureT-loop
 μ-loop file index n k₀ k = n - k
 
--- src/lib.rt:271:9
 count-of-requires : tie.Need-count-of-requires Inv-loop μ-loop
 count-of-requires c κs = (c .before .before .pre, omega arith)
 
--- src/lib.rt:273:5
 loop-holds : tie.Need-loop-holds Inv-loop μ-loop
 loop-holds c = (fetched-every _ ∙ every-start _ _ _ (c .count-of .ensures), omega arith, c .count-of .ensures)
 
--- src/lib.rt:274:13
 fetched-at-requires : tie.Need-fetched-at-requires Inv-loop μ-loop
 fetched-at-requires c κs = (c .before .before .before .before .before .pre, omega (arith, c .before .loop .inv .2, c .loop-test .taken))
 
--- src/lib.rt:276:22
 add-wide : tie.Need-add-wide Inv-loop μ-loop
 unfolding PathInside
 add-wide c = let i = c .fetched-at .ensures .inside in omega (arith, i, c .before .before .before .before .before .before .pre .small)
 
--- src/lib.rt:276:17
 shared-slice-read-wide : tie.Need-shared-slice-read-wide Inv-loop μ-loop
 unfolding PathInside
 shared-slice-read-wide c = let i = c .before .fetched-at .ensures .inside in omega (arith, i)
 
--- src/lib.rt:276:12
 wide-requires : tie.Need-wide-requires Inv-loop μ-loop
 wide-requires c κs = search needs
 
--- src/lib.rt:277:13
 returns : tie.Need-returns Inv-loop μ-loop
 returns c = sym (c .before .before .before .before .before .loop .inv .0 ∙ every-no _ _ _ (omega arith) (steps-high _ _ _ (fetched-steps _ _ _ (c .before .before .before .fetched-at .ensures) ∙ sym (c .before .wide .ensures .0)) (c .if1 .taken)))
 
--- src/lib.rt:279:9
 add-k : tie.Need-add-k Inv-loop μ-loop
 add-k c = search needs
 
--- src/lib.rt:273:5
 loop-less : tie.Need-loop-less Inv-loop μ-loop
 loop-less c = omega arith
 
--- src/lib.rt:273:5
 loop-again : tie.Need-loop-again Inv-loop μ-loop
 loop-again c = (c .before .before .before .before .before .loop .inv .0 ∙ every-yes _ _ _ _ (omega arith) (steps-low _ _ _ (fetched-steps _ _ _ (c .before .before .before .fetched-at .ensures) ∙ sym (c .before .wide .ensures .0)) (c .if1 .left)), omega arith, c .before .before .before .before .before .loop .inv .2)
 
--- src/lib.rt:267:1
 returns-2 : tie.Need-returns-2 Inv-loop μ-loop
 returns-2 c = sym (c .before .loop .inv .0 ∙ every-none _ _ _ (omega arith))
 

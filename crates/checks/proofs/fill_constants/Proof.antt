@@ -23,51 +23,39 @@ Inv-loop file index₀ m n₀ index n = (index ≡ sets index₀ constantsBase (
 abbrev μ-loop : tie.MeasureT-loop
 μ-loop file index₀ m n₀ index n = m - n
 
--- src/lib.rt:160:9
 count-of-requires : tie.Need-count-of-requires Inv-loop μ-loop
 count-of-requires c κs = search needs
 
--- src/lib.rt:162:5
 loop-holds : tie.Need-loop-holds Inv-loop μ-loop
 loop-holds c = (refl, omega arith, c .count-of .ensures, refl)
 
--- src/lib.rt:163:21
 node-constant-requires : tie.Need-node-constant-requires Inv-loop μ-loop
 node-constant-requires c κs = let a = c .before .before .before .before .before .before .before in (indexed-so _ _ _ (take (c .before .before .loop .n) (flagsOf (tablesOf (now (a .args .file))))) constantsBase (omega arith) (c .before .before .loop .inv .0) (a .pre .0), (omega (arith, c .before .before .loop .inv .2, c .before .loop-test .taken), a .pre .1))
 
--- src/lib.rt:163:13
 bit-requires : tie.Need-bit-requires Inv-loop μ-loop
 bit-requires c κs = search needs
 
--- src/lib.rt:164:15
 add-index : tie.Need-add-index Inv-loop μ-loop
 add-index c = let a = c .before .before .before .before .before .before .before .before .before in omega (arith, c .before .before .before .before .loop .inv .2, c .before .before .before .loop-test .taken, nodes-few _ _ (a .pre .0))
 
--- src/lib.rt:164:9
 mul-index : tie.Need-mul-index Inv-loop μ-loop
 mul-index c = let a = c .before .before .before .before .before .before .before .before .before in omega (arith, c .before .before .before .before .loop .inv .2, c .before .before .before .loop-test .taken, nodes-few _ _ (a .pre .0))
 
--- src/lib.rt:164:9
 slice-write-index : tie.Need-slice-write-index Inv-loop μ-loop
 slice-write-index c = let a = c .before .before .before .before .before .before .before .before .before in omega (arith, c .before .before .before .before .loop .inv .2, c .before .before .before .before .loop .inv .3, c .before .before .before .loop-test .taken, nodes-few _ _ (a .pre .0), a .pre .0 .long)
 
--- src/lib.rt:165:9
 add-n : tie.Need-add-n Inv-loop μ-loop
 add-n c = search needs
 
--- src/lib.rt:162:5
 loop-less : tie.Need-loop-less Inv-loop μ-loop
 loop-less c = omega arith
 
--- src/lib.rt:162:5
 loop-again : tie.Need-loop-again Inv-loop μ-loop
 loop-again c = let a = c .before .before .before .before .before .before .before .before .before in (flag-stored _ _ _ (a .pre .1) (a .pre .0 .long) _ _ _ (omega (arith, c .before .before .before .before .loop .inv .2, c .before .before .before .loop-test .taken)) (nodes-few _ _ (a .pre .0)) (c .before .before .before .before .loop .inv .0) (c .bit .ensures) (c .before .node-constant .ensures), omega arith, c .before .before .before .before .loop .inv .2, simp length-set (c .before .before .before .before .loop .inv .3))
 
--- src/lib.rt:155:1
 same-length : tie.Need-same-length Inv-loop μ-loop
 same-length c = c .before .loop .inv .3
 
--- src/lib.rt:155:1
 returns : tie.Need-returns Inv-loop μ-loop
 returns c = let a = c .before .before .before .before .before .before in c .before .loop .inv .0 ∙ flags-done _ _ (a .pre .1) (c .before .loop .n) (omega (arith, c .before .loop .inv .2, c .loop-test .left))
 

@@ -22,51 +22,39 @@ Inv-loop file index₀ n t₀ index t = (index ≡ sets index₀ depthsBase (tak
 abbrev μ-loop : tie.MeasureT-loop
 μ-loop file index₀ n t₀ index t = n - t
 
--- src/lib.rt:92:9
 count-of-requires : tie.Need-count-of-requires Inv-loop μ-loop
 count-of-requires c κs = search needs
 
--- src/lib.rt:94:5
 loop-holds : tie.Need-loop-holds Inv-loop μ-loop
 loop-holds c = (refl, omega arith, c .count-of .ensures, refl)
 
--- src/lib.rt:95:13
 type-depth-requires : tie.Need-type-depth-requires Inv-loop μ-loop
 type-depth-requires c κs = let a = c .before .before .before .before .before .before .before in (indexed-so _ _ _ (take (c .before .before .loop .t) (depths (tablesOf (now (a .args .file))))) depthsBase (omega arith) (c .before .before .loop .inv .0) (a .pre .0), (omega (arith, c .before .before .loop .inv .2, c .before .loop-test .taken), a .pre .1))
 
--- src/lib.rt:96:29
 cast-index : tie.Need-cast-index Inv-loop μ-loop
 cast-index c = let a = c .before .before .before .before .before .before .before .before in omega (arith, depth-stored _ _ _ (a .pre .1) (a .pre .0 .long) _ _ (omega (arith, c .before .before .before .loop .inv .2, c .before .before .loop-test .taken)) (types-few _ _ (a .pre .0)) (c .before .before .before .loop .inv .0) (c .type-depth .ensures) .1)
 
--- src/lib.rt:96:15
 add-index : tie.Need-add-index Inv-loop μ-loop
 add-index c = let a = c .before .before .before .before .before .before .before .before in omega (arith, c .before .before .before .loop .inv .2, c .before .before .loop-test .taken, types-few _ _ (a .pre .0))
 
--- src/lib.rt:96:9
 mul-index : tie.Need-mul-index Inv-loop μ-loop
 mul-index c = let a = c .before .before .before .before .before .before .before .before in omega (arith, c .before .before .before .loop .inv .2, c .before .before .loop-test .taken, types-few _ _ (a .pre .0))
 
--- src/lib.rt:96:9
 slice-write-index : tie.Need-slice-write-index Inv-loop μ-loop
 slice-write-index c = let a = c .before .before .before .before .before .before .before .before in omega (arith, c .before .before .before .loop .inv .2, c .before .before .before .loop .inv .3, c .before .before .loop-test .taken, types-few _ _ (a .pre .0), a .pre .0 .long)
 
--- src/lib.rt:97:9
 add-t : tie.Need-add-t Inv-loop μ-loop
 add-t c = search needs
 
--- src/lib.rt:94:5
 loop-less : tie.Need-loop-less Inv-loop μ-loop
 loop-less c = omega arith
 
--- src/lib.rt:94:5
 loop-again : tie.Need-loop-again Inv-loop μ-loop
 loop-again c = let a = c .before .before .before .before .before .before .before .before in (depth-stored _ _ _ (a .pre .1) (a .pre .0 .long) _ _ (omega (arith, c .before .before .before .loop .inv .2, c .before .before .loop-test .taken)) (types-few _ _ (a .pre .0)) (c .before .before .before .loop .inv .0) (c .type-depth .ensures) .0, omega arith, c .before .before .before .loop .inv .2, simp length-set (c .before .before .before .loop .inv .3))
 
--- src/lib.rt:87:1
 same-length : tie.Need-same-length Inv-loop μ-loop
 same-length c = c .before .loop .inv .3
 
--- src/lib.rt:87:1
 returns : tie.Need-returns Inv-loop μ-loop
 returns c = let a = c .before .before .before .before .before .before in c .before .loop .inv .0 ∙ depths-done _ _ (a .pre .1) (c .before .loop .t) (omega (arith, c .before .loop .inv .2, c .loop-test .left))
 

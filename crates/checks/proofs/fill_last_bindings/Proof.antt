@@ -18,65 +18,50 @@ Inv-loop file index₀ names n k₀ index k = Written file index₀ index k
 abbrev μ-loop : tie.MeasureT-loop
 μ-loop file index₀ names n k₀ index k = n - k
 
--- src/lib.rt:198:9
 count-of-requires : tie.Need-count-of-requires Inv-loop μ-loop
 count-of-requires c κs = search needs
 
--- src/lib.rt:199:9
 count-of-requires-2 : tie.Need-count-of-requires-2 Inv-loop μ-loop
 count-of-requires-2 c κs = search needs
 
--- src/lib.rt:200:5
 clear-last-bindings-requires : tie.Need-clear-last-bindings-requires Inv-loop μ-loop
 clear-last-bindings-requires c κs =
     let a = c .before .before .before .before .before .before .before in
     (a .pre .0 .long, omega (arith, c .before .before .before .count-of .ensures, names-few _ _ (a .pre .0)))
 
--- src/lib.rt:202:5
 loop-holds : tie.Need-loop-holds Inv-loop μ-loop
 loop-holds c = written-none _ _ _ (c .before .before .before .before .before .before .count-of .result) (c .before .before .before .before .before .before .before .before .before .before .pre .0) (c .before .before .clear-last-bindings .ensures)
 
--- src/lib.rt:203:13
 binding-name-requires : tie.Need-binding-name-requires Inv-loop μ-loop
 binding-name-requires c κs = (c .before .before .loop .inv .indexed, omega (arith, c .before .before .before .before .before .before .before .count-of2 .ensures, c .before .loop-test .taken))
 
--- src/lib.rt:204:37
 add-index : tie.Need-add-index Inv-loop μ-loop
 add-index c = search needs
 
--- src/lib.rt:204:36
 cast-index : tie.Need-cast-index Inv-loop μ-loop
 cast-index c = omega (arith, c .before .before .before .before .before .before .before .before .count-of2 .ensures, c .before .before .loop-test .taken, bindings-few _ _ (c .before .before .before .loop .inv .indexed))
 
--- src/lib.rt:204:15
 add-index-2 : tie.Need-add-index-2 Inv-loop μ-loop
 add-index-2 c = omega (arith, name-few _ _ (c .before .before .before .before .before .before .before .before .before .before .before .before .before .before .pre .0) (c .before .before .before .before .before .before .before .before .before .before .before .before .before .before .pre .1) _ _ (omega (arith, c .before .before .before .before .before .before .before .before .count-of2 .ensures, c .before .before .loop-test .taken)) (c .binding-name .ensures))
 
--- src/lib.rt:204:9
 mul-index : tie.Need-mul-index Inv-loop μ-loop
 mul-index c = omega (arith, name-few _ _ (c .before .before .before .before .before .before .before .before .before .before .before .before .before .before .pre .0) (c .before .before .before .before .before .before .before .before .before .before .before .before .before .before .pre .1) _ _ (omega (arith, c .before .before .before .before .before .before .before .before .count-of2 .ensures, c .before .before .loop-test .taken)) (c .binding-name .ensures))
 
--- src/lib.rt:204:9
 slice-write-index : tie.Need-slice-write-index Inv-loop μ-loop
 slice-write-index c = omega (arith, c .before .before .before .loop .inv .indexed .long, name-few _ _ (c .before .before .before .before .before .before .before .before .before .before .before .before .before .before .pre .0) (c .before .before .before .before .before .before .before .before .before .before .before .before .before .before .pre .1) _ _ (omega (arith, c .before .before .before .before .before .before .before .before .count-of2 .ensures, c .before .before .loop-test .taken)) (c .binding-name .ensures))
 
--- src/lib.rt:205:9
 add-k : tie.Need-add-k Inv-loop μ-loop
 add-k c = search needs
 
--- src/lib.rt:202:5
 loop-less : tie.Need-loop-less Inv-loop μ-loop
 loop-less c = omega arith
 
--- src/lib.rt:202:5
 loop-again : tie.Need-loop-again Inv-loop μ-loop
 loop-again c = written-more _ _ _ _ (c .before .before .before .loop .inv) _ (omega (arith, c .before .before .before .before .before .before .before .before .count-of2 .ensures, c .before .before .loop-test .taken)) (c .binding-name .ensures)
 
--- src/lib.rt:193:1
 same-length : tie.Need-same-length Inv-loop μ-loop
 same-length c = c .before .loop .inv .indexed .long ∙ sym (c .before .before .before .before .before .before .before .before .before .before .before .before .pre .0 .long)
 
--- src/lib.rt:193:1
 returns : tie.Need-returns Inv-loop μ-loop
 returns c = written-all _ _ _ _ (c .before .loop .inv) (omega (arith, c .before .before .before .before .before .before .count-of2 .ensures, c .loop-test .left)) _ _ (c .before .before .before .before .before .before .before .before .count-of .ensures) (c .before .before .before .before .clear-last-bindings .ensures)
 

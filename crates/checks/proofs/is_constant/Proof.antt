@@ -8,19 +8,15 @@ use Rattle.checks.proofs.is_constant.Tie as tie
 use Rattle.checks.proofs.is_constant.Reads as reads
 use Rattle.checks.proofs.is_constant.Lts as lts
 
--- src/lib.rt:182:11
 add-result : tie.Need-add-result
 add-result c = let a = c in omega (arith, nodes-few _ _ (a .pre .0 .indexed), a .pre .1)
 
--- src/lib.rt:182:5
 mul-result : tie.Need-mul-result
 mul-result c = let a = c in omega (arith, nodes-few _ _ (a .pre .0 .indexed), a .pre .1)
 
--- src/lib.rt:182:5
 shared-slice-read-result : tie.Need-shared-slice-read-result
 shared-slice-read-result c = let a = c .before in omega (arith, nodes-few _ _ (a .pre .0 .indexed), a .pre .1, a .pre .0 .indexed .long)
 
--- src/lib.rt:177:1
 returns : tie.Need-returns
 returns c = let a = c .before in ap (λ (k : ℕ). eqb k 1) (a .pre .0 .constant-at _ (a .pre .1)) ∙ bit-true _
 

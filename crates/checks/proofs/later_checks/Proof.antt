@@ -12,47 +12,36 @@ use Rattle.checks.proofs.paths_fit.Reads as paths-fit-reads
 use Rattle.checks.proofs.types_shallow.Reads as types-shallow-reads
 use Rattle.numbers.proofs.types_distinct.Reads as types-distinct-reads
 
--- src/lib.rt:390:9
 types-distinct-requires : tie.Need-types-distinct-requires
 types-distinct-requires c κs = c .before .before .pre .filled .indexed
 
--- src/lib.rt:391:9
 returns : tie.Need-returns
 returns c = later-10 _ (sym (c .before .types-distinct .ensures) ∙ not-true _ (c .if1 .taken))
 
--- src/lib.rt:393:9
 types-shallow-requires : tie.Need-types-shallow-requires
 types-shallow-requires c κs = c .before .before .before .before .pre .filled
 
--- src/lib.rt:394:9
 returns-2 : tie.Need-returns-2
 returns-2 c = later-11 _ (sym (c .before .before .before .types-distinct .ensures) ∙ not-false _ (c .before .before .if1 .left)) (sym (c .before .types-shallow .ensures) ∙ not-true _ (c .if2 .taken))
 
--- src/lib.rt:396:9
 children-once-requires : tie.Need-children-once-requires
 children-once-requires c κs = (c .before .before .before .before .before .before .pre .filled .indexed, c .before .before .before .before .before .before .pre .lower)
 
--- src/lib.rt:397:9
 returns-3 : tie.Need-returns-3
 returns-3 c = later-12 _ (sym (c .before .before .before .before .before .types-distinct .ensures) ∙ not-false _ (c .before .before .before .before .if1 .left)) (sym (c .before .before .before .types-shallow .ensures) ∙ not-false _ (c .before .before .if2 .left)) (sym (c .before .children-once .ensures) ∙ not-true _ (c .if3 .taken))
 
--- src/lib.rt:399:9
 consts-constant-requires : tie.Need-consts-constant-requires
 consts-constant-requires c κs = c .before .before .before .before .before .before .before .before .pre
 
--- src/lib.rt:400:9
 returns-4 : tie.Need-returns-4
 returns-4 c = later-13 _ (sym (c .before .before .before .before .before .before .before .types-distinct .ensures) ∙ not-false _ (c .before .before .before .before .before .before .if1 .left)) (sym (c .before .before .before .before .before .types-shallow .ensures) ∙ not-false _ (c .before .before .before .before .if2 .left)) (sym (c .before .before .before .children-once .ensures) ∙ not-false _ (c .before .before .if3 .left)) (sym (c .before .consts-constant .ensures) ∙ not-true _ (c .if4 .taken))
 
--- src/lib.rt:402:9
 paths-fit-requires : tie.Need-paths-fit-requires
 paths-fit-requires c κs = c .before .before .before .before .before .before .before .before .before .before .pre
 
--- src/lib.rt:403:9
 returns-5 : tie.Need-returns-5
 returns-5 c = later-14 _ (sym (c .before .before .before .before .before .before .before .before .before .types-distinct .ensures) ∙ not-false _ (c .before .before .before .before .before .before .before .before .if1 .left)) (sym (c .before .before .before .before .before .before .before .types-shallow .ensures) ∙ not-false _ (c .before .before .before .before .before .before .if2 .left)) (sym (c .before .before .before .before .before .children-once .ensures) ∙ not-false _ (c .before .before .before .before .if3 .left)) (sym (c .before .before .before .consts-constant .ensures) ∙ not-false _ (c .before .before .if4 .left)) (sym (c .before .paths-fit .ensures) ∙ not-true _ (c .if5 .taken))
 
--- src/lib.rt:386:1
 returns-6 : tie.Need-returns-6
 returns-6 c = later-none _ (sym (c .before .before .before .before .before .before .before .before .before .types-distinct .ensures) ∙ not-false _ (c .before .before .before .before .before .before .before .before .if1 .left)) (sym (c .before .before .before .before .before .before .before .types-shallow .ensures) ∙ not-false _ (c .before .before .before .before .before .before .if2 .left)) (sym (c .before .before .before .before .before .children-once .ensures) ∙ not-false _ (c .before .before .before .before .if3 .left)) (sym (c .before .before .before .consts-constant .ensures) ∙ not-false _ (c .before .before .if4 .left)) (sym (c .before .paths-fit .ensures) ∙ not-false _ (c .if5 .left))
 

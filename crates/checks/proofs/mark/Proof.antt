@@ -7,23 +7,18 @@ use Rattle.checks.proofs.mark.Tie as tie
 use Rattle.checks.proofs.mark.Reads as reads
 use Rattle.checks.proofs.mark.Lts as lts
 
--- src/lib.rt:300:8
 slice-read-if1 : tie.Need-slice-read-if1
 slice-read-if1 c = search needs
 
--- src/lib.rt:301:9
 returns : tie.Need-returns
 returns c = (sym (met-again _ _ _ (c .if1 .taken) .0), sym (met-again _ _ _ (c .if1 .taken) .1))
 
--- src/lib.rt:303:5
 slice-write-marks : tie.Need-slice-write-marks
 slice-write-marks c = search needs
 
--- src/lib.rt:295:1
 same-length : tie.Need-same-length
 same-length c = search needs
 
--- src/lib.rt:295:1
 returns-2 : tie.Need-returns-2
 returns-2 c = (sym (first-met _ _ _ (c .if1 .left) .0 ∙ once-none _), sym (first-met _ _ _ (c .if1 .left) .1 ∙ marked-none _))
 

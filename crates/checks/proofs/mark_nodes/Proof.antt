@@ -24,15 +24,12 @@ Inv-loop file index marks₀ m n₀ marks n = (once marks₀ (concatMap childNod
 abbrev μ-loop : tie.MeasureT-loop
 μ-loop file index marks₀ m n₀ marks n = m - n
 
--- src/lib.rt:364:9
 count-of-requires : tie.Need-count-of-requires Inv-loop μ-loop
 count-of-requires c κs = (c .before .before .before .pre .0, omega arith)
 
--- src/lib.rt:366:5
 loop-holds : tie.Need-loop-holds Inv-loop μ-loop
 loop-holds c = (refl, refl, omega arith, c .count-of .ensures, refl)
 
--- src/lib.rt:367:13
 mark-children-requires : tie.Need-mark-children-requires Inv-loop μ-loop
 mark-children-requires c κs =
     let a = c .before .before .before .before .before .before .before in
@@ -40,37 +37,30 @@ mark-children-requires c κs =
     let h : l .n < length (tablesOf (now (a .args .file)) .nodes) = omega (arith, l .inv .3, c .before .loop-test .taken) in
     (a .pre .0, (h, child-marks _ (a .pre .1 .0) _ _ h (omega (arith, nodes-few _ _ (a .pre .0), l .inv .4, a .pre .1 .1))))
 
--- src/lib.rt:368:13
 same-length : tie.Need-same-length Inv-loop μ-loop
 same-length c = c .before .before .before .mark-children .kept .1 .1 .0 ∙ c .before .before .before .before .before .before .loop .inv .4
 
--- src/lib.rt:368:13
 returns : tie.Need-returns Inv-loop μ-loop
 returns c =
     let l = c .before .before .before .before .before .before .loop in
     let s = nodes-stop _ _ _ _ (omega (arith, l .inv .3, c .before .before .before .before .before .loop-test .taken)) (sym (c .before .before .before .mark-children .ensures .0) ∙ not-true _ (c .if1 .taken)) (c .before .before .before .mark-children .ensures .1) in
     (sym (l .inv .0 ∙ s .0), sym (l .inv .1 ∙ s .1))
 
--- src/lib.rt:370:9
 add-n : tie.Need-add-n Inv-loop μ-loop
 add-n c = search needs
 
--- src/lib.rt:366:5
 loop-less : tie.Need-loop-less Inv-loop μ-loop
 loop-less c = omega arith
 
--- src/lib.rt:366:5
 loop-again : tie.Need-loop-again Inv-loop μ-loop
 loop-again c =
     let l = c .before .before .before .before .before .before .loop in
     let s = nodes-on _ _ _ _ (omega (arith, l .inv .3, c .before .before .before .before .before .loop-test .taken)) (sym (c .before .before .before .mark-children .ensures .0) ∙ not-false _ (c .if1 .left)) (c .before .before .before .mark-children .ensures .1) in
     (l .inv .0 ∙ s .0, l .inv .1 ∙ s .1, omega arith, l .inv .3, c .before .before .before .mark-children .kept .1 .1 .0 ∙ l .inv .4)
 
--- src/lib.rt:357:1
 same-length-2 : tie.Need-same-length-2 Inv-loop μ-loop
 same-length-2 c = c .before .loop .inv .4
 
--- src/lib.rt:357:1
 returns-2 : tie.Need-returns-2 Inv-loop μ-loop
 returns-2 c =
     let l = c .before .loop in

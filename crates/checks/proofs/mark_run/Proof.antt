@@ -27,42 +27,33 @@ Inv-loop file marks₀ n p left₀ q₀ marks left q = (once marks₀ (run (word
 abbrev μ-loop : tie.MeasureT-loop
 μ-loop file marks₀ n p left₀ q₀ marks left q = left
 
--- src/lib.rt:316:5
 loop-holds : tie.Need-loop-holds Inv-loop μ-loop
 loop-holds c = (refl, refl, c .before .before .pre .0, c .before .before .pre .1, refl)
 
--- src/lib.rt:317:13
 word-at-requires : tie.Need-word-at-requires Inv-loop μ-loop
 word-at-requires c κs = words-first _ _ _ _ _ (c .before .loop .inv .2) (c .loop-test .taken)
 
--- src/lib.rt:318:13
 mark-requires : tie.Need-mark-requires Inv-loop μ-loop
 mark-requires c κs = omega (arith, run-low _ _ _ _ (c .before .before .loop-test .taken) _ (c .before .before .before .loop .inv .3) .0, c .before .word-at .ensures .0, c .before .before .before .loop .inv .4)
 
--- src/lib.rt:319:13
 same-length : tie.Need-same-length Inv-loop μ-loop
 same-length c = c .before .before .before .mark .kept .0 ∙ c .before .before .before .before .before .before .before .loop .inv .4
 
--- src/lib.rt:319:13
 returns : tie.Need-returns Inv-loop μ-loop
 returns c =
     let l = c .before .before .before .before .before .before .before .loop in
     let s = run-stop _ _ _ _ _ _ _ (c .before .before .before .before .before .before .loop-test .taken) (c .before .before .before .before .before .word-at .ensures .0) (sym (c .before .before .before .mark .ensures .0) ∙ not-true _ (c .if1 .taken)) (c .before .before .before .mark .ensures .1) in
     (sym (l .inv .0 ∙ s .0), sym (l .inv .1 ∙ s .1))
 
--- src/lib.rt:321:9
 add-q : tie.Need-add-q Inv-loop μ-loop
 add-q c = let x = c .before .before .before .before .before .before .before .loop .inv .2 in omega (arith, words-first _ _ _ _ _ x (c .before .before .before .before .before .before .loop-test .taken), x .small)
 
--- src/lib.rt:322:9
 sub-left : tie.Need-sub-left Inv-loop μ-loop
 sub-left c = search needs
 
--- src/lib.rt:316:5
 loop-less : tie.Need-loop-less Inv-loop μ-loop
 loop-less c = search needs
 
--- src/lib.rt:316:5
 loop-again : tie.Need-loop-again Inv-loop μ-loop
 loop-again c =
     let l = c .before .before .before .before .before .before .before .loop in
@@ -70,11 +61,9 @@ loop-again c =
     let s = run-on _ _ _ _ _ _ _ h (c .before .before .before .before .before .word-at .ensures .0) (sym (c .before .before .before .mark .ensures .0) ∙ not-false _ (c .if1 .left)) (c .before .before .before .mark .ensures .1) in
     (l .inv .0 ∙ s .0, l .inv .1 ∙ s .1, words-next _ _ _ _ _ (l .inv .2) h, run-low _ _ _ _ h _ (l .inv .3) .1, c .before .before .before .mark .kept .0 ∙ l .inv .4)
 
--- src/lib.rt:308:1
 same-length-2 : tie.Need-same-length-2 Inv-loop μ-loop
 same-length-2 c = c .before .loop .inv .4
 
--- src/lib.rt:308:1
 returns-2 : tie.Need-returns-2 Inv-loop μ-loop
 returns-2 c = let l = c .before .loop in let s = run-end _ _ (l .left) _ (l .marks) (l .marks) (omega arith) in (sym (l .inv .0 ∙ s .0), sym (l .inv .1 ∙ s .1))
 

@@ -12,20 +12,16 @@ use Rattle.checks.proofs.paths_fit.Lts as lts
 use Rattle.checks.proofs.fetched_fit.Reads as fetched-fit-reads
 use Rattle.checks.proofs.slots_fit.Reads as slots-fit-reads
 
--- src/lib.rt:288:9
 slots-fit-requires : tie.Need-slots-fit-requires
 slots-fit-requires c κs = search needs
 
--- src/lib.rt:289:9
 returns : tie.Need-returns
 unfolding pathsFit slotsFit
 returns c = sym (both-false _ _ (sym (c .before .slots-fit .ensures) ∙ not-true _ (c .if1 .taken)))
 
--- src/lib.rt:291:5
 fetched-fit-requires : tie.Need-fetched-fit-requires
 fetched-fit-requires c κs = c .before .before .before .before .pre .filled .indexed
 
--- src/lib.rt:284:1
 returns-2 : tie.Need-returns-2
 unfolding pathsFit slotsFit fetchedFit
 returns-2 c = c .fetched-fit .ensures ∙ sym (both-then _ _ (sym (c .before .before .slots-fit .ensures) ∙ not-false _ (c .before .if1 .left)))

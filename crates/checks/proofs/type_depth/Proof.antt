@@ -13,35 +13,27 @@ use Rattle.checks.proofs.type_depth.Lts as lts
 use Rattle.checks.proofs.deepest_of.Reads as deepest-of-reads
 use Rattle.views.proofs.type_at.Reads as type-at-reads
 
--- src/lib.rt:76:11
 type-at-requires : tie.Need-type-at-requires
 type-at-requires c κs = search needs
 
--- src/lib.rt:77:26
 enum-told : tie.Need-enum-told
 enum-told c = search needs
 
--- src/lib.rt:78:26
 enum-told-2 : tie.Need-enum-told-2
 enum-told-2 c = search needs
 
--- src/lib.rt:79:28
 enum-told-3 : tie.Need-enum-told-3
 enum-told-3 c = search needs
 
--- src/lib.rt:80:30
 enum-told-4 : tie.Need-enum-told-4
 enum-told-4 c = search needs
 
--- src/lib.rt:81:26
 enum-known-n : tie.Need-enum-known-n
 enum-known-n c = search needs
 
--- src/lib.rt:81:73
 add-deepest-of : tie.Need-add-deepest-of
 add-deepest-of c = let i = type-as (c .before .before .before .type-at .ensures) (c .before .n .given .1) .inside in omega (arith, i, c .before .before .before .before .before .before .pre .0 .small)
 
--- src/lib.rt:81:40
 deepest-of-requires : tie.Need-deepest-of-requires
 deepest-of-requires c κs =
     let a = c .before .before .before .before .before .before in
@@ -49,19 +41,15 @@ deepest-of-requires c κs =
     let e = c .before .n .given .1 in
     ((a .pre .0 .long, omega (arith, types-few _ _ (a .pre .0), a .pre .1 .0)), (words-4 _ (a .pre .0 .small) _ _ 2 2 (type-as s e .inside) (omega arith), lower-run _ _ _ (fields-are _ _ _ s _ _ e) (type-lower _ (a .pre .1 .1) _ (a .pre .1 .0))))
 
--- src/lib.rt:81:36
 add-result : tie.Need-add-result
 add-result c = omega (arith, c .deepest-of .ensures .1)
 
--- src/lib.rt:82:25
 enum-known-n-2 : tie.Need-enum-known-n-2
 enum-known-n-2 c = search needs
 
--- src/lib.rt:82:72
 add-deepest-of-2 : tie.Need-add-deepest-of-2
 add-deepest-of-2 c = let i = type-as (c .before .before .before .type-at .ensures) (c .before .n2 .given .1) .inside in omega (arith, i, c .before .before .before .before .before .before .pre .0 .small)
 
--- src/lib.rt:82:39
 deepest-of-requires-2 : tie.Need-deepest-of-requires-2
 deepest-of-requires-2 c κs =
     let a = c .before .before .before .before .before .before in
@@ -69,35 +57,28 @@ deepest-of-requires-2 c κs =
     let e = c .before .n2 .given .1 in
     ((a .pre .0 .long, omega (arith, types-few _ _ (a .pre .0), a .pre .1 .0)), (words-8 _ (a .pre .0 .small) _ _ 2 6 (type-as s e .inside) (omega arith), lower-run _ _ _ (alternatives-are _ _ _ s _ _ e) (type-lower _ (a .pre .1 .1) _ (a .pre .1 .0))))
 
--- src/lib.rt:82:35
 add-result-2 : tie.Need-add-result-2
 add-result-2 c = omega (arith, c .deepest-of2 .ensures .1)
 
--- src/lib.rt:70:1
 returns : tie.Need-returns
 unfolding depthOf childTypes deepest
 returns c = by-type (depthOf _) (c .before .before .type-at .ensures) (c .enum-told .given .1)
 
--- src/lib.rt:70:1
 returns-2 : tie.Need-returns-2
 unfolding depthOf childTypes deepest
 returns-2 c = by-type (depthOf _) (c .before .before .type-at .ensures) (c .enum-told2 .given .1)
 
--- src/lib.rt:70:1
 returns-3 : tie.Need-returns-3
 unfolding depthOf childTypes deepest
 returns-3 c = by-type (depthOf _) (c .before .before .type-at .ensures) (c .enum-told3 .given .1)
 
--- src/lib.rt:70:1
 returns-4 : tie.Need-returns-4
 unfolding depthOf childTypes deepest
 returns-4 c = by-type (depthOf _) (c .before .before .type-at .ensures) (c .enum-told4 .given .1)
 
--- src/lib.rt:70:1
 returns-5 : tie.Need-returns-5
 returns-5 c = depth-is _ _ _ _ (c .deepest-of .ensures .0) (fields-are _ _ _ (c .before .before .before .before .type-at .ensures) _ _ (c .before .before .n .given .1))
 
--- src/lib.rt:70:1
 returns-6 : tie.Need-returns-6
 returns-6 c = depth-is _ _ _ _ (c .deepest-of2 .ensures .0) (alternatives-are _ _ _ (c .before .before .before .before .type-at .ensures) _ _ (c .before .before .n2 .given .1))
 

@@ -9,38 +9,30 @@ use Rattle.checks.proofs.verify.Lts as lts
 use Rattle.checks.proofs.check.Reads as check-reads
 use Rattle.file.proofs.read.Reads as read-reads
 
--- src/lib.rt:433:11
 read-requires : tie.Need-read-requires
 read-requires c κs = search needs
 
--- src/lib.rt:434:38
 enum-told : tie.Need-enum-told
 enum-told c = search needs
 
--- src/lib.rt:434:26
 check-requires : tie.Need-check-requires
 check-requires c κs = c .before .before .before .before .before .read .ensures .1 .1 _ (c .before .enum-told .given .1)
 
--- src/lib.rt:435:23
 enum-known-x : tie.Need-enum-known-x
 enum-known-x c = search needs
 
--- src/lib.rt:427:1
 same-length : tie.Need-same-length
 same-length c = c .before .before .check .kept .1 .0 ∙ c .before .before .before .before .before .before .before .before .read .kept .1 .0
 
--- src/lib.rt:427:1
 returns : tie.Need-returns
 returns c =
     let r = c .before .before .before .before .before .before .before .before .read .ensures in
     let w = file-read _ _ _ _ (r .1 .1 _ (c .before .before .before .before .enum-told .given .1)) (r .1 .0) _ (c .before .before .check .ensures .0) (c .before .before .check .ensures .1 .0) in
     (w .0, (w .1, c .before .before .check .ensures .1 .1))
 
--- src/lib.rt:427:1
 same-length-2 : tie.Need-same-length-2
 same-length-2 c = c .before .before .before .before .before .read .kept .1 .0
 
--- src/lib.rt:427:1
 returns-2 : tie.Need-returns-2
 returns-2 c =
     let r = c .before .before .before .before .before .read .ensures in

@@ -15,27 +15,21 @@ Inv-loop bytes set₀ i₀ set i = bitsOf 0 bytes ≡ bitsOf set (drop i bytes)
 abbrev μ-loop : tie.MeasureT-loop
 μ-loop bytes set₀ i₀ set i = length bytes - i
 
--- src/lib.rt:38:5
 loop-holds : tie.Need-loop-holds Inv-loop μ-loop
 loop-holds c = refl
 
--- src/lib.rt:39:16
 shared-slice-read-set : tie.Need-shared-slice-read-set Inv-loop μ-loop
 shared-slice-read-set c = omega arith
 
--- src/lib.rt:40:9
 add-i : tie.Need-add-i Inv-loop μ-loop
 add-i c = omega arith
 
--- src/lib.rt:38:5
 loop-less : tie.Need-loop-less Inv-loop μ-loop
 loop-less c = omega arith
 
--- src/lib.rt:38:5
 loop-again : tie.Need-loop-again Inv-loop μ-loop
 loop-again c = c .before .before .loop .inv ∙ bits-more _ _ _ (c .before .loop-test .taken)
 
--- src/lib.rt:33:1
 returns : tie.Need-returns Inv-loop μ-loop
 returns c = sym (c .before .loop .inv ∙ bits-end _ _ _ (c .loop-test .left))
 

@@ -8,27 +8,21 @@ use Rattle.compile.proofs.clear.Lts as lts
 use Rattle.compile.proofs.bits.Reads as bits-reads
 use Rattle.compile.proofs.wipe.Reads as wipe-reads
 
--- src/lib.rt:59:8
 bits-requires : tie.Need-bits-requires
 bits-requires c κs = search needs
 
--- src/lib.rt:60:9
 wipe-requires : tie.Need-wipe-requires
 wipe-requires c κs = search needs
 
--- src/lib.rt:56:1
 same-length : tie.Need-same-length
 same-length c = search needs
 
--- src/lib.rt:56:1
 returns : tie.Need-returns
 returns c = search needs
 
--- src/lib.rt:56:1
 same-length-2 : tie.Need-same-length-2
 same-length-2 c = search needs
 
--- src/lib.rt:56:1
 returns-2 : tie.Need-returns-2
 returns-2 c = clean _ (sym (c .before .bits .ensures) ∙ c .if1 .left)
 

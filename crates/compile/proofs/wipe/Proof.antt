@@ -15,31 +15,24 @@ Inv-loop block₀ i₀ block i = (length block ≡ length block₀) × (zeroed b
 abbrev μ-loop : tie.MeasureT-loop
 μ-loop block₀ i₀ block i = length block - i
 
--- src/lib.rt:49:5
 loop-holds : tie.Need-loop-holds Inv-loop μ-loop
 loop-holds c = (refl, refl)
 
--- src/lib.rt:50:9
 slice-write-block : tie.Need-slice-write-block Inv-loop μ-loop
 slice-write-block c = omega arith
 
--- src/lib.rt:51:9
 add-i : tie.Need-add-i Inv-loop μ-loop
 add-i c = omega arith
 
--- src/lib.rt:49:5
 loop-less : tie.Need-loop-less Inv-loop μ-loop
 loop-less c = simp length-set (omega arith)
 
--- src/lib.rt:49:5
 loop-again : tie.Need-loop-again Inv-loop μ-loop
 loop-again c = (simp length-set (c .before .loop .inv .0), c .before .loop .inv .1 ∙ zero-more _ _ (c .loop-test .taken))
 
--- src/lib.rt:45:1
 same-length : tie.Need-same-length Inv-loop μ-loop
 same-length c = c .before .loop .inv .0
 
--- src/lib.rt:45:1
 returns : tie.Need-returns Inv-loop μ-loop
 returns c = sym (c .before .loop .inv .1 ∙ zero-end _ _ (c .loop-test .left))
 

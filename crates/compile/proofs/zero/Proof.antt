@@ -17,46 +17,36 @@ Inv-loop buf₀ from at₀ buf at = (length buf ≡ length buf₀) × (zeroed bu
 abbrev μ-loop : tie.MeasureT-loop
 μ-loop buf₀ from at₀ buf at = length buf - at
 
--- src/lib.rt:80:5
 loop-holds : tie.Need-loop-holds Inv-loop μ-loop
 loop-holds c = (refl, refl)
 
--- src/lib.rt:81:13
 block-end-requires : tie.Need-block-end-requires Inv-loop μ-loop
 block-end-requires c κs = c .loop-test .taken
 
--- src/lib.rt:82:15
 sub-clear : tie.Need-sub-clear Inv-loop μ-loop
 sub-clear c = omega (arith, c .block-end .ensures .0)
 
--- src/lib.rt:82:15
 part-clear-start : tie.Need-part-clear-start Inv-loop μ-loop
 part-clear-start c = omega (arith, c .block-end .ensures .0)
 
--- src/lib.rt:82:15
 part-clear-end : tie.Need-part-clear-end Inv-loop μ-loop
 part-clear-end c = c .block-end .ensures .1
 
--- src/lib.rt:82:9
 clear-requires : tie.Need-clear-requires Inv-loop μ-loop
 clear-requires c κs = tt
 
--- src/lib.rt:80:5
 loop-less : tie.Need-loop-less Inv-loop μ-loop
 loop-less c = let b = c .before .before .before .before .block-end .ensures in omega (arith, b .0, b .1, block-same _ _ _ _ (omega (arith, b .0)) (b .1) (c .before .before .clear .ensures))
 
--- src/lib.rt:80:5
 loop-again : tie.Need-loop-again Inv-loop μ-loop
 loop-again c =
     let b = c .before .before .before .before .block-end .ensures in
     let k = c .before .before .before .before .before .before .loop .inv in
     (block-same _ _ _ _ (omega (arith, b .0)) (b .1) (c .before .before .clear .ensures) ∙ k .0, k .1 ∙ block-more _ _ _ _ (omega (arith, b .0)) (b .1) (c .before .before .clear .ensures))
 
--- src/lib.rt:76:1
 same-length : tie.Need-same-length Inv-loop μ-loop
 same-length c = c .before .loop .inv .0
 
--- src/lib.rt:76:1
 returns : tie.Need-returns Inv-loop μ-loop
 returns c = sym (c .before .loop .inv .1 ∙ zero-end _ _ (c .loop-test .left))
 

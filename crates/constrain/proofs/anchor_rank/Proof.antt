@@ -5,19 +5,15 @@ use Rattle.constrain.proofs.anchor_rank.Tie as tie
 use Rattle.constrain.proofs.anchor_rank.Reads as reads
 use Rattle.constrain.proofs.anchor_rank.Lts as lts
 
--- src/lib.rt:134:27
 enum-told : tie.Need-enum-told
 enum-told c = search needs
 
--- src/lib.rt:135:26
 enum-told-2 : tie.Need-enum-told-2
 enum-told-2 c = search needs
 
--- src/lib.rt:130:1
 returns : tie.Need-returns
 returns c = prefix-last _ (c .enum-told .given .1)
 
--- src/lib.rt:130:1
 returns-2 : tie.Need-returns-2
 returns-2 c = whole-first _ (c .enum-told2 .given .1)
 

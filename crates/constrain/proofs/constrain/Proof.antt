@@ -14,60 +14,46 @@ use Rattle.step.proofs.Walk.constrained.Reads as constrained-reads
 use Rattle.step.proofs.Walk.placed.Reads as placed-reads
 use Rattle.seek.proofs.SeekBuilder.skip.Reads as skip-reads
 
--- src/lib.rt:229:8
 is-constrained-requires : tie.Need-is-constrained-requires
 is-constrained-requires c κs = search needs
 
--- src/lib.rt:230:13
 constrained-requires : tie.Need-constrained-requires
 constrained-requires c κs = search needs
 
--- src/lib.rt:231:13
 constrain-rank-requires : tie.Need-constrain-rank-requires
 constrain-rank-requires c κs = search needs
 
--- src/lib.rt:232:13
 constrain-rank-requires-2 : tie.Need-constrain-rank-requires-2
 constrain-rank-requires-2 c κs = c .before .before .before .before .before .before .before .before .before .before .before .before .before .before .before .before .before .before .before .pre
 
--- src/lib.rt:233:13
 constrain-rank-requires-3 : tie.Need-constrain-rank-requires-3
 constrain-rank-requires-3 c κs = c .before .before .before .before .before .before .before .before .before .before .before .before .before .before .before .before .before .before .before .before .before .before .before .before .before .before .pre
 
--- src/lib.rt:234:9
 constrain-rank-requires-4 : tie.Need-constrain-rank-requires-4
 constrain-rank-requires-4 c κs = c .before .before .before .before .before .before .before .before .before .before .before .before .before .before .before .before .before .before .before .before .before .before .before .before .before .before .before .before .before .before .before .before .before .pre
 
--- src/lib.rt:234:9
 same-length : tie.Need-same-length
 same-length c = c .before .before .before .before .constrain-rank4 .kept .1 .1 .0 ∙ c .before .before .before .before .before .before .before .before .before .before .before .constrain-rank3 .kept .1 .1 .0 ∙ c .before .before .before .before .before .before .before .before .before .before .before .before .before .before .before .before .before .before .constrain-rank2 .kept .1 .1 .0 ∙ c .before .before .before .before .before .before .before .before .before .before .before .before .before .before .before .before .before .before .before .before .before .before .before .before .before .constrain-rank .kept .1 .1 .0 ∙ c .before .before .before .before .before .before .before .before .before .before .before .before .before .before .before .before .before .before .before .before .before .before .before .before .before .before .before .before .before .before .constrained .kept .1 .0
 
--- src/lib.rt:234:9
 same-length-2 : tie.Need-same-length-2
 same-length-2 c = c .before .before .before .before .constrain-rank4 .kept .1 .1 .1 .0 ∙ c .before .before .before .before .before .before .before .before .before .before .before .constrain-rank3 .kept .1 .1 .1 .0 ∙ c .before .before .before .before .before .before .before .before .before .before .before .before .before .before .before .before .before .before .constrain-rank2 .kept .1 .1 .1 .0 ∙ c .before .before .before .before .before .before .before .before .before .before .before .before .before .before .before .before .before .before .before .before .before .before .before .before .before .constrain-rank .kept .1 .1 .1 .0
 
--- src/lib.rt:234:9
 returns : tie.Need-returns
 returns c =
     constrain-some _ _ _ _ (sym (c .before .before .before .before .before .before .before .before .before .before .before .before .before .before .before .before .before .before .before .before .before .before .before .before .before .before .before .before .before .before .before .before .before .is-constrained .ensures) ∙ c .before .before .before .before .before .before .before .before .before .before .before .before .before .before .before .before .before .before .before .before .before .before .before .before .before .before .before .before .before .before .before .before .if1 .taken) _ _ _ _ _ _ (c .before .before .before .before .before .before .before .before .before .before .before .before .before .before .before .before .before .before .before .before .before .before .before .before .before .before .before .before .before .before .constrained .ensures _ _) (c .before .before .before .before .before .before .before .before .before .before .before .before .before .before .before .before .before .before .before .before .before .before .before .before .before .constrain-rank .ensures) (c .before .before .before .before .before .before .before .before .before .before .before .before .before .before .before .before .before .before .constrain-rank2 .ensures) (c .before .before .before .before .before .before .before .before .before .before .before .constrain-rank3 .ensures) (c .before .before .before .before .constrain-rank4 .ensures)
 
--- src/lib.rt:236:9
 builder-requires : tie.Need-builder-requires
 builder-requires c κs = search needs
 
--- src/lib.rt:237:9
 bound-requires : tie.Need-bound-requires
 bound-requires c κs = search needs
 
--- src/lib.rt:238:5
 skip-requires : tie.Need-skip-requires
 skip-requires c κs = search needs
 
--- src/lib.rt:238:5
 placed-requires : tie.Need-placed-requires
 placed-requires c κs = search needs
 
--- src/lib.rt:215:1
 returns-2 : tie.Need-returns-2
 returns-2 c =
     constrain-none _ _ _ _ (sym (c .before .before .before .before .before .is-constrained .ensures) ∙ c .before .before .before .before .if1 .left) _ _

@@ -19,35 +19,27 @@ Inv-loop file index work₀ plan₀ name rank ty path n l₀ k₀ work plan l k 
 abbrev μ-loop : tie.MeasureT-loop
 μ-loop file index work₀ plan₀ name rank ty path n l₀ k₀ work plan l k = n - k
 
--- src/lib.rt:184:9
 count-of-requires : tie.Need-count-of-requires Inv-loop μ-loop
 count-of-requires c κs = (c .before .before .before .before .pre .0 .indexed, omega arith)
 
--- src/lib.rt:187:5
 loop-holds : tie.Need-loop-holds Inv-loop μ-loop
 loop-holds c = going-first _ _ _ _ _ _ _ _
 
--- src/lib.rt:188:13
 pattern-for-requires : tie.Need-pattern-for-requires Inv-loop μ-loop
 pattern-for-requires c κs = (c .before .before .before .before .before .before .before .pre .0 .indexed, omega (arith, c .loop-test .taken, c .before .before .count-of .ensures))
 
--- src/lib.rt:189:9
 add-k : tie.Need-add-k Inv-loop μ-loop
 add-k c = omega (arith, c .before .loop-test .taken)
 
--- src/lib.rt:190:26
 enum-known-found : tie.Need-enum-known-found Inv-loop μ-loop
 enum-known-found c = search needs
 
--- src/lib.rt:191:13
 narrow-or-report-requires : tie.Need-narrow-or-report-requires Inv-loop μ-loop
 narrow-or-report-requires c κs = c .before .before .before .before .before .before .before .before .before .before .before .before .before .pre
 
--- src/lib.rt:187:5
 loop-less : tie.Need-loop-less Inv-loop μ-loop
 loop-less c = omega (arith, c .before .before .before .before .before .before .before .before .before .before .before .loop-test .taken)
 
--- src/lib.rt:187:5
 loop-again : tie.Need-loop-again Inv-loop μ-loop
 loop-again c =
     going-one _ _ _ _ _ _ _ _ _ _ _ _ (c .before .before .before .before .before .before .before .before .before .before .before .before .loop .inv) (omega (arith, c .before .before .before .before .before .before .before .before .before .before .before .loop-test .taken, c .before .before .before .before .before .before .before .before .before .before .before .before .before .count-of .ensures)) _ (c .before .before .before .before .before .before .before .before .before .before .pattern-for .ensures) _ (c .before .before .before .before .before .before .before .before .found .given .1) _ (c .before .before .before .before .narrow-or-report .ensures) _ _
@@ -56,23 +48,18 @@ loop-again c =
 enum-told : tie.Need-enum-told Inv-loop μ-loop
 enum-told c = search needs
 
--- src/lib.rt:187:5
 loop-less-2 : tie.Need-loop-less-2 Inv-loop μ-loop
 loop-less-2 c = omega (arith, c .before .before .before .loop-test .taken)
 
--- src/lib.rt:187:5
 loop-again-2 : tie.Need-loop-again-2 Inv-loop μ-loop
 loop-again-2 c = going-not _ _ _ _ _ _ _ _ _ _ _ _ (c .before .before .before .before .loop .inv) (omega (arith, c .before .before .before .loop-test .taken, c .before .before .before .before .before .count-of .ensures)) _ (c .before .before .pattern-for .ensures) (c .enum-told .given .1)
 
--- src/lib.rt:169:1
 same-length : tie.Need-same-length Inv-loop μ-loop
 same-length c = c .before .loop .inv .work-long
 
--- src/lib.rt:169:1
 same-length-2 : tie.Need-same-length-2 Inv-loop μ-loop
 same-length-2 c = c .before .loop .inv .plan-long
 
--- src/lib.rt:169:1
 returns : tie.Need-returns Inv-loop μ-loop
 returns c = going-end _ _ _ _ _ _ _ _ _ _ _ _ (c .before .loop .inv) (omega (arith, c .loop-test .left, c .before .before .count-of .ensures))
 

@@ -16,35 +16,27 @@ Inv-loop file index name n k₀ k = Seeking (tablesOf file) name k
 abbrev μ-loop : tie.MeasureT-loop
 μ-loop file index name n k₀ k = n - k
 
--- src/lib.rt:202:9
 count-of-requires : tie.Need-count-of-requires Inv-loop μ-loop
 count-of-requires c κs = search needs
 
--- src/lib.rt:204:5
 loop-holds : tie.Need-loop-holds Inv-loop μ-loop
 loop-holds c = seek-first _ _
 
--- src/lib.rt:205:13
 constraint-at-requires : tie.Need-constraint-at-requires Inv-loop μ-loop
 constraint-at-requires c κs = (c .before .before .before .before .before .pre, omega (arith, c .loop-test .taken, c .before .before .count-of .ensures))
 
--- src/lib.rt:207:13
 returns : tie.Need-returns Inv-loop μ-loop
 returns c = seek-hit _ _ _ (c .before .before .before .before .loop .inv) (omega (arith, c .before .before .before .loop-test .taken, c .before .before .before .before .before .count-of .ensures)) _ (c .before .before .constraint-at .ensures) (c .if1 .taken)
 
--- src/lib.rt:209:9
 add-k : tie.Need-add-k Inv-loop μ-loop
 add-k c = omega arith
 
--- src/lib.rt:204:5
 loop-less : tie.Need-loop-less Inv-loop μ-loop
 loop-less c = omega (arith, c .before .before .before .loop-test .taken)
 
--- src/lib.rt:204:5
 loop-again : tie.Need-loop-again Inv-loop μ-loop
 loop-again c = seek-more _ _ _ (c .before .before .before .before .loop .inv) (omega (arith, c .before .before .before .loop-test .taken, c .before .before .before .before .before .count-of .ensures)) _ (c .before .before .constraint-at .ensures) (c .if1 .left)
 
--- src/lib.rt:198:1
 returns-2 : tie.Need-returns-2 Inv-loop μ-loop
 returns-2 c = seek-end _ _ _ (c .before .loop .inv) (omega (arith, c .loop-test .left, c .before .before .count-of .ensures))
 

@@ -7,31 +7,24 @@ use Rattle.constrain.proofs.narrow_or_report.Lts as lts
 use Rattle.constrain.proofs.narrow.Reads as narrow-reads
 use Rattle.step.proofs.Walk.diagnose.Reads as diagnose-reads
 
--- src/lib.rt:98:9
 narrow-requires : tie.Need-narrow-requires
 narrow-requires c κs = search needs
 
--- src/lib.rt:101:9
 same-length : tie.Need-same-length
 same-length c = search needs
 
--- src/lib.rt:101:9
 returns : tie.Need-returns
 returns c = or-yes _ _ _ _ _ _ _ (c .before .before .before .before .narrow .ensures _) (c .if1 .taken) _
 
--- src/lib.rt:103:5
 diagnose-requires : tie.Need-diagnose-requires
 diagnose-requires c κs = search needs
 
--- src/lib.rt:83:1
 same-length-2 : tie.Need-same-length-2
 same-length-2 c = search needs
 
--- src/lib.rt:83:1
 same-length-3 : tie.Need-same-length-3
 same-length-3 c = search needs
 
--- src/lib.rt:83:1
 returns-2 : tie.Need-returns-2
 returns-2 c = or-no _ _ _ _ _ _ _ (c .before .before .before .before .before .before .before .before .narrow .ensures _) (c .before .before .before .before .if1 .left) _ _ (c .before .before .diagnose .ensures _ _)
 

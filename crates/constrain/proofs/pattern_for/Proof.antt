@@ -7,23 +7,18 @@ use Rattle.constrain.proofs.pattern_for.Lts as lts
 use Rattle.constrain.proofs.rank_of.Reads as rank-of-reads
 use Rattle.views.proofs.constraint_at.Reads as constraint-at-reads
 
--- src/lib.rt:157:9
 constraint-at-requires : tie.Need-constraint-at-requires
 constraint-at-requires c κs = search needs
 
--- src/lib.rt:159:9
 returns : tie.Need-returns
 returns c = not-named _ _ _ _ _ (c .before .before .constraint-at .ensures) (c .if1 .taken)
 
--- src/lib.rt:161:8
 rank-of-requires : tie.Need-rank-of-requires
 rank-of-requires c κs = search needs
 
--- src/lib.rt:152:1
 returns-2 : tie.Need-returns-2
 returns-2 c = of-rank _ _ _ _ _ (c .before .before .before .before .constraint-at .ensures) (c .before .before .if1 .left) _ (c .before .rank-of .ensures) (c .if2 .taken)
 
--- src/lib.rt:152:1
 returns-3 : tie.Need-returns-3
 returns-3 c = not-of-rank _ _ _ _ _ (c .before .before .before .before .constraint-at .ensures) (c .before .before .if1 .left) _ (c .before .rank-of .ensures) (c .if2 .left)
 

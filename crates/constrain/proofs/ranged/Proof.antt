@@ -6,19 +6,15 @@ use Rattle.constrain.proofs.ranged.Reads as reads
 use Rattle.constrain.proofs.ranged.Lts as lts
 use Rattle.constrain.proofs.narrow_or_report.Reads as narrow-or-report-reads
 
--- src/lib.rt:126:5
 narrow-or-report-requires : tie.Need-narrow-or-report-requires
 narrow-or-report-requires c κs = search needs
 
--- src/lib.rt:112:1
 same-length : tie.Need-same-length
 same-length c = search needs
 
--- src/lib.rt:112:1
 same-length-2 : tie.Need-same-length-2
 same-length-2 c = search needs
 
--- src/lib.rt:112:1
 returns : tie.Need-returns
 returns c = ranged-is _ _ _ _ _ _ (c .before .before .before .before .narrow-or-report .ensures)
 

@@ -7,31 +7,24 @@ use Rattle.constrain.proofs.rank_of.Lts as lts
 use Rattle.constrain.proofs.anchor_rank.Reads as anchor-rank-reads
 use Rattle.entries.proofs.node_of.Reads as node-of-reads
 
--- src/lib.rt:144:11
 node-of-requires : tie.Need-node-of-requires
 node-of-requires c κs = search needs
 
--- src/lib.rt:145:32
 enum-told : tie.Need-enum-told
 enum-told c = search needs
 
--- src/lib.rt:146:31
 enum-known-a : tie.Need-enum-known-a
 enum-known-a c = search needs
 
--- src/lib.rt:146:37
 anchor-rank-requires : tie.Need-anchor-rank-requires
 anchor-rank-requires c κs = search needs
 
--- src/lib.rt:140:1
 returns : tie.Need-returns
 returns c = rank-prefix _ _ _ (c .before .before .node-of .ensures) _ (c .enum-told .given .1)
 
--- src/lib.rt:140:1
 returns-2 : tie.Need-returns-2
 returns-2 c = rank-fuzzy _ _ _ (c .before .before .before .before .node-of .ensures) _ _ _ _ (c .before .before .a .given .1) (c .anchor-rank .ensures)
 
--- src/lib.rt:140:1
 returns-3 : tie.Need-returns-3
 returns-3 c = rank-other _ _ _ (c .before .node-of .ensures) (c .match .keys3)
 

@@ -8,19 +8,15 @@ use Rattle.entries.proofs.node_of.Lts as lts
 use Rattle.views.proofs.count_of.Reads as count-of-reads
 use Rattle.views.proofs.node_at.Reads as node-at-reads
 
--- src/lib.rt:35:12
 count-of-requires : tie.Need-count-of-requires
 count-of-requires c κs = search needs
 
--- src/lib.rt:36:9
 node-at-requires : tie.Need-node-at-requires
 node-at-requires c κs = search needs
 
--- src/lib.rt:31:1
 returns : tie.Need-returns
 returns c = search needs
 
--- src/lib.rt:31:1
 returns-2 : tie.Need-returns-2
 returns-2 c = past-nodes _ _ _ (omega (arith, c .if1 .left, c .before .count-of .ensures))
 

@@ -9,23 +9,18 @@ use Rattle.file.proofs.wide16.Reads as wide16-reads
 use Rattle.views.proofs.count_of.Reads as count-of-reads
 use Rattle.views.proofs.predicate_at.Reads as predicate-at-reads
 
--- src/lib.rt:46:9
 wide16-requires : tie.Need-wide16-requires
 wide16-requires c κs = search needs
 
--- src/lib.rt:47:12
 count-of-requires : tie.Need-count-of-requires
 count-of-requires c κs = search needs
 
--- src/lib.rt:48:9
 predicate-at-requires : tie.Need-predicate-at-requires
 predicate-at-requires c κs = (c .before .before .before .before .before .pre, omega (arith, c .if1 .taken, c .before .count-of .ensures, c .before .before .wide16 .ensures))
 
--- src/lib.rt:42:1
 returns : tie.Need-returns
 returns c = search needs
 
--- src/lib.rt:42:1
 returns-2 : tie.Need-returns-2
 returns-2 c = past-predicates _ _ (omega (arith, c .if1 .left, c .before .count-of .ensures, c .before .before .wide16 .ensures))
 

@@ -8,19 +8,15 @@ use Rattle.entries.proofs.type_of.Lts as lts
 use Rattle.views.proofs.count_of.Reads as count-of-reads
 use Rattle.views.proofs.type_at.Reads as type-at-reads
 
--- src/lib.rt:24:12
 count-of-requires : tie.Need-count-of-requires
 count-of-requires c κs = search needs
 
--- src/lib.rt:25:9
 type-at-requires : tie.Need-type-at-requires
 type-at-requires c κs = search needs
 
--- src/lib.rt:20:1
 returns : tie.Need-returns
 returns c = search needs
 
--- src/lib.rt:20:1
 returns-2 : tie.Need-returns-2
 returns-2 c = past-types _ _ _ (omega (arith, c .if1 .left, c .before .count-of .ensures))
 

@@ -6,15 +6,12 @@ use Rattle.file.proofs.base.Tie as tie
 use Rattle.file.proofs.base.Reads as reads
 use Rattle.file.proofs.base.Lts as lts
 
--- src/lib.rt:275:5
 mul-result : tie.Need-mul-result
 mul-result c = search needs
 
--- src/lib.rt:275:5
 array-read-result : tie.Need-array-read-result
 array-read-result c = search needs
 
--- src/lib.rt:271:1
 returns : tie.Need-returns
 unfolding baseOf
 returns c = refl

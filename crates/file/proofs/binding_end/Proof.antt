@@ -8,23 +8,18 @@ use Rattle.file.proofs.binding_end.Reads as reads
 use Rattle.file.proofs.binding_end.Lts as lts
 use Rattle.file.proofs.slot_end.Reads as slot-end-reads
 
--- src/lib.rt:200:8
 sub-if1 : tie.Need-sub-if1
 sub-if1 c = search needs
 
--- src/lib.rt:201:9
 returns : tie.Need-returns
 returns c = sym (binding-cut _ _ (omega arith) (omega arith))
 
--- src/lib.rt:203:20
 add-slot-end : tie.Need-add-slot-end
 add-slot-end c = search needs
 
--- src/lib.rt:203:5
 slot-end-requires : tie.Need-slot-end-requires
 slot-end-requires c κs = search needs
 
--- src/lib.rt:196:1
 returns-2 : tie.Need-returns-2
 returns-2 c = c .slot-end .ensures ∙ sym (binding-in _ _ (omega arith))
 

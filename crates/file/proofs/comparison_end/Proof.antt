@@ -8,27 +8,21 @@ use Rattle.file.proofs.comparison_end.Reads as reads
 use Rattle.file.proofs.comparison_end.Lts as lts
 use Rattle.file.proofs.fixed.Reads as fixed-reads
 
--- src/lib.rt:211:9
 returns : tie.Need-returns
 returns c = sym (comparison-cut _ _ (omega arith))
 
--- src/lib.rt:213:8
 shared-slice-read-if2 : tie.Need-shared-slice-read-if2
 shared-slice-read-if2 c = search needs
 
--- src/lib.rt:214:9
 returns-2 : tie.Need-returns-2
 returns-2 c = sym (comparison-bad _ _ _ (omega arith) refl (omega arith))
 
--- src/lib.rt:216:20
 add-fixed : tie.Need-add-fixed
 add-fixed c = search needs
 
--- src/lib.rt:216:5
 fixed-requires : tie.Need-fixed-requires
 fixed-requires c κs = search needs
 
--- src/lib.rt:206:1
 returns-3 : tie.Need-returns-3
 returns-3 c = c .fixed .ensures ∙ sym (comparison-in _ _ _ (omega arith) refl (omega arith))
 

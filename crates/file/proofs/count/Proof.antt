@@ -10,27 +10,21 @@ use Rattle.file.proofs.count.Lts as lts
 use Rattle.file.proofs.limit.Reads as limit-reads
 use Rattle.file.proofs.word_at.Reads as word-at-reads
 
--- src/lib.rt:283:8
 sub-if1 : tie.Need-sub-if1
 sub-if1 c = search needs
 
--- src/lib.rt:284:9
 returns : tie.Need-returns
 returns c = sym (count-cut _ _ _ (omega arith) (omega arith))
 
--- src/lib.rt:286:9
 word-at-requires : tie.Need-word-at-requires
 word-at-requires c κs = search needs
 
--- src/lib.rt:287:12
 limit-requires : tie.Need-limit-requires
 limit-requires c κs = search needs
 
--- src/lib.rt:288:9
 returns-2 : tie.Need-returns-2
 returns-2 c = sym (count-over _ _ _ (omega arith) (omega arith))
 
--- src/lib.rt:279:1
 returns-3 : tie.Need-returns-3
 returns-3 c = let w = c .before .before .word-at .ensures .0 in ap Next w ∙ sym (count-in _ _ _ (omega arith) (omega arith))
 

@@ -9,43 +9,34 @@ use Rattle.file.proofs.fetched_end.Lts as lts
 use Rattle.file.proofs.fixed.Reads as fixed-reads
 use Rattle.file.proofs.path_end.Reads as path-end-reads
 
--- src/lib.rt:170:8
 sub-if1 : tie.Need-sub-if1
 sub-if1 c = search needs
 
--- src/lib.rt:171:9
 returns : tie.Need-returns
 returns c = sym (fetched-cut _ _ (omega arith) (omega arith))
 
--- src/lib.rt:173:26
 add-path-end : tie.Need-add-path-end
 add-path-end c = search needs
 
--- src/lib.rt:173:11
 path-end-requires : tie.Need-path-end-requires
 path-end-requires c κs = search needs
 
--- src/lib.rt:174:20
 enum-known-q : tie.Need-enum-known-q
 enum-known-q c = search needs
 
--- src/lib.rt:174:26
 fixed-requires : tie.Need-fixed-requires
 fixed-requires c κs =
     let e = sym (c .before .before .before .path-end .ensures) ∙ c .before .q .given .1 in
     omega (arith, path-within _ _ _ (omega arith) e)
 
--- src/lib.rt:175:23
 enum-known-x : tie.Need-enum-known-x
 enum-known-x c = search needs
 
--- src/lib.rt:166:1
 returns-2 : tie.Need-returns-2
 returns-2 c =
     let e = sym (c .before .before .before .before .path-end .ensures) ∙ c .before .before .q .given .1 in
     c .fixed .ensures ∙ sym (fetched-in _ _ _ (omega arith) e)
 
--- src/lib.rt:166:1
 returns-3 : tie.Need-returns-3
 returns-3 c =
     let e = sym (c .before .before .before .path-end .ensures) ∙ c .before .x .given .1 in

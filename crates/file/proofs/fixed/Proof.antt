@@ -7,19 +7,15 @@ use Rattle.file.proofs.fixed.Tie as tie
 use Rattle.file.proofs.fixed.Reads as reads
 use Rattle.file.proofs.fixed.Lts as lts
 
--- src/lib.rt:58:13
 sub-if1 : tie.Need-sub-if1
 sub-if1 c = search needs
 
--- src/lib.rt:59:20
 add-t8 : tie.Need-add-t8
 add-t8 c = search needs
 
--- src/lib.rt:54:1
 returns : tie.Need-returns
 returns c = sym (fixed-in _ _ _ (fixed-bytes _) (omega arith))
 
--- src/lib.rt:54:1
 returns-2 : tie.Need-returns-2
 returns-2 c = sym (cut-short _ _ _ (needs-fixed _ (fixed-bytes _)) (omega arith) (omega arith))
 

@@ -7,31 +7,24 @@ use Rattle.file.proofs.fuzzy_end.Tie as tie
 use Rattle.file.proofs.fuzzy_end.Reads as reads
 use Rattle.file.proofs.fuzzy_end.Lts as lts
 
--- src/lib.rt:123:8
 sub-if1 : tie.Need-sub-if1
 sub-if1 c = search needs
 
--- src/lib.rt:124:9
 returns : tie.Need-returns
 returns c = sym (fuzzy-cut _ _ (omega arith) (omega arith))
 
--- src/lib.rt:126:13
 add-if2 : tie.Need-add-if2
 add-if2 c = search needs
 
--- src/lib.rt:126:8
 shared-slice-read-if2 : tie.Need-shared-slice-read-if2
 shared-slice-read-if2 c = search needs
 
--- src/lib.rt:127:9
 returns-2 : tie.Need-returns-2
 returns-2 c = sym (fuzzy-bad _ _ (omega arith) (omega arith))
 
--- src/lib.rt:129:16
 add-t4 : tie.Need-add-t4
 add-t4 c = search needs
 
--- src/lib.rt:119:1
 returns-3 : tie.Need-returns-3
 returns-3 c = sym (fuzzy-in _ _ (omega arith) (omega arith))
 

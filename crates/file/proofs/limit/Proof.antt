@@ -6,15 +6,12 @@ use Rattle.file.proofs.limit.Tie as tie
 use Rattle.file.proofs.limit.Reads as reads
 use Rattle.file.proofs.limit.Lts as lts
 
--- src/lib.rt:267:5
 mul-result : tie.Need-mul-result
 mul-result c = search needs
 
--- src/lib.rt:267:5
 array-read-result : tie.Need-array-read-result
 array-read-result c = search needs
 
--- src/lib.rt:263:1
 returns : tie.Need-returns
 unfolding limitOf
 returns c = refl

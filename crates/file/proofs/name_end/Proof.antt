@@ -19,55 +19,42 @@ Inv-loop file at left₀ p₀ left p = (stepAt file name at ≡ stepAt file (man
 abbrev μ-loop : tie.MeasureT-loop
 μ-loop file at left₀ p₀ left p = left
 
--- src/lib.rt:82:9
 returns : tie.Need-returns Inv-loop μ-loop
 returns c = sym (name-cut _ _ (omega arith))
 
--- src/lib.rt:84:25
 shared-slice-read-wide : tie.Need-shared-slice-read-wide Inv-loop μ-loop
 shared-slice-read-wide c = search needs
 
--- src/lib.rt:84:9
 wide-requires : tie.Need-wide-requires Inv-loop μ-loop
 wide-requires c κs = search needs
 
--- src/lib.rt:85:17
 add-p : tie.Need-add-p Inv-loop μ-loop
 add-p c = search needs
 
--- src/lib.rt:86:5
 loop-holds : tie.Need-loop-holds Inv-loop μ-loop
 loop-holds c = (name-in _ _ _ (omega arith) (omega arith), omega arith)
 
--- src/lib.rt:88:13
 returns-2 : tie.Need-returns-2 Inv-loop μ-loop
 returns-2 c = sym (c .before .before .loop .inv .0 ∙ many-fault _ _ _ _ _ (omega arith) (char-cut _ _ (omega arith)))
 
--- src/lib.rt:90:12
 shared-slice-read-if3 : tie.Need-shared-slice-read-if3 Inv-loop μ-loop
 shared-slice-read-if3 c = search needs
 
--- src/lib.rt:91:13
 returns-3 : tie.Need-returns-3 Inv-loop μ-loop
 returns-3 c = sym (c .before .before .before .before .loop .inv .0 ∙ many-fault _ _ _ _ _ (omega arith) (char-bad _ _ (omega arith) (omega arith)))
 
--- src/lib.rt:93:9
 add-p-2 : tie.Need-add-p-2 Inv-loop μ-loop
 add-p-2 c = search needs
 
--- src/lib.rt:94:9
 sub-left : tie.Need-sub-left Inv-loop μ-loop
 sub-left c = search needs
 
--- src/lib.rt:86:5
 loop-less : tie.Need-loop-less Inv-loop μ-loop
 loop-less c = omega arith
 
--- src/lib.rt:86:5
 loop-again : tie.Need-loop-again Inv-loop μ-loop
 loop-again c = (c .before .before .before .before .loop .inv .0 ∙ many-more _ _ _ _ _ _ (omega arith) (char-good _ _ (omega arith) (omega arith)), omega arith)
 
--- src/lib.rt:77:1
 returns-4 : tie.Need-returns-4 Inv-loop μ-loop
 returns-4 c = sym (c .before .loop .inv .0 ∙ many-none _ _ _ _ (omega arith) (omega arith))
 

@@ -11,75 +11,57 @@ use Rattle.file.proofs.fuzzy_end.Reads as fuzzy-end-reads
 use Rattle.file.proofs.repeated.Reads as repeated-reads
 use Rattle.file.proofs.wide.Reads as wide-reads
 
--- src/lib.rt:137:9
 returns : tie.Need-returns
 returns c = sym (node-cut _ _ (omega arith))
 
--- src/lib.rt:139:18
 shared-slice-read-wide : tie.Need-shared-slice-read-wide
 shared-slice-read-wide c = search needs
 
--- src/lib.rt:139:9
 wide-requires : tie.Need-wide-requires
 wide-requires c κs = search needs
 
--- src/lib.rt:141:9
 returns-2 : tie.Need-returns-2
 returns-2 c = sym (node-bad _ _ (c .before .wide .result) (omega arith) (omega arith) (omega arith))
 
--- src/lib.rt:144:34
 add-repeated : tie.Need-add-repeated
 add-repeated c = search needs
 
--- src/lib.rt:144:9
 repeated-requires : tie.Need-repeated-requires
 repeated-requires c κs = search needs
 
--- src/lib.rt:144:9
 returns-3 : tie.Need-returns-3
 returns-3 c = c .repeated .ensures ∙ sym (node-bytes _ _ (c .before .before .before .wide .result) (omega arith) (omega arith) (omega arith))
 
--- src/lib.rt:147:32
 add-fuzzy-end : tie.Need-add-fuzzy-end
 add-fuzzy-end c = search needs
 
--- src/lib.rt:147:9
 fuzzy-end-requires : tie.Need-fuzzy-end-requires
 fuzzy-end-requires c κs = search needs
 
--- src/lib.rt:147:9
 returns-4 : tie.Need-returns-4
 returns-4 c = c .fuzzy-end .ensures ∙ sym (node-fuzzy _ _ (c .before .before .before .before .wide .result) (omega arith) (omega arith) (omega arith))
 
--- src/lib.rt:150:34
 add-repeated-2 : tie.Need-add-repeated-2
 add-repeated-2 c = search needs
 
--- src/lib.rt:150:9
 repeated-requires-2 : tie.Need-repeated-requires-2
 repeated-requires-2 c κs = search needs
 
--- src/lib.rt:150:9
 returns-5 : tie.Need-returns-5
 returns-5 c = c .repeated2 .ensures ∙ sym (node-record _ _ (c .before .before .before .before .before .wide .result) (omega arith) (omega arith) (omega arith))
 
--- src/lib.rt:152:17
 mul-fixed : tie.Need-mul-fixed
 mul-fixed c = search needs
 
--- src/lib.rt:152:17
 array-read-fixed : tie.Need-array-read-fixed
 array-read-fixed c = search needs
 
--- src/lib.rt:152:32
 add-fixed : tie.Need-add-fixed
 add-fixed c = search needs
 
--- src/lib.rt:152:5
 fixed-requires : tie.Need-fixed-requires
 fixed-requires c κs = omega (arith, node-small (c .before .before .before .before .wide .result))
 
--- src/lib.rt:132:1
 returns-6 : tie.Need-returns-6
 returns-6 c = c .fixed .ensures ∙ sym (node-plain _ _ (c .before .before .before .before .before .wide .result) (omega arith) (omega arith) (omega arith) (omega arith) (omega arith) (omega arith))
 

@@ -8,23 +8,18 @@ use Rattle.file.proofs.path_end.Reads as reads
 use Rattle.file.proofs.path_end.Lts as lts
 use Rattle.file.proofs.repeated.Reads as repeated-reads
 
--- src/lib.rt:159:8
 sub-if1 : tie.Need-sub-if1
 sub-if1 c = search needs
 
--- src/lib.rt:160:9
 returns : tie.Need-returns
 returns c = sym (path-cut _ _ (omega arith) (omega arith))
 
--- src/lib.rt:162:23
 add-repeated : tie.Need-add-repeated
 add-repeated c = search needs
 
--- src/lib.rt:162:5
 repeated-requires : tie.Need-repeated-requires
 repeated-requires c κs = search needs
 
--- src/lib.rt:155:1
 returns-2 : tie.Need-returns-2
 returns-2 c = c .repeated .ensures ∙ sym (path-in _ _ (omega arith))
 

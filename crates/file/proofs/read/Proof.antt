@@ -22,28 +22,22 @@ Inv-loop file index₀ p₀ s₀ index p s = (stepAt file Read.file 0 ≡ stepAt
 abbrev μ-loop : tie.MeasureT-loop
 μ-loop file index₀ p₀ s₀ index p s = 10 - s
 
--- src/lib.rt:317:5
 loop-holds : tie.Need-loop-holds Inv-loop μ-loop
 unfolding indexOf
 loop-holds c = (file-sections _, refl, omega arith, omega arith, refl)
 
--- src/lib.rt:318:15
 section-requires : tie.Need-section-requires Inv-loop μ-loop
 section-requires c κs = search needs
 
--- src/lib.rt:319:24
 enum-known-q : tie.Need-enum-known-q Inv-loop μ-loop
 enum-known-q c = search needs
 
--- src/lib.rt:321:17
 add-s : tie.Need-add-s Inv-loop μ-loop
 add-s c = search needs
 
--- src/lib.rt:317:5
 loop-less : tie.Need-loop-less Inv-loop μ-loop
 loop-less c = search needs
 
--- src/lib.rt:317:5
 loop-again : tie.Need-loop-again Inv-loop μ-loop
 loop-again c =
     let d = c .before .before .before .before .before in
@@ -56,15 +50,12 @@ loop-again c =
       d .section .kept .1 .0 ∙ l .loop .inv .4,
     )
 
--- src/lib.rt:323:27
 enum-known-x : tie.Need-enum-known-x Inv-loop μ-loop
 enum-known-x c = search needs
 
--- src/lib.rt:324:17
 same-length : tie.Need-same-length Inv-loop μ-loop
 same-length c = search needs
 
--- src/lib.rt:324:17
 returns : tie.Need-returns Inv-loop μ-loop
 returns c =
     let d = c .before .before .before .before .before in
@@ -74,21 +65,17 @@ returns c =
       (sym (l .loop .inv .1 ∙ filled-fault _ _ _ _ _ _ (omega arith) e ∙ sym (d .section .ensures .1)), λ q g. absurd (refused-next g)),
     )
 
--- src/lib.rt:329:9
 same-length-2 : tie.Need-same-length-2 Inv-loop μ-loop
 same-length-2 c = search needs
 
--- src/lib.rt:329:9
 returns-2 : tie.Need-returns-2 Inv-loop μ-loop
 returns-2 c =
     let l = c .before .before in
     (sym (l .loop .inv .0 ∙ sections-over _ _ _ _ (omega arith) (omega arith)), (sym (l .loop .inv .1 ∙ filled-none _ _ _ _ _ (omega arith)), λ q g. absurd (refused-next g)))
 
--- src/lib.rt:309:1
 same-length-3 : tie.Need-same-length-3 Inv-loop μ-loop
 same-length-3 c = search needs
 
--- src/lib.rt:309:1
 returns-3 : tie.Need-returns-3 Inv-loop μ-loop
 returns-3 c =
     let l = c .before .before in

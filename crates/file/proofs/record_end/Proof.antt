@@ -14,67 +14,51 @@ use Rattle.file.proofs.name_end.Reads as name-end-reads
 use Rattle.file.proofs.node_end.Reads as node-end-reads
 use Rattle.file.proofs.type_end.Reads as type-end-reads
 
--- src/lib.rt:226:14
 name-end-requires : tie.Need-name-end-requires
 name-end-requires c κs = search needs
 
--- src/lib.rt:227:14
 type-end-requires : tie.Need-type-end-requires
 type-end-requires c κs = search needs
 
--- src/lib.rt:228:14
 node-end-requires : tie.Need-node-end-requires
 node-end-requires c κs = search needs
 
--- src/lib.rt:229:14
 binding-end-requires : tie.Need-binding-end-requires
 binding-end-requires c κs = search needs
 
--- src/lib.rt:230:14
 fetched-end-requires : tie.Need-fetched-end-requires
 fetched-end-requires c κs = search needs
 
--- src/lib.rt:231:14
 comparison-end-requires : tie.Need-comparison-end-requires
 comparison-end-requires c κs = search needs
 
--- src/lib.rt:232:26
 mul-fixed : tie.Need-mul-fixed
 mul-fixed c = search needs
 
--- src/lib.rt:232:26
 array-read-fixed : tie.Need-array-read-fixed
 array-read-fixed c = search needs
 
--- src/lib.rt:232:14
 fixed-requires : tie.Need-fixed-requires
 fixed-requires c κs = omega (arith, record-small (c .before .before .args .s))
 
--- src/lib.rt:221:1
 returns : tie.Need-returns
 returns c = c .name-end .ensures ∙ sym (record-name _ _ _ (omega arith))
 
--- src/lib.rt:221:1
 returns-2 : tie.Need-returns-2
 returns-2 c = c .type-end .ensures ∙ sym (record-type _ _ _ (omega arith))
 
--- src/lib.rt:221:1
 returns-3 : tie.Need-returns-3
 returns-3 c = c .node-end .ensures ∙ sym (record-node _ _ _ (omega arith))
 
--- src/lib.rt:221:1
 returns-4 : tie.Need-returns-4
 returns-4 c = c .binding-end .ensures ∙ sym (record-binding _ _ _ (omega arith))
 
--- src/lib.rt:221:1
 returns-5 : tie.Need-returns-5
 returns-5 c = c .fetched-end .ensures ∙ sym (record-fetched _ _ _ (omega arith))
 
--- src/lib.rt:221:1
 returns-6 : tie.Need-returns-6
 returns-6 c = c .comparison-end .ensures ∙ sym (record-comparison _ _ _ (omega arith))
 
--- src/lib.rt:221:1
 returns-7 : tie.Need-returns-7
 returns-7 c = c .fixed .ensures ∙ sym (record-fixed _ _ _ (omega arith) (omega arith) (omega arith) (omega arith) (omega arith) (omega arith) (omega arith))
 

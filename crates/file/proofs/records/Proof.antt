@@ -21,43 +21,33 @@ Inv-loop file index₀ s base n at p₀ i₀ left₀ index p i left = (stepAt fi
 abbrev μ-loop : tie.MeasureT-loop
 μ-loop file index₀ s base n at p₀ i₀ left₀ index p i left = left
 
--- src/lib.rt:247:5
 loop-holds : tie.Need-loop-holds Inv-loop μ-loop
 loop-holds c = search needs
 
--- src/lib.rt:248:15
 record-end-requires : tie.Need-record-end-requires Inv-loop μ-loop
 record-end-requires c κs = search needs
 
--- src/lib.rt:249:24
 enum-known-q : tie.Need-enum-known-q Inv-loop μ-loop
 enum-known-q c = search needs
 
--- src/lib.rt:250:28
 cast-index : tie.Need-cast-index Inv-loop μ-loop
 cast-index c = search needs
 
--- src/lib.rt:250:17
 mul-index : tie.Need-mul-index Inv-loop μ-loop
 mul-index c = search needs
 
--- src/lib.rt:250:17
 slice-write-index : tie.Need-slice-write-index Inv-loop μ-loop
 slice-write-index c = search needs
 
--- src/lib.rt:252:17
 add-i : tie.Need-add-i Inv-loop μ-loop
 add-i c = search needs
 
--- src/lib.rt:253:17
 sub-left : tie.Need-sub-left Inv-loop μ-loop
 sub-left c = search needs
 
--- src/lib.rt:247:5
 loop-less : tie.Need-loop-less Inv-loop μ-loop
 loop-less c = search needs
 
--- src/lib.rt:247:5
 loop-again : tie.Need-loop-again Inv-loop μ-loop
 loop-again c =
     let l = c .before .before .before .before .before in
@@ -70,15 +60,12 @@ loop-again c =
       search needs,
     )
 
--- src/lib.rt:255:27
 enum-known-x : tie.Need-enum-known-x Inv-loop μ-loop
 enum-known-x c = search needs
 
--- src/lib.rt:256:17
 same-length : tie.Need-same-length Inv-loop μ-loop
 same-length c = search needs
 
--- src/lib.rt:256:17
 returns : tie.Need-returns Inv-loop μ-loop
 returns c =
     let l = c .before .before .before .before .before in
@@ -86,11 +73,9 @@ returns c =
     let e : stepAt (now (a .file)) (recordOf (a .s)) (l .loop .p) ≡ Refused (c .before .x .given .0 .0) = sym (c .before .before .before .record-end .ensures) ∙ c .before .x .given .1 in
     (sym (l .loop .inv .0 ∙ records-fault _ _ (omega arith) _ _ (omega arith) _ (omega arith) e), sym (l .loop .inv .1 ∙ stored-fault _ _ _ _ _ _ _ (omega arith) e))
 
--- src/lib.rt:239:1
 same-length-2 : tie.Need-same-length-2 Inv-loop μ-loop
 same-length-2 c = search needs
 
--- src/lib.rt:239:1
 returns-2 : tie.Need-returns-2 Inv-loop μ-loop
 returns-2 c = (sym (c .before .loop .inv .0 ∙ records-none _ _ (omega arith) _ _ (omega arith) (omega arith)), sym (c .before .loop .inv .1 ∙ stored-none _ _ _ _ _ _ (omega arith)))
 

@@ -10,31 +10,24 @@ use Rattle.file.proofs.repeated.Lts as lts
 use Rattle.file.proofs.fixed.Reads as fixed-reads
 use Rattle.file.proofs.wide.Reads as wide-reads
 
--- src/lib.rt:71:9
 returns : tie.Need-returns
 returns c = sym (several-cut _ _ _ (omega arith))
 
--- src/lib.rt:73:18
 shared-slice-read-wide : tie.Need-shared-slice-read-wide
 shared-slice-read-wide c = search needs
 
--- src/lib.rt:73:9
 wide-requires : tie.Need-wide-requires
 wide-requires c κs = search needs
 
--- src/lib.rt:74:17
 mul-fixed : tie.Need-mul-fixed
 mul-fixed c = omega (arith, times (c .before .before .before .before .args .w) (c .wide .result) (omega arith) (omega arith))
 
--- src/lib.rt:74:24
 add-fixed : tie.Need-add-fixed
 add-fixed c = search needs
 
--- src/lib.rt:74:5
 fixed-requires : tie.Need-fixed-requires
 fixed-requires c κs = omega (arith, times (c .before .before .before .before .args .w) (c .wide .result) (omega arith) (omega arith))
 
--- src/lib.rt:66:1
 returns-2 : tie.Need-returns-2
 returns-2 c = c .fixed .ensures ∙ sym (several-fixed _ _ _ _ (fixed-bytes _) (omega arith) (omega arith))
 

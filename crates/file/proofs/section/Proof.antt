@@ -11,66 +11,53 @@ use Rattle.file.proofs.base.Reads as base-reads
 use Rattle.file.proofs.count.Reads as count-reads
 use Rattle.file.proofs.records.Reads as records-reads
 
--- src/lib.rt:298:11
 count-requires : tie.Need-count-requires
 count-requires c κs = search needs
 
--- src/lib.rt:299:20
 enum-known-n : tie.Need-enum-known-n
 enum-known-n c = search needs
 
--- src/lib.rt:300:17
 base-requires : tie.Need-base-requires
 base-requires c κs = search needs
 
--- src/lib.rt:301:24
 cast-index : tie.Need-cast-index
 cast-index c =
     let e = sym (c .before .before .before .before .count .ensures) ∙ c .before .before .n .given .1 in
     let s = c .before .before .before .before .before .before .before .args .s in
     omega (arith, count-next _ _ _ _ (omega arith) e, roomy s (omega arith))
 
--- src/lib.rt:301:13
 mul-index : tie.Need-mul-index
 mul-index c = let s = c .before .before .before .before .before .before .before .args .s in omega (arith, roomy s (omega arith))
 
--- src/lib.rt:301:13
 slice-write-index : tie.Need-slice-write-index
 slice-write-index c = let s = c .before .before .before .before .before .before .before .args .s in omega (arith, roomy s (omega arith))
 
--- src/lib.rt:302:37
 add-records : tie.Need-add-records
 add-records c = let s = c .before .before .before .before .before .before .before .before .args .s in omega (arith, roomy s (omega arith))
 
--- src/lib.rt:302:47
 add-records-2 : tie.Need-add-records-2
 add-records-2 c =
     let e = sym (c .before .before .before .before .before .count .ensures) ∙ c .before .before .before .n .given .1 in
     omega (arith, count-next _ _ _ _ (omega arith) e)
 
--- src/lib.rt:302:13
 records-requires : tie.Need-records-requires
 records-requires c κs =
     let e = sym (c .before .before .before .before .before .count .ensures) ∙ c .before .before .before .n .given .1 in
     let s = c .before .before .before .before .before .before .before .before .args .s in
     simp length-set (omega (arith, count-next _ _ _ _ (omega arith) e, roomy s (omega arith)))
 
--- src/lib.rt:304:23
 enum-known-x : tie.Need-enum-known-x
 enum-known-x c = search needs
 
--- src/lib.rt:293:1
 same-length : tie.Need-same-length
 same-length c = c .before .before .records .kept .1 .0 ∙ simp length-set
 
--- src/lib.rt:293:1
 returns : tie.Need-returns
 returns c =
     let d = c .before .before .before .before .before .before in
     let e = sym (d .before .before .count .ensures) ∙ d .n .given .1 in
     (c .before .before .records .ensures .0 ∙ sym (section-on _ _ _ _ (omega arith) e), c .before .before .records .ensures .1 ∙ entries-stored _ _ _ _ _ _ (c .before .before .before .before .base .ensures) e)
 
--- src/lib.rt:293:1
 returns-2 : tie.Need-returns-2
 returns-2 c =
     let e = sym (c .before .before .before .count .ensures) ∙ c .before .x .given .1 in

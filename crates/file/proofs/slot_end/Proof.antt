@@ -10,51 +10,39 @@ use Rattle.file.proofs.fetched_end.Reads as fetched-end-reads
 use Rattle.file.proofs.fixed.Reads as fixed-reads
 use Rattle.file.proofs.wide.Reads as wide-reads
 
--- src/lib.rt:184:9
 returns : tie.Need-returns
 returns c = sym (slot-cut _ _ (omega arith))
 
--- src/lib.rt:186:18
 shared-slice-read-wide : tie.Need-shared-slice-read-wide
 shared-slice-read-wide c = search needs
 
--- src/lib.rt:186:9
 wide-requires : tie.Need-wide-requires
 wide-requires c κs = search needs
 
--- src/lib.rt:188:9
 returns-2 : tie.Need-returns-2
 returns-2 c = sym (slot-bad _ _ (c .before .wide .result) (omega arith) (omega arith) (omega arith))
 
--- src/lib.rt:191:34
 add-fetched-end : tie.Need-add-fetched-end
 add-fetched-end c = search needs
 
--- src/lib.rt:191:9
 fetched-end-requires : tie.Need-fetched-end-requires
 fetched-end-requires c κs = search needs
 
--- src/lib.rt:191:9
 returns-3 : tie.Need-returns-3
 returns-3 c = c .fetched-end .ensures ∙ sym (slot-field _ _ (c .before .before .before .wide .result) (omega arith) (omega arith) (omega arith))
 
--- src/lib.rt:193:17
 mul-fixed : tie.Need-mul-fixed
 mul-fixed c = search needs
 
--- src/lib.rt:193:17
 array-read-fixed : tie.Need-array-read-fixed
 array-read-fixed c = search needs
 
--- src/lib.rt:193:32
 add-fixed : tie.Need-add-fixed
 add-fixed c = search needs
 
--- src/lib.rt:193:5
 fixed-requires : tie.Need-fixed-requires
 fixed-requires c κs = omega (arith, slot-small (c .before .before .wide .result))
 
--- src/lib.rt:179:1
 returns-4 : tie.Need-returns-4
 returns-4 c = c .fixed .ensures ∙ sym (slot-plain _ _ (c .before .before .before .wide .result) (omega arith) (omega arith) (omega arith) (omega arith))
 

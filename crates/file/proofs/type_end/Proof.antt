@@ -10,63 +10,48 @@ use Rattle.file.proofs.fixed.Reads as fixed-reads
 use Rattle.file.proofs.repeated.Reads as repeated-reads
 use Rattle.file.proofs.wide.Reads as wide-reads
 
--- src/lib.rt:104:9
 returns : tie.Need-returns
 returns c = sym (type-cut _ _ (omega arith))
 
--- src/lib.rt:106:18
 shared-slice-read-wide : tie.Need-shared-slice-read-wide
 shared-slice-read-wide c = search needs
 
--- src/lib.rt:106:9
 wide-requires : tie.Need-wide-requires
 wide-requires c κs = search needs
 
--- src/lib.rt:108:28
 mul-fixed : tie.Need-mul-fixed
 mul-fixed c = search needs
 
--- src/lib.rt:108:28
 array-read-fixed : tie.Need-array-read-fixed
 array-read-fixed c = search needs
 
--- src/lib.rt:108:43
 add-fixed : tie.Need-add-fixed
 add-fixed c = search needs
 
--- src/lib.rt:108:9
 fixed-requires : tie.Need-fixed-requires
 fixed-requires c κs = omega (arith, type-small (c .before .wide .result))
 
--- src/lib.rt:108:9
 returns-2 : tie.Need-returns-2
 returns-2 c = c .fixed .ensures ∙ sym (type-plain _ _ (c .before .before .wide .result) (omega arith) (omega arith) (omega arith))
 
--- src/lib.rt:111:34
 add-repeated : tie.Need-add-repeated
 add-repeated c = search needs
 
--- src/lib.rt:111:9
 repeated-requires : tie.Need-repeated-requires
 repeated-requires c κs = search needs
 
--- src/lib.rt:111:9
 returns-3 : tie.Need-returns-3
 returns-3 c = c .repeated .ensures ∙ sym (type-record _ _ (c .before .before .before .wide .result) (omega arith) (omega arith) (omega arith))
 
--- src/lib.rt:114:34
 add-repeated-2 : tie.Need-add-repeated-2
 add-repeated-2 c = search needs
 
--- src/lib.rt:114:9
 repeated-requires-2 : tie.Need-repeated-requires-2
 repeated-requires-2 c κs = search needs
 
--- src/lib.rt:114:9
 returns-4 : tie.Need-returns-4
 returns-4 c = c .repeated2 .ensures ∙ sym (type-union _ _ (c .before .before .before .before .wide .result) (omega arith) (omega arith) (omega arith))
 
--- src/lib.rt:99:1
 returns-5 : tie.Need-returns-5
 returns-5 c = sym (type-bad _ _ (c .before .before .before .wide .result) (omega arith) (omega arith) (omega arith))
 

@@ -10,47 +10,36 @@ use Rattle.records.proofs.path_size.Reads as path-size-reads
 use Rattle.texts.proofs.edge_len.Reads as edge-len-reads
 use Rattle.texts.proofs.prefix_text_len.Reads as prefix-text-len-reads
 
--- src/lib.rt:171:9
 seek-number-requires : tie.Need-seek-number-requires
 seek-number-requires c κs = search needs
 
--- src/lib.rt:175:23
 edge-len-requires : tie.Need-edge-len-requires
 edge-len-requires c κs = search needs
 
--- src/lib.rt:175:50
 edge-len-requires-2 : tie.Need-edge-len-requires-2
 edge-len-requires-2 c κs = search needs
 
--- src/lib.rt:175:9
 capped-requires : tie.Need-capped-requires
 capped-requires c κs = search needs
 
--- src/lib.rt:175:9
 returns : tie.Need-returns
 returns c = edges-size _ _ _ (c .before .before .before .before .before .before .seek-number .ensures _) _ _ _ (c .before .before .before .before .before .if1 .taken) (c .before .before .edge-len .ensures) (c .before .edge-len2 .ensures) (c .capped .ensures)
 
--- src/lib.rt:182:52
 cast-prefix-text-len : tie.Need-cast-prefix-text-len
 cast-prefix-text-len c = search needs
 
--- src/lib.rt:179:23
 prefix-text-len-requires : tie.Need-prefix-text-len-requires
 prefix-text-len-requires c κs = search needs
 
--- src/lib.rt:179:65
 path-size-requires : tie.Need-path-size-requires
 path-size-requires c κs = search needs
 
--- src/lib.rt:179:9
 capped-requires-2 : tie.Need-capped-requires-2
 capped-requires-2 c κs = search needs
 
--- src/lib.rt:179:9
 returns-2 : tie.Need-returns-2
 returns-2 c = range-size _ _ _ (c .before .before .before .before .before .before .before .seek-number .ensures _) _ _ _ (c .before .before .before .before .before .if2 .taken) (c .before .before .prefix-text-len .ensures .0) (c .before .path-size .ensures .0) (c .capped2 .ensures)
 
--- src/lib.rt:167:1
 returns-3 : tie.Need-returns-3
 returns-3 c = none-size _ _ _ (c .before .before .seek-number .ensures _) (c .before .if1 .left) (c .if2 .left)
 

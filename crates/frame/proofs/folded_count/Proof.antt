@@ -7,22 +7,18 @@ use Rattle.frame.proofs.folded_count.Tie as tie
 use Rattle.frame.proofs.folded_count.Reads as reads
 use Rattle.frame.proofs.folded_count.Lts as lts
 
--- src/lib.rt:141:9
 returns : tie.Need-returns
 unfolding foldedOf
 returns c = (folded-by _ true true (c .before .if1 .taken) (c .if2 .taken), omega arith)
 
--- src/lib.rt:141:9
 returns-2 : tie.Need-returns-2
 unfolding foldedOf
 returns-2 c = (folded-by _ true false (c .before .if1 .taken) (c .if2 .left), omega arith)
 
--- src/lib.rt:135:1
 returns-3 : tie.Need-returns-3
 unfolding foldedOf
 returns-3 c = (folded-by _ false true (c .before .if1 .left) (c .if3 .taken), omega arith)
 
--- src/lib.rt:135:1
 returns-4 : tie.Need-returns-4
 unfolding foldedOf
 returns-4 c = (folded-by _ false false (c .before .if1 .left) (c .if3 .left), omega arith)

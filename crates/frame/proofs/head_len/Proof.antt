@@ -7,15 +7,12 @@ use Rattle.frame.proofs.head_len.Reads as reads
 use Rattle.frame.proofs.head_len.Lts as lts
 use Rattle.frame.proofs.seek_number.Reads as seek-number-reads
 
--- src/lib.rt:61:8
 seek-number-requires : tie.Need-seek-number-requires
 seek-number-requires c κs = search needs
 
--- src/lib.rt:58:1
 returns : tie.Need-returns
 returns c = (λ T. head-joined _ T _ (c .before .seek-number .ensures T) (c .if1 .taken), omega arith)
 
--- src/lib.rt:58:1
 returns-2 : tie.Need-returns-2
 returns-2 c = (λ T. head-other _ T _ (c .before .seek-number .ensures T) (c .if1 .left), omega arith)
 

@@ -6,12 +6,10 @@ use Rattle.frame.proofs.kept.Tie as tie
 use Rattle.frame.proofs.kept.Reads as reads
 use Rattle.frame.proofs.kept.Lts as lts
 
--- src/lib.rt:37:1
 returns : tie.Need-returns
 unfolding kept
 returns c = ap (λ (b : Bool). kept b (c .before .args .set)) (sym (c .if1 .taken))
 
--- src/lib.rt:37:1
 returns-2 : tie.Need-returns-2
 unfolding kept
 returns-2 c = ap (λ (b : Bool). kept b (c .before .args .set)) (sym (c .if1 .left))

@@ -8,23 +8,18 @@ use Rattle.constant.proofs.capped.Reads as capped-reads
 use Rattle.frame.proofs.between_len.Reads as between-len-reads
 use Rattle.frame.proofs.guide_len.Reads as guide-len-reads
 
--- src/lib.rt:209:12
 between-len-requires : tie.Need-between-len-requires
 between-len-requires c κs = search needs
 
--- src/lib.rt:209:41
 guide-len-requires : tie.Need-guide-len-requires
 guide-len-requires c κs = search needs
 
--- src/lib.rt:209:41
 add-capped : tie.Need-add-capped
 add-capped c = search needs
 
--- src/lib.rt:209:5
 capped-requires : tie.Need-capped-requires
 capped-requires c κs = search needs
 
--- src/lib.rt:205:1
 returns : tie.Need-returns
 returns c = middle-size _ _ _ _ _ (c .before .before .between-len .ensures) (c .before .guide-len .ensures .0) (c .capped .ensures)
 

@@ -8,27 +8,21 @@ use Rattle.frame.proofs.parts_len.Lts as lts
 use Rattle.frame.proofs.seek_number.Reads as seek-number-reads
 use Rattle.records.proofs.wide32.Reads as wide32-reads
 
--- src/lib.rt:85:9
 wide32-requires : tie.Need-wide32-requires
 wide32-requires c κs = search needs
 
--- src/lib.rt:86:8
 seek-number-requires : tie.Need-seek-number-requires
 seek-number-requires c κs = search needs
 
--- src/lib.rt:89:18
 wide32-requires-2 : tie.Need-wide32-requires-2
 wide32-requires-2 c κs = search needs
 
--- src/lib.rt:89:9
 add-result : tie.Need-add-result
 add-result c = search needs
 
--- src/lib.rt:81:1
 returns : tie.Need-returns
 returns c = (λ T. parts-joined _ T _ _ (c .before .seek-number .ensures T) (c .if1 .taken) (c .before .before .wide32 .ensures .0), omega arith)
 
--- src/lib.rt:81:1
 returns-2 : tie.Need-returns-2
 returns-2 c = (λ T. parts-other _ T _ _ (c .before .before .seek-number .ensures T) (c .before .if1 .left) (let d = c .before .before .before in omega (arith, d .wide32 .ensures .0, c .wide322 .ensures .0)), omega arith)
 

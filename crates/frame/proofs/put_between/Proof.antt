@@ -12,53 +12,42 @@ use Rattle.records.proofs.put_path.Reads as put-path-reads
 use Rattle.texts.proofs.put_edge.Reads as put-edge-reads
 use Rattle.texts.proofs.put_prefix_text.Reads as put-prefix-text-reads
 
--- src/lib.rt:189:9
 seek-number-requires : tie.Need-seek-number-requires
 seek-number-requires c κs = search needs
 
--- src/lib.rt:193:13
 put-edge-requires : tie.Need-put-edge-requires
 put-edge-requires c κs = let s = c .before .before .before .before .before .before .before .before in (s .pre .0, (omega (arith, s .pre .1 .0), edges-small _ _ _ (c .before .before .before .before .seek-number .ensures _) (c .before .before .before .if1 .taken) (s .pre .1 .1) .0))
 
--- src/lib.rt:194:9
 put-edge-requires-2 : tie.Need-put-edge-requires-2
 put-edge-requires-2 c κs =
     let s = c .before .before .before .before .before .before .before .before .before .before .before .before in
     let h = edges-small (tablesOf (now (s .args .file))) (s .args .l) _ (c .before .before .before .before .before .before .before .before .seek-number .ensures _) (c .before .before .before .before .before .before .before .if1 .taken) (s .pre .1 .1) in
     (s .pre .0, (omega (arith, s .pre .1 .0, h .0, c .before .before .before .put-edge .ensures .place), h .1))
 
--- src/lib.rt:194:9
 same-length : tie.Need-same-length
 same-length c = search needs
 
--- src/lib.rt:194:9
 returns : tie.Need-returns
 returns c = put-edges _ _ _ (c .before .before .before .before .before .before .before .before .before .before .before .seek-number .ensures _) _ _ _ _ _ _ (c .before .before .before .before .before .before .before .before .before .before .if1 .taken) (c .before .before .before .before .before .before .put-edge .ensures) (c .before .before .put-edge2 .ensures)
 
--- src/lib.rt:201:56
 cast-put-prefix-text : tie.Need-cast-put-prefix-text
 cast-put-prefix-text c = search needs
 
--- src/lib.rt:198:13
 put-prefix-text-requires : tie.Need-put-prefix-text-requires
 put-prefix-text-requires c κs = search needs
 
--- src/lib.rt:199:9
 put-path-requires : tie.Need-put-path-requires
 put-path-requires c κs =
     let s = c .before .before .before .before .before .before .before .before .before .before .before .before .before in
     let h = range-small (tablesOf (now (s .args .file))) (s .args .l) _ (c .before .before .before .before .before .before .before .before .before .seek-number .ensures _) (c .before .before .before .before .before .before .before .if2 .taken) (s .pre .1 .1) in
     omega (arith, s .pre .1 .0, h, c .before .before .before .put-prefix-text .ensures .place)
 
--- src/lib.rt:199:9
 same-length-2 : tie.Need-same-length-2
 same-length-2 c = search needs
 
--- src/lib.rt:199:9
 returns-2 : tie.Need-returns-2
 returns-2 c = put-range _ _ _ (c .before .before .before .before .before .before .before .before .before .before .before .before .seek-number .ensures _) _ _ _ _ _ _ (c .before .before .before .before .before .before .before .before .before .before .if2 .taken) (c .before .before .before .before .before .before .put-prefix-text .ensures) (c .before .before .put-path .ensures .0) (c .before .before .put-path .ensures .2)
 
--- src/lib.rt:184:1
 returns-3 : tie.Need-returns-3
 returns-3 c = put-bare _ _ _ (c .before .before .seek-number .ensures _) _ _ (c .before .if1 .left) (c .if2 .left)
 

@@ -9,23 +9,18 @@ use Rattle.frame.proofs.put_head.Reads as put-head-reads
 use Rattle.frame.proofs.put_middle.Reads as put-middle-reads
 use Rattle.frame.proofs.put_tail.Reads as put-tail-reads
 
--- src/lib.rt:250:5
 put-head-requires : tie.Need-put-head-requires
 put-head-requires c κs = let s = c .before .before .before .before in at-near _ _ _ (s .pre .1 .0) (s .pre .1 .1)
 
--- src/lib.rt:251:5
 put-middle-requires : tie.Need-put-middle-requires
 put-middle-requires c κs = let s = c .before .before .before .before .before .before .before .before in (s .pre .0, (middle-near _ _ _ (s .pre .1 .0) (s .pre .1 .1), middle-small _ _ _ (s .pre .1 .0) (s .pre .1 .1)))
 
--- src/lib.rt:252:5
 put-tail-requires : tie.Need-put-tail-requires
 put-tail-requires c κs = let s = c .before .before .before .before .before .before .before .before .before .before .before .before in tail-near _ _ _ (s .pre .1 .0) (s .pre .1 .1)
 
--- src/lib.rt:245:1
 same-length : tie.Need-same-length
 same-length c = search needs
 
--- src/lib.rt:245:1
 returns : tie.Need-returns
 returns c = let s = c .before .before .before .before .before .before .before .before .before .before .before .before .before .before .before in put-frame _ _ _ _ (s .pre .1 .0) (s .pre .1 .1) _ _ _ _ (c .before .before .before .before .before .before .before .before .before .before .put-head .ensures _) (c .before .before .before .before .before .before .put-middle .ensures) (c .before .before .put-tail .ensures _)
 

@@ -10,74 +10,57 @@ use Rattle.records.proofs.put16.Reads as put16-reads
 use Rattle.records.proofs.put8.Reads as put8-reads
 use Rattle.records.proofs.put_path.Reads as put-path-reads
 
--- src/lib.rt:115:8
 kept-requires : tie.Need-kept-requires
 kept-requires c κs = search needs
 
--- src/lib.rt:117:9
 put8-requires : tie.Need-put8-requires
 put8-requires c κs = search needs
 
--- src/lib.rt:118:32
 add-put-path : tie.Need-add-put-path
 add-put-path c = search needs
 
--- src/lib.rt:118:13
 put-path-requires : tie.Need-put-path-requires
 put-path-requires c κs = search needs
 
--- src/lib.rt:119:9
 put16-requires : tie.Need-put16-requires
 put16-requires c κs = search needs
 
--- src/lib.rt:120:20
 add-put8 : tie.Need-add-put8
 add-put8 c = search needs
 
--- src/lib.rt:120:9
 put8-requires-2 : tie.Need-put8-requires-2
 put8-requires-2 c κs = search needs
 
--- src/lib.rt:121:20
 add-put8-2 : tie.Need-add-put8-2
 add-put8-2 c = search needs
 
--- src/lib.rt:121:27
 anchor-byte-requires : tie.Need-anchor-byte-requires
 anchor-byte-requires c κs = search needs
 
--- src/lib.rt:121:9
 put8-requires-3 : tie.Need-put8-requires-3
 put8-requires-3 c κs = search needs
 
--- src/lib.rt:122:9
 add-result : tie.Need-add-result
 add-result c = search needs
 
--- src/lib.rt:124:9
 put8-requires-4 : tie.Need-put8-requires-4
 put8-requires-4 c κs = search needs
 
--- src/lib.rt:125:9
 add-result-2 : tie.Need-add-result-2
 add-result-2 c = search needs
 
--- src/lib.rt:110:1
 same-length : tie.Need-same-length
 same-length c = search needs
 
--- src/lib.rt:110:1
 returns : tie.Need-returns
 returns c =
     let k = c .before .before .before .before .before .before .before .before .before .before .before .before .before .before .before .before .before .before .before .before .before .before in
     let p = c .before .before .before .before .before .before .before .before .before .before .before .before .before .before .before .put-path in
     put-set _ _ _ _ _ (k .kept .ensures) _ _ _ _ _ _ (c .before .before .before .before .before .before .before .before .before .before .before .before .before .before .before .before .before .before .before .before .before .if1 .taken) (c .before .before .before .before .before .before .before .before .before .before .before .before .before .before .before .before .before .before .before .put8 .ensures) (p .ensures .0) (p .ensures .2) (c .before .before .before .before .before .before .before .before .before .before .before .put16 .ensures) (c .before .before .before .before .before .before .before .put82 .ensures) (c .before .before .before .anchor-byte .ensures) (c .before .before .put83 .ensures)
 
--- src/lib.rt:110:1
 same-length-2 : tie.Need-same-length-2
 same-length-2 c = search needs
 
--- src/lib.rt:110:1
 returns-2 : tie.Need-returns-2
 returns-2 c = put-unset _ _ _ _ _ (c .before .before .before .before .before .kept .ensures) (c .before .before .before .before .if1 .left) (c .before .before .put84 .ensures)
 

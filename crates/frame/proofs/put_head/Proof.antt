@@ -10,71 +10,54 @@ use Rattle.records.proofs.put16.Reads as put16-reads
 use Rattle.records.proofs.put8.Reads as put8-reads
 use Rattle.records.proofs.wide32.Reads as wide32-reads
 
--- src/lib.rt:69:9
 seek-number-requires : tie.Need-seek-number-requires
 seek-number-requires c κs = search needs
 
--- src/lib.rt:70:9
 wide32-requires : tie.Need-wide32-requires
 wide32-requires c κs = search needs
 
--- src/lib.rt:71:21
 wide32-requires-2 : tie.Need-wide32-requires-2
 wide32-requires-2 c κs = search needs
 
--- src/lib.rt:71:5
 put16-requires : tie.Need-put16-requires
 put16-requires c κs = search needs
 
--- src/lib.rt:72:17
 add-put16 : tie.Need-add-put16
 add-put16 c = search needs
 
--- src/lib.rt:72:5
 put16-requires-2 : tie.Need-put16-requires-2
 put16-requires-2 c κs = search needs
 
--- src/lib.rt:73:17
 add-put16-2 : tie.Need-add-put16-2
 add-put16-2 c = search needs
 
--- src/lib.rt:73:35
 wide32-requires-3 : tie.Need-wide32-requires-3
 wide32-requires-3 c κs = search needs
 
--- src/lib.rt:73:25
 add-put16-3 : tie.Need-add-put16-3
 add-put16-3 c = search needs
 
--- src/lib.rt:73:5
 put16-requires-3 : tie.Need-put16-requires-3
 put16-requires-3 c κs = search needs
 
--- src/lib.rt:74:16
 add-put8 : tie.Need-add-put8
 add-put8 c = search needs
 
--- src/lib.rt:74:5
 put8-requires : tie.Need-put8-requires
 put8-requires c κs = search needs
 
--- src/lib.rt:76:21
 add-put16-4 : tie.Need-add-put16-4
 add-put16-4 c = search needs
 
--- src/lib.rt:76:29
 wide32-requires-4 : tie.Need-wide32-requires-4
 wide32-requires-4 c κs = search needs
 
--- src/lib.rt:76:9
 put16-requires-4 : tie.Need-put16-requires-4
 put16-requires-4 c κs = search needs
 
--- src/lib.rt:64:1
 same-length : tie.Need-same-length
 same-length c = search needs
 
--- src/lib.rt:64:1
 returns : tie.Need-returns
 returns c T =
     let d = c .before .before .before .before .before .before .before .before in
@@ -83,11 +66,9 @@ returns c T =
     put-joined _ T _ _ _ _ _ _ _ _ _ _ (s .before .wide322 .ensures .0) (s .before .before .before .wide32 .ensures .0) (let x = k .before .wide323 .ensures .0 in let y = s .before .before .before .wide32 .ensures .0 in omega arith) (s .put16 .ensures) (c .before .before .before .before .before .before .before .before .before .before .before .before .before .before .before .before .before .put162 .ensures) (k .put163 .ensures) (d .put8 .ensures) _ _
     (c .before .before .before .wide324 .ensures .0) (c .before .before .put164 .ensures) (s .before .before .before .before .seek-number .ensures T) (search needs)
 
--- src/lib.rt:64:1
 same-length-2 : tie.Need-same-length-2
 same-length-2 c = search needs
 
--- src/lib.rt:64:1
 returns-2 : tie.Need-returns-2
 returns-2 c T =
     let k = c .before .before .before .before .before .before .before in

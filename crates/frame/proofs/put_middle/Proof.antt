@@ -10,27 +10,21 @@ use Rattle.frame.proofs.put_guide.Reads as put-guide-reads
 use Rattle.records.proofs.put16.Reads as put16-reads
 use Rattle.records.proofs.wide32.Reads as wide32-reads
 
--- src/lib.rt:218:9
 put-between-requires : tie.Need-put-between-requires
 put-between-requires c κs = let s = c .before .before .before .before .before in (s .pre .0, (s .pre .1 .0, between-small _ _ (s .pre .1 .1)))
 
--- src/lib.rt:219:9
 put-guide-requires : tie.Need-put-guide-requires
 put-guide-requires c κs = let s = c .before .before .before .before .before .before .before .before .before in guide-near _ _ _ _ _ _ (s .pre .1 .0) (s .pre .1 .1) (c .before .before .before .put-between .ensures)
 
--- src/lib.rt:220:20
 wide32-requires : tie.Need-wide32-requires
 wide32-requires c κs = search needs
 
--- src/lib.rt:220:5
 put16-requires : tie.Need-put16-requires
 put16-requires c κs = let s = c .before .before .before .before .before .before .before .before .before .before .before .before .before .before in omega (arith, count-near _ _ _ _ _ _ _ _ (s .pre .1 .0) (s .pre .1 .1) (c .before .before .before .before .before .before .before .before .put-between .ensures) (c .before .before .before .before .put-guide .ensures))
 
--- src/lib.rt:212:1
 same-length : tie.Need-same-length
 same-length c = search needs
 
--- src/lib.rt:212:1
 returns : tie.Need-returns
 returns c = put-middle _ _ _ _ _ _ _ _ _ _ (c .before .before .before .before .before .before .before .before .before .before .before .put-between .ensures) (c .before .before .before .before .before .before .before .put-guide .ensures) (c .before .before .before .wide32 .ensures .0) (c .before .before .put16 .ensures)
 

@@ -8,59 +8,45 @@ use Rattle.frame.proofs.put_tail.Lts as lts
 use Rattle.frame.proofs.folded_count.Reads as folded-count-reads
 use Rattle.records.proofs.put16.Reads as put16-reads
 
--- src/lib.rt:142:9
 folded-count-requires : tie.Need-folded-count-requires
 folded-count-requires c κs = search needs
 
--- src/lib.rt:143:5
 put16-requires : tie.Need-put16-requires
 put16-requires c κs = search needs
 
--- src/lib.rt:145:9
 same-length : tie.Need-same-length
 same-length c = search needs
 
--- src/lib.rt:145:9
 returns : tie.Need-returns
 returns c T = let p = c .before .before .before in tail-none _ T _ _ _ _ (p .before .before .folded-count .ensures .0 T) (p .put16 .ensures) (c .if1 .taken)
 
--- src/lib.rt:147:17
 add-put16 : tie.Need-add-put16
 add-put16 c = search needs
 
--- src/lib.rt:162:25
 cast-put16 : tie.Need-cast-put16
 cast-put16 c = search needs
 
--- src/lib.rt:147:5
 put16-requires-2 : tie.Need-put16-requires-2
 put16-requires-2 c κs = search needs
 
--- src/lib.rt:149:9
 same-length-2 : tie.Need-same-length-2
 same-length-2 c = search needs
 
--- src/lib.rt:149:9
 returns-2 : tie.Need-returns-2
 returns-2 c T = let q = c .before .before .before in let p = q .before .before .before .before .before .before in tail-one _ T _ _ _ _ (p .before .before .folded-count .ensures .0 T) (p .put16 .ensures) _ (q .put162 .ensures) (c .if2 .taken)
 
--- src/lib.rt:151:17
 add-put16-2 : tie.Need-add-put16-2
 add-put16-2 c = search needs
 
--- src/lib.rt:166:25
 cast-put16-2 : tie.Need-cast-put16-2
 cast-put16-2 c = search needs
 
--- src/lib.rt:151:5
 put16-requires-3 : tie.Need-put16-requires-3
 put16-requires-3 c κs = search needs
 
--- src/lib.rt:137:1
 same-length-3 : tie.Need-same-length-3
 same-length-3 c = search needs
 
--- src/lib.rt:137:1
 returns-3 : tie.Need-returns-3
 returns-3 c T = let r = c .before .before in let q = r .before .before .before .before .before .before in let p = q .before .before .before .before .before .before in tail-two _ T _ _ _ _ (p .before .before .folded-count .ensures .0 T) (p .put16 .ensures) _ (q .put162 .ensures) _ (r .put163 .ensures) (omega arith)
 

@@ -6,27 +6,21 @@ use Rattle.frame.proofs.seek_number.Reads as reads
 use Rattle.frame.proofs.seek_number.Lts as lts
 use Rattle.frame.proofs.kept.Reads as kept-reads
 
--- src/lib.rt:49:9
 returns : tie.Need-returns
 returns c T = with-lo _ T (c .if1 .taken)
 
--- src/lib.rt:53:9
 returns-2 : tie.Need-returns-2
 returns-2 c T = with-hi _ T (c .before .before .if1 .left) (c .if2 .taken)
 
--- src/lib.rt:56:8
 kept-requires : tie.Need-kept-requires
 kept-requires c κs = search needs
 
--- src/lib.rt:57:9
 returns-3 : tie.Need-returns-3
 returns-3 c T = with-range _ T (c .before .before .before .before .before .if1 .left) (c .before .before .before .if2 .left) _ (c .before .kept .ensures) (c .if3 .taken)
 
--- src/lib.rt:44:1
 returns-4 : tie.Need-returns-4
 returns-4 c T = plain-parts _ T (c .before .before .before .before .before .before .if1 .left) (c .before .before .before .before .if2 .left) _ (c .before .before .kept .ensures) (c .before .if3 .left) (c .if4 .taken)
 
--- src/lib.rt:44:1
 returns-5 : tie.Need-returns-5
 returns-5 c T = other-parts _ T (c .before .before .before .before .before .before .if1 .left) (c .before .before .before .before .if2 .left) _ (c .before .before .kept .ensures) (c .before .if3 .left) (c .if4 .left)
 

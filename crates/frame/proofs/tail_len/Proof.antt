@@ -7,19 +7,15 @@ use Rattle.frame.proofs.tail_len.Reads as reads
 use Rattle.frame.proofs.tail_len.Lts as lts
 use Rattle.frame.proofs.folded_count.Reads as folded-count-reads
 
--- src/lib.rt:145:13
 folded-count-requires : tie.Need-folded-count-requires
 folded-count-requires c κs = search needs
 
--- src/lib.rt:145:9
 mul-result : tie.Need-mul-result
 mul-result c = search needs
 
--- src/lib.rt:145:5
 add-result : tie.Need-add-result
 add-result c = search needs
 
--- src/lib.rt:142:1
 returns : tie.Need-returns
 returns c = (λ T. tail-size _ T _ (c .folded-count .ensures .0 T), omega arith)
 

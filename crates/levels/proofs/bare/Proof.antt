@@ -7,23 +7,18 @@ use Rattle.levels.proofs.bare.Reads as reads
 use Rattle.levels.proofs.bare.Lts as lts
 use Rattle.records.proofs.wide32.Reads as wide32-reads
 
--- src/lib.rt:84:8
 wide32-requires : tie.Need-wide32-requires
 wide32-requires c κs = search needs
 
--- src/lib.rt:84:28
 wide32-requires-2 : tie.Need-wide32-requires-2
 wide32-requires-2 c κs = search needs
 
--- src/lib.rt:84:8
 add-if1 : tie.Need-add-if1
 add-if1 c = search needs
 
--- src/lib.rt:85:9
 returns : tie.Need-returns
 returns c T = parted-is T _ (omega arith)
 
--- src/lib.rt:80:1
 returns-2 : tie.Need-returns-2
 returns-2 c T = bare-is T _ (omega arith)
 

@@ -7,11 +7,9 @@ use Rattle.levels.proofs.begun.Reads as reads
 use Rattle.levels.proofs.begun.Lts as lts
 use Rattle.seek.proofs.SeekBuilder.new.Reads as new-reads
 
--- src/lib.rt:70:9
 new-requires : tie.Need-new-requires
 new-requires c κs = search needs
 
--- src/lib.rt:67:1
 returns : tie.Need-returns
 returns c T w p = let a = c .before .args in begun-is T (a .over) (a .ends) _ _ w p (c .new .ensures T (endsOf (a .ends)) w p)
 

@@ -9,43 +9,33 @@ use Rattle.levels.proofs.stopped.Reads as stopped-reads
 use Rattle.runs.proofs.lists_len.Reads as lists-len-reads
 use Rattle.runs.proofs.put_lists.Reads as put-lists-reads
 
--- src/lib.rt:212:9
 returns : tie.Need-returns
 returns c = finished-over (c .before .before .before .before .args .w) _ _ (c .if1 .taken)
 
--- src/lib.rt:216:20
 lists-len-requires : tie.Need-lists-len-requires
 lists-len-requires c κs = search needs
 
--- src/lib.rt:216:15
 add-last : tie.Need-add-last
 add-last c = search needs
 
--- src/lib.rt:218:9
 stopped-requires : tie.Need-stopped-requires
 stopped-requires c κs = search needs
 
--- src/lib.rt:218:9
 returns-2 : tie.Need-returns-2
 returns-2 c = finished-long (c .before .before .before .before .before .before .before .before .args .w) _ _ _ _ (c .before .before .lists-len .ensures .0) (c .before .before .before .before .if1 .left) (omega (arith, c .before .if2 .taken)) (c .stopped .ensures)
 
--- src/lib.rt:221:9
 stopped-requires-2 : tie.Need-stopped-requires-2
 stopped-requires-2 c κs = search needs
 
--- src/lib.rt:221:9
 returns-3 : tie.Need-returns-3
 returns-3 c = finished-long (c .before .before .before .before .before .before .before .before .before .args .w) _ _ _ _ (c .before .before .before .lists-len .ensures .0) (c .before .before .before .before .before .if1 .left) (omega (arith, c .before .if3 .taken)) (c .stopped2 .ensures)
 
--- src/lib.rt:223:5
 put-lists-requires : tie.Need-put-lists-requires
 put-lists-requires c κs = search needs
 
--- src/lib.rt:206:1
 same-length : tie.Need-same-length
 same-length c = search needs
 
--- src/lib.rt:206:1
 returns-4 : tie.Need-returns-4
 returns-4 c = finished-fits (c .before .before .before .before .before .before .before .before .before .before .before .before .args .w) _ _ _ _ (c .before .before .before .before .before .before .lists-len .ensures .0) (c .before .before .before .before .before .before .before .before .if1 .left) (omega (arith, c .before .before .before .before .if3 .left, c .before .before .before .before .before .if2 .left)) (c .before .before .put-lists .ensures .is)
 

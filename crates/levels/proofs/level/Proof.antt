@@ -11,27 +11,21 @@ use Rattle.levels.proofs.begun.Reads as begun-reads
 use Rattle.levels.proofs.measured.Reads as measured-reads
 use Rattle.levels.proofs.walked.Reads as walked-reads
 
--- src/lib.rt:181:48
 begun-requires : tie.Need-begun-requires
 begun-requires c κs = search needs
 
--- src/lib.rt:181:9
 walked-requires : tie.Need-walked-requires
 walked-requires c κs = search needs
 
--- src/lib.rt:182:5
 measured-requires : tie.Need-measured-requires
 measured-requires c κs = search needs
 
--- src/lib.rt:168:1
 same-length : tie.Need-same-length
 same-length c = search needs
 
--- src/lib.rt:168:1
 same-length-2 : tie.Need-same-length-2
 same-length-2 c = search needs
 
--- src/lib.rt:168:1
 returns : tie.Need-returns
 returns c =
     let a = c .before .before .before .before .before .before .before .before .before .before .before .before .before .before .before .before .before .before .before .before .before .args in

@@ -15,7 +15,6 @@ use Rattle.frame.proofs.measure.Reads as measure-reads
 use Rattle.levels.proofs.rewritten.Reads as rewritten-reads
 use Rattle.levels.proofs.stopped.Reads as stopped-reads
 
--- src/lib.rt:149:9
 returns : tie.Need-returns
 returns c =
     let s = c .before .before .before .before .before .before in
@@ -23,15 +22,12 @@ returns c =
     let T = tablesOf (now (a .file)) in
     (over-left T (levelAt T (a .k)) (endsOf (a .ends)) (a .at) (a .m) (now (a .work)) (now (a .plan)) (c .if1 .taken), s .pre .1 .1)
 
--- src/lib.rt:152:9
 measure-requires : tie.Need-measure-requires
 measure-requires c κs = search needs
 
--- src/lib.rt:155:9
 stopped-requires : tie.Need-stopped-requires
 stopped-requires c κs = search needs
 
--- src/lib.rt:155:9
 returns-2 : tie.Need-returns-2
 returns-2 c =
     let s = c .before .before .before .before .before .before .before .before .before .before in
@@ -41,11 +37,9 @@ returns-2 c =
       omega (arith, c .stopped .ensures .0, s .pre .1 .1),
     )
 
--- src/lib.rt:158:9
 stopped-requires-2 : tie.Need-stopped-requires-2
 stopped-requires-2 c κs = search needs
 
--- src/lib.rt:158:9
 returns-3 : tie.Need-returns-3
 returns-3 c =
     let s = c .before .before .before .before .before .before .before .before .before .before .before in
@@ -55,19 +49,15 @@ returns-3 c =
       omega (arith, c .stopped2 .ensures .0, s .pre .1 .1),
     )
 
--- src/lib.rt:160:9
 rewritten-requires : tie.Need-rewritten-requires
 rewritten-requires c κs = let s = c .before .before .before .before .before .before .before .before .before .before .before .before in (s .pre .0, (s .pre .1 .0, (c .before .before .before .before .measure .ensures, c .before .before .before .if2 .left)))
 
--- src/lib.rt:133:1
 same-length : tie.Need-same-length
 same-length c = search needs
 
--- src/lib.rt:133:1
 same-length-2 : tie.Need-same-length-2
 same-length-2 c = search needs
 
--- src/lib.rt:133:1
 returns-4 : tie.Need-returns-4
 returns-4 c =
     let s = c .before .before .before .before .before .before .before .before .before .before .before .before .before .before .before .before .before in

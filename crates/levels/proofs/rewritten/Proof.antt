@@ -18,19 +18,15 @@ use Rattle.levels.proofs.begun.Reads as begun-reads
 use Rattle.levels.proofs.walked.Reads as walked-reads
 use Rattle.levels.proofs.writing.Reads as writing-reads
 
--- src/lib.rt:109:5
 put-frame-requires : tie.Need-put-frame-requires
 put-frame-requires c κs = search needs
 
--- src/lib.rt:110:8
 bare-requires : tie.Need-bare-requires
 bare-requires c κs = search needs
 
--- src/lib.rt:111:9
 same-length : tie.Need-same-length
 same-length c = search needs
 
--- src/lib.rt:111:9
 returns : tie.Need-returns
 returns c =
     let s = c .before .before .before .before .before .before .before .before .before .before .before .before in
@@ -38,30 +34,24 @@ returns c =
     let T = tablesOf (now (a .file)) in
     framed-is T (levelAt T (a .k)) (endsOf (a .ends)) (a .at) (a .m) (now (a .work)) (now (a .plan)) _ (c .before .before .before .before .put-frame .ensures) (sym (c .before .bare .ensures T) ∙ c .if1 .taken)
 
--- src/lib.rt:113:37
 writing-requires : tie.Need-writing-requires
 writing-requires c κs =
     let s = c .before .before .before .before .before .before .before .before .before .before .before .before in
     let L = levelOf (tablesOf (now (s .args .file))) (s .args .m .level) in
     (omega (arith, parts-near (s .args .at) L (s .args .f) (s .pre .1 .1 .0) (s .pre .1 .1 .1)), omega (arith, rest-near (s .args .at) L (s .args .f) (s .pre .1 .1 .0) (s .pre .1 .1 .1)))
 
--- src/lib.rt:113:9
 begun-requires : tie.Need-begun-requires
 begun-requires c κs = search needs
 
--- src/lib.rt:114:9
 walked-requires : tie.Need-walked-requires
 walked-requires c κs = let s = c .before .before .before .before .before .before .before .before .before .before .before .before .before .before .before .before in (s .pre .0, s .pre .1 .0)
 
--- src/lib.rt:91:1
 same-length-2 : tie.Need-same-length-2
 same-length-2 c = search needs
 
--- src/lib.rt:91:1
 same-length-3 : tie.Need-same-length-3
 same-length-3 c = search needs
 
--- src/lib.rt:91:1
 returns-2 : tie.Need-returns-2
 returns-2 c =
     let s = c .before .before .before .before .before .before .before .before .before .before .before .before .before .before .before .before .before .before .before .before .before .before in

@@ -10,29 +10,23 @@ use Rattle.entries.proofs.predicate_of.Reads as predicate-of-reads
 use Rattle.walk.proofs.key.Reads as key-reads
 use Rattle.views.proofs.level_at.Reads as level-at-reads
 
--- src/lib.rt:81:9
 level-at-requires : tie.Need-level-at-requires
 level-at-requires c κs = search needs
 
--- src/lib.rt:82:9
 predicate-of-requires : tie.Need-predicate-of-requires
 predicate-of-requires c κs = search needs
 
--- src/lib.rt:84:5
 key-requires : tie.Need-key-requires
 key-requires c κs =
     let s = c .before .before .before .before .before .before .before .before .before in
     (s .pre .0, key-in (now (s .args .file)) (now (s .args .index)) (s .pre .0) (s .args .k) (s .pre .1) (c .before .before .before .before .level-at .result) (c .before .before .before .predicate-of .result) (c .before .before .before .before .level-at .ensures) (c .before .before .before .predicate-of .ensures))
 
--- src/lib.rt:76:1
 same-length : tie.Need-same-length
 same-length c = search needs
 
--- src/lib.rt:76:1
 same-length-2 : tie.Need-same-length-2
 same-length-2 c = search needs
 
--- src/lib.rt:76:1
 returns : tie.Need-returns
 returns c =
     let s = c .before .before .before .before .before .before .before .before .before .before .before .before .before .before in

@@ -6,19 +6,15 @@ use Rattle.levels.proofs.writing.Reads as reads
 use Rattle.levels.proofs.writing.Lts as lts
 use Rattle.frame.proofs.seek_number.Reads as seek-number-reads
 
--- src/lib.rt:94:18
 seek-number-requires : tie.Need-seek-number-requires
 seek-number-requires c κs = search needs
 
--- src/lib.rt:95:16
 cast-t5 : tie.Need-cast-t5
 cast-t5 c = search needs
 
--- src/lib.rt:96:15
 cast-t6 : tie.Need-cast-t6
 cast-t6 c = search needs
 
--- src/lib.rt:88:1
 returns : tie.Need-returns
 returns c T = target-is T _ _ _ _ (c .before .before .seek-number .ensures T)
 

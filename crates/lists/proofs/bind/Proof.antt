@@ -16,41 +16,32 @@ use Rattle.lists.proofs.stopped.Reads as stopped-reads
 use Rattle.records.proofs.put16.Reads as put16-reads
 use Rattle.records.proofs.wide32.Reads as wide32-reads
 
--- src/lib.rt:236:9
 returns : tie.Need-returns
 unfolding Ops.bind
 returns c = λ lv tg p. over _ _ (c .if1 .taken)
 
--- src/lib.rt:241:9
 stopped-requires : tie.Need-stopped-requires
 stopped-requires c κs = search needs
 
--- src/lib.rt:241:9
 returns-2 : tie.Need-returns-2
 unfolding Ops.bind
 returns-2 c = λ lv tg p. stops _ _ _ _ _ _ _ (c .before .before .before .if1 .left) (c .stopped .ensures) (too-many _ _ _ _ _ _ (c .before .if2 .taken))
 
--- src/lib.rt:243:9
 wide32-requires : tie.Need-wide32-requires
 wide32-requires c κs = search needs
 
--- src/lib.rt:244:15
 add-end : tie.Need-add-end
 add-end c = search needs
 
--- src/lib.rt:244:24
 slot-size-requires : tie.Need-slot-size-requires
 slot-size-requires c κs = search needs
 
--- src/lib.rt:244:15
 add-end-2 : tie.Need-add-end-2
 add-end-2 c = search needs
 
--- src/lib.rt:246:9
 stopped-requires-2 : tie.Need-stopped-requires-2
 stopped-requires-2 c κs = search needs
 
--- src/lib.rt:246:9
 returns-3 : tie.Need-returns-3
 unfolding Ops.bind
 returns-3 c = λ lv tg p.
@@ -58,31 +49,24 @@ returns-3 c = λ lv tg p.
     (counted _ _ _ _ _ _ _ (omega (arith, c .before .before .before .before .if2 .left))
     (no-room _ _ _ _ _ _ _ (c .before .before .before .wide32 .ensures .0) (binding-end _ _ _ _ (c .before .before .slot-size .ensures .0)) (c .before .if3 .taken)))
 
--- src/lib.rt:248:5
 put16-requires : tie.Need-put16-requires
 put16-requires c κs = search needs
 
--- src/lib.rt:249:20
 add-put-slot : tie.Need-add-put-slot
 add-put-slot c = search needs
 
--- src/lib.rt:249:5
 put-slot-requires : tie.Need-put-slot-requires
 put-slot-requires c κs = search needs
 
--- src/lib.rt:250:21
 cast-ends : tie.Need-cast-ends
 cast-ends c = search needs
 
--- src/lib.rt:251:26
 add-ends : tie.Need-add-ends
 add-ends c = search needs
 
--- src/lib.rt:232:1
 same-length : tie.Need-same-length
 same-length c = search needs
 
--- src/lib.rt:232:1
 returns-4 : tie.Need-returns-4
 unfolding Ops.bind Plan.binding Plan.u16
 returns-4 c = λ lv tg p.

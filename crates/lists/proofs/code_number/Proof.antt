@@ -5,101 +5,79 @@ use Rattle.lists.proofs.code_number.Tie as tie
 use Rattle.lists.proofs.code_number.Reads as reads
 use Rattle.lists.proofs.code_number.Lts as lts
 
--- src/lib.rt:84:33
 enum-told : tie.Need-enum-told
 enum-told c = search needs
 
--- src/lib.rt:85:31
 enum-told-2 : tie.Need-enum-told-2
 enum-told-2 c = search needs
 
--- src/lib.rt:86:27
 enum-told-3 : tie.Need-enum-told-3
 enum-told-3 c = search needs
 
--- src/lib.rt:87:38
 enum-told-4 : tie.Need-enum-told-4
 enum-told-4 c = search needs
 
--- src/lib.rt:88:32
 enum-told-5 : tie.Need-enum-told-5
 enum-told-5 c = search needs
 
--- src/lib.rt:89:32
 enum-told-6 : tie.Need-enum-told-6
 enum-told-6 c = search needs
 
--- src/lib.rt:90:30
 enum-told-7 : tie.Need-enum-told-7
 enum-told-7 c = search needs
 
--- src/lib.rt:91:37
 enum-told-8 : tie.Need-enum-told-8
 enum-told-8 c = search needs
 
--- src/lib.rt:92:35
 enum-told-9 : tie.Need-enum-told-9
 enum-told-9 c = search needs
 
--- src/lib.rt:93:43
 enum-told-10 : tie.Need-enum-told-10
 enum-told-10 c = search needs
 
--- src/lib.rt:94:41
 enum-told-11 : tie.Need-enum-told-11
 enum-told-11 c = search needs
 
--- src/lib.rt:80:1
 returns : tie.Need-returns
 unfolding codeNumber
 returns c = search needs
 
--- src/lib.rt:80:1
 returns-2 : tie.Need-returns-2
 unfolding codeNumber
 returns-2 c = search needs
 
--- src/lib.rt:80:1
 returns-3 : tie.Need-returns-3
 unfolding codeNumber
 returns-3 c = search needs
 
--- src/lib.rt:80:1
 returns-4 : tie.Need-returns-4
 unfolding codeNumber
 returns-4 c = search needs
 
--- src/lib.rt:80:1
 returns-5 : tie.Need-returns-5
 unfolding codeNumber
 returns-5 c = search needs
 
--- src/lib.rt:80:1
 returns-6 : tie.Need-returns-6
 unfolding codeNumber
 returns-6 c = search needs
 
--- src/lib.rt:80:1
 returns-7 : tie.Need-returns-7
 unfolding codeNumber
 returns-7 c = search needs
 
--- src/lib.rt:80:1
 returns-8 : tie.Need-returns-8
 unfolding codeNumber
 returns-8 c = search needs
 
--- src/lib.rt:80:1
 returns-9 : tie.Need-returns-9
 unfolding codeNumber
 returns-9 c = search needs
 
--- src/lib.rt:80:1
 returns-10 : tie.Need-returns-10
 unfolding codeNumber
 returns-10 c = search needs
 
--- src/lib.rt:80:1
 returns-11 : tie.Need-returns-11
 unfolding codeNumber
 returns-11 c = search needs

@@ -11,41 +11,32 @@ use Rattle.lists.proofs.stopped.Reads as stopped-reads
 use Rattle.records.proofs.put16.Reads as put16-reads
 use Rattle.records.proofs.wide32.Reads as wide32-reads
 
--- src/lib.rt:124:9
 returns : tie.Need-returns
 unfolding Ops.constrained
 returns c = λ lv tg p. over _ _ (c .if1 .taken)
 
--- src/lib.rt:127:9
 wide32-requires : tie.Need-wide32-requires
 wide32-requires c κs = search needs
 
--- src/lib.rt:128:15
 add-end : tie.Need-add-end
 add-end c = search needs
 
--- src/lib.rt:130:9
 stopped-requires : tie.Need-stopped-requires
 stopped-requires c κs = search needs
 
--- src/lib.rt:130:9
 returns-2 : tie.Need-returns-2
 unfolding Ops.constrained Plan.u16
 returns-2 c = λ lv tg p. stops _ _ _ _ _ _ _ (c .before .before .before .before .if1 .left) (c .stopped .ensures) (no-room _ _ _ _ _ _ _ (c .before .before .wide32 .ensures .0) refl (c .before .if2 .taken))
 
--- src/lib.rt:132:5
 put16-requires : tie.Need-put16-requires
 put16-requires c κs = search needs
 
--- src/lib.rt:133:24
 cast-ends : tie.Need-cast-ends
 cast-ends c = search needs
 
--- src/lib.rt:120:1
 same-length : tie.Need-same-length
 same-length c = search needs
 
--- src/lib.rt:120:1
 returns-3 : tie.Need-returns-3
 unfolding Ops.constrained Plan.u16
 returns-3 c = λ lv tg p. not-over _ _ _ (c .before .before .before .before .before .before .before .if1 .left) (appended _ _ _ _ _ _ _ (c .before .before .before .before .before .wide32 .ensures .0) refl _ (c .before .before .before .before .if2 .left) (c .before .before .put16 .ensures))

@@ -9,55 +9,42 @@ use Rattle.file.proofs.wide.Reads as wide-reads
 use Rattle.lists.proofs.field_end.Reads as field-end-reads
 use Rattle.lists.proofs.plain_size.Reads as plain-size-reads
 
--- src/lib.rt:339:16
 sub-left : tie.Need-sub-left
 sub-left c = search needs
 
--- src/lib.rt:341:9
 returns : tie.Need-returns
 returns c = end-cut _ _ (omega arith) (omega arith)
 
--- src/lib.rt:343:24
 add-wide : tie.Need-add-wide
 add-wide c = search needs
 
--- src/lib.rt:343:18
 shared-slice-read-wide : tie.Need-shared-slice-read-wide
 shared-slice-read-wide c = search needs
 
--- src/lib.rt:343:9
 wide-requires : tie.Need-wide-requires
 wide-requires c κs = search needs
 
--- src/lib.rt:345:9
 field-end-requires : tie.Need-field-end-requires
 field-end-requires c κs = search needs
 
--- src/lib.rt:345:9
 returns-2 : tie.Need-returns-2
 returns-2 c = search needs
 
--- src/lib.rt:348:9
 returns-3 : tie.Need-returns-3
 returns-3 c = end-bad _ _ (c .before .before .wide .result) (omega arith) (omega arith) (omega arith)
 
--- src/lib.rt:350:17
 plain-size-requires : tie.Need-plain-size-requires
 plain-size-requires c κs = search needs
 
--- src/lib.rt:350:13
 add-n : tie.Need-add-n
 add-n c = omega (arith, size-small (c .before .before .before .wide .result))
 
--- src/lib.rt:352:9
 returns-4 : tie.Need-returns-4
 returns-4 c = plain-cut _ _ (c .before .before .before .before .wide .result) (omega arith) (omega arith) (c .before .plain-size .result) (omega arith) (omega arith) (c .before .plain-size .ensures) (omega arith)
 
--- src/lib.rt:354:5
 add-result : tie.Need-add-result
 add-result c = search needs
 
--- src/lib.rt:335:1
 returns-5 : tie.Need-returns-5
 returns-5 c = plain-in _ _ (c .before .before .before .before .wide .result) (omega arith) (omega arith) (c .before .plain-size .result) (omega arith) (omega arith) (c .before .plain-size .ensures) _ (omega arith) (omega arith)
 

@@ -18,39 +18,30 @@ Inv-loop bytes name found₀ p₀ found p = Scanning bytes name p (placeOf found
 abbrev μ-loop : tie.MeasureT-loop
 μ-loop bytes name found₀ p₀ found p = length bytes - p
 
--- src/lib.rt:363:5
 loop-holds : tie.Need-loop-holds Inv-loop μ-loop
 loop-holds c = scan-start _ _
 
--- src/lib.rt:364:13
 end-at-requires : tie.Need-end-at-requires Inv-loop μ-loop
 end-at-requires c κs = c .before .loop .inv .within
 
--- src/lib.rt:366:13
 place-requires : tie.Need-place-requires Inv-loop μ-loop
 place-requires c κs = search needs
 
--- src/lib.rt:366:13
 returns : tie.Need-returns Inv-loop μ-loop
 returns c = seen-as _ _ _ _ (c .place .ensures) (scan-none _ _ _ _ (c .before .before .before .before .loop .inv) _ (c .before .before .end-at .ensures) (c .before .if1 .taken))
 
--- src/lib.rt:368:9
 later-requires : tie.Need-later-requires Inv-loop μ-loop
 later-requires c κs = let n = (scan-ended _ _ _ _ (c .before .before .before .loop .inv) _ (c .before .end-at .ensures) (c .if1 .left)) in omega (arith, n .within, forward _ _ _ _ (c .before .before .before .loop .inv) _ n)
 
--- src/lib.rt:363:5
 loop-less : tie.Need-loop-less Inv-loop μ-loop
 loop-less c = let n = (scan-ended _ _ _ _ (c .before .before .before .before .loop .inv) _ (c .before .before .end-at .ensures) (c .before .if1 .left)) in omega (arith, n .within, forward _ _ _ _ (c .before .before .before .before .loop .inv) _ n, c .before .before .before .loop-test .taken)
 
--- src/lib.rt:363:5
 loop-again : tie.Need-loop-again Inv-loop μ-loop
 loop-again c = scan-more _ _ _ _ (c .before .before .before .before .loop .inv) _ (scan-ended _ _ _ _ (c .before .before .before .before .loop .inv) _ (c .before .before .end-at .ensures) (c .before .if1 .left)) _ (c .before .before .before .loop-test .taken) (c .later .ensures)
 
--- src/lib.rt:371:5
 place-requires-2 : tie.Need-place-requires-2 Inv-loop μ-loop
 place-requires-2 c κs = search needs
 
--- src/lib.rt:358:1
 returns-2 : tie.Need-returns-2 Inv-loop μ-loop
 returns-2 c = seen-as _ _ _ _ (c .place2 .ensures) (scan-end _ _ _ _ (c .before .before .loop .inv) (c .before .loop-test .left))
 

@@ -11,27 +11,21 @@ use Rattle.lists.proofs.slot_of.Reads as slot-of-reads
 use Rattle.slots.proofs.just.Reads as just-reads
 use Rattle.slots.proofs.nothing.Reads as nothing-reads
 
--- src/lib.rt:448:8
 slot-fits-requires : tie.Need-slot-fits-requires
 slot-fits-requires c κs = search needs
 
--- src/lib.rt:449:14
 slot-of-requires : tie.Need-slot-of-requires
 slot-of-requires c κs = (c .before .before .before .before .before .pre .1, short _ _ (c .before .before .before .before .before .pre .0) (now (c .before .before .before .before .before .args .bytes)) (c .before .before .before .before .before .args .v) (sym (c .before .slot-fits .ensures) ∙ c .if1 .taken))
 
--- src/lib.rt:449:9
 just-requires : tie.Need-just-requires
 just-requires c κs = search needs
 
--- src/lib.rt:451:9
 nothing-requires : tie.Need-nothing-requires
 nothing-requires c κs = search needs
 
--- src/lib.rt:443:1
 returns : tie.Need-returns
 returns c = fitted-yes _ _ _ (c .before .before .before .slot-fits .ensures) _ _ (c .before .before .if1 .taken) (c .just .ensures) (c .before .slot-of .ensures)
 
--- src/lib.rt:443:1
 returns-2 : tie.Need-returns-2
 returns-2 c = fitted-no _ _ _ (c .before .before .slot-fits .ensures) _ (c .before .if1 .left) (c .nothing .ensures)
 

@@ -7,19 +7,15 @@ use Rattle.lists.proofs.later.Reads as reads
 use Rattle.lists.proofs.later.Lts as lts
 use Rattle.file.proofs.word_at.Reads as word-at-reads
 
--- src/lib.rt:300:8
 word-at-requires : tie.Need-word-at-requires
 word-at-requires c κs = search needs
 
--- src/lib.rt:301:9
 add-result : tie.Need-add-result
 add-result c = search needs
 
--- src/lib.rt:296:1
 returns : tie.Need-returns
 returns c = later-hit _ _ _ _ _ (c .before .word-at .ensures .0) _ (omega arith) (c .if1 .taken)
 
--- src/lib.rt:296:1
 returns-2 : tie.Need-returns-2
 returns-2 c = later-miss _ _ _ _ _ (c .before .word-at .ensures .0) (c .if1 .left)
 

@@ -11,39 +11,30 @@ use Rattle.lists.proofs.made_end.Reads as made-end-reads
 use Rattle.lists.proofs.made_slot.Reads as made-slot-reads
 use Rattle.lists.proofs.own_slot.Reads as own-slot-reads
 
--- src/lib.rt:496:9
 made-end-requires : tie.Need-made-end-requires
 made-end-requires c κs = search needs
 
--- src/lib.rt:497:9
 slice-aggregate-bytes : tie.Need-slice-aggregate-bytes
 slice-aggregate-bytes c = sym (length-take-le _ _ (c .before .made-end .ensures .1))
 
--- src/lib.rt:498:42
 made-slot-requires : tie.Need-made-slot-requires
 made-slot-requires c κs = search needs
 
--- src/lib.rt:498:37
 enum-known-v : tie.Need-enum-known-v
 enum-known-v c = search needs
 
--- src/lib.rt:499:9
 fitted-requires : tie.Need-fitted-requires
 fitted-requires c κs = (c .before .before .before .before .before .before .before .before .before .pre, view-inside _ _ _ (c .before .before .before .made-slot .ensures) _ (c .before .v .given .1))
 
--- src/lib.rt:501:9
 enum-told : tie.Need-enum-told
 enum-told c = search needs
 
--- src/lib.rt:501:9
 own-slot-requires : tie.Need-own-slot-requires
 own-slot-requires c κs = search needs
 
--- src/lib.rt:492:1
 returns : tie.Need-returns
 returns c = λ lv tg p. c .fitted .ensures ∙ of-made _ _ lv tg _ p _ (c .before .before .before .before .before .before .made-end .result) (c .before .before .before .before .before .before .made-end .ensures .0) _ (c .before .before .before .before .made-slot .ensures) _ (c .before .before .v .given .1)
 
--- src/lib.rt:492:1
 returns-2 : tie.Need-returns-2
 returns-2 c = λ lv tg p. c .own-slot .ensures ∙ of-file _ _ lv tg _ p _ (c .before .before .before .before .before .made-end .result) (c .before .before .before .before .before .made-end .ensures .0) _ (c .before .before .before .made-slot .ensures) (c .before .enum-told .given .1)
 

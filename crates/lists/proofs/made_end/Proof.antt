@@ -7,15 +7,12 @@ use Rattle.lists.proofs.made_end.Reads as reads
 use Rattle.lists.proofs.made_end.Lts as lts
 use Rattle.records.proofs.wide32.Reads as wide32-reads
 
--- src/lib.rt:484:9
 wide32-requires : tie.Need-wide32-requires
 wide32-requires c κs = search needs
 
--- src/lib.rt:486:9
 returns : tie.Need-returns
 returns c = search needs
 
--- src/lib.rt:480:1
 returns-2 : tie.Need-returns-2
 returns-2 c = (whole _ _ _ (c .before .wide32 .ensures .0) (c .if1 .left), omega arith)
 

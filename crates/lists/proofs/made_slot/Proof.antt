@@ -9,43 +9,33 @@ use Rattle.lists.proofs.find.Reads as find-reads
 use Rattle.lists.proofs.nearest.Reads as nearest-reads
 use Rattle.lists.proofs.slot_at.Reads as slot-at-reads
 
--- src/lib.rt:449:23
 cast-nearest : tie.Need-cast-nearest
 cast-nearest c = search needs
 
--- src/lib.rt:449:43
 cast-nearest-2 : tie.Need-cast-nearest-2
 cast-nearest-2 c = search needs
 
--- src/lib.rt:449:8
 nearest-requires : tie.Need-nearest-requires
 nearest-requires c κs = search needs
 
--- src/lib.rt:450:9
 returns : tie.Need-returns
 returns c = passed _ _ _ (λ i. c .before .before .shared-slice-known .given i .fits) (c .before .nearest .ensures) (c .if1 .taken)
 
--- src/lib.rt:452:27
 find-requires : tie.Need-find-requires
 find-requires c κs = search needs
 
--- src/lib.rt:452:22
 enum-known-p : tie.Need-enum-known-p
 enum-known-p c = search needs
 
--- src/lib.rt:453:33
 slot-at-requires : tie.Need-slot-at-requires
 slot-at-requires c κs = found-reads _ _ _ (c .before .before .before .find .ensures) _ (c .before .p .given .1)
 
--- src/lib.rt:455:9
 enum-told : tie.Need-enum-told
 enum-told c = search needs
 
--- src/lib.rt:446:1
 returns-2 : tie.Need-returns-2
 returns-2 c = found-slot _ _ _ (c .before .before .before .before .find .ensures) _ _ (c .before .before .p .given .1) (c .slot-at .ensures)
 
--- src/lib.rt:446:1
 returns-3 : tie.Need-returns-3
 returns-3 c = found-none _ _ _ (c .before .before .find .ensures) (c .enum-told .given .1)
 

@@ -18,43 +18,33 @@ Inv-loop bytes low high near₀ i₀ near i = (near ≡ nearest bytes low high (
 abbrev μ-loop : tie.MeasureT-loop
 μ-loop bytes low high near₀ i₀ near i = length bytes - i
 
--- src/lib.rt:437:5
 loop-holds : tie.Need-loop-holds Inv-loop μ-loop
 loop-holds c = (none-yet _ _ _, omega arith, omega arith)
 
--- src/lib.rt:438:29
 sub-apart : tie.Need-sub-apart Inv-loop μ-loop
 sub-apart c = omega arith
 
--- src/lib.rt:438:23
 shared-slice-read-apart : tie.Need-shared-slice-read-apart Inv-loop μ-loop
 shared-slice-read-apart c = omega arith
 
--- src/lib.rt:438:37
 shared-slice-read-apart-2 : tie.Need-shared-slice-read-apart-2 Inv-loop μ-loop
 shared-slice-read-apart-2 c = omega arith
 
--- src/lib.rt:438:13
 apart-requires : tie.Need-apart-requires Inv-loop μ-loop
 apart-requires c κs = search needs
 
--- src/lib.rt:439:9
 least-requires : tie.Need-least-requires Inv-loop μ-loop
 least-requires c κs = search needs
 
--- src/lib.rt:440:9
 add-i : tie.Need-add-i Inv-loop μ-loop
 add-i c = search needs
 
--- src/lib.rt:437:5
 loop-less : tie.Need-loop-less Inv-loop μ-loop
 loop-less c = omega arith
 
--- src/lib.rt:437:5
 loop-again : tie.Need-loop-again Inv-loop μ-loop
 loop-again c = (one-pair _ _ _ _ _ _ _ (c .before .before .before .before .before .loop .inv .1) (c .before .before .before .before .before .loop .inv .0) (c .before .apart .ensures) (c .least .ensures), omega arith, omega arith)
 
--- src/lib.rt:432:1
 returns : tie.Need-returns Inv-loop μ-loop
 returns c = c .before .loop .inv .0 ∙ ap (nearest _ _ _) (omega arith)
 

@@ -6,15 +6,12 @@ use Rattle.lists.proofs.numbered.Reads as reads
 use Rattle.lists.proofs.numbered.Lts as lts
 use Rattle.views.proofs.count_of.Reads as count-of-reads
 
--- src/lib.rt:378:12
 count-of-requires : tie.Need-count-of-requires
 count-of-requires c κs = search needs
 
--- src/lib.rt:379:9
 returns : tie.Need-returns
 returns c = in-section _ _ _ (c .before .count-of .ensures) (c .if1 .taken)
 
--- src/lib.rt:373:1
 returns-2 : tie.Need-returns-2
 returns-2 c = past-section _ _ _ (c .before .count-of .ensures) (c .if1 .left)
 

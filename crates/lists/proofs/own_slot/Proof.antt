@@ -12,31 +12,24 @@ use Rattle.lists.proofs.fitted.Reads as fitted-reads
 use Rattle.tables.proofs.lookup.Reads as lookup-reads
 use Rattle.slots.proofs.nothing.Reads as nothing-reads
 
--- src/lib.rt:460:42
 lookup-requires : tie.Need-lookup-requires
 lookup-requires c κs = search needs
 
--- src/lib.rt:460:37
 enum-known-v : tie.Need-enum-known-v
 enum-known-v c = search needs
 
--- src/lib.rt:461:9
 fitted-requires : tie.Need-fitted-requires
 fitted-requires c κs = (c .before .before .before .before .before .before .pre, view-inside _ _ _ (c .before .before .before .lookup .ensures) _ (c .before .v .given .1))
 
--- src/lib.rt:463:9
 enum-told : tie.Need-enum-told
 enum-told c = search needs
 
--- src/lib.rt:463:9
 nothing-requires : tie.Need-nothing-requires
 nothing-requires c κs = search needs
 
--- src/lib.rt:456:1
 returns : tie.Need-returns
 returns c = c .fitted .ensures ∙ ap (fitting _) (view-is _ _ _ (c .before .before .before .before .lookup .ensures) _ (c .before .before .v .given .1))
 
--- src/lib.rt:456:1
 returns-2 : tie.Need-returns-2
 unfolding fitting
 returns-2 c = c .nothing .ensures ∙ ap (fitting (tablesOf (now (c .before .before .before .before .before .before .args .file)))) (nothing-is _ _ _ (c .before .before .before .lookup .ensures) (c .before .enum-told .given .1))

@@ -10,35 +10,27 @@ use Rattle.lists.proofs.past_path.Lts as lts
 use Rattle.file.proofs.wide.Reads as wide-reads
 use Rattle.file.proofs.word_at.Reads as word-at-reads
 
--- src/lib.rt:337:20
 add-word-at : tie.Need-add-word-at
 add-word-at c = search needs
 
--- src/lib.rt:337:44
 add-wide : tie.Need-add-wide
 add-wide c = search needs
 
--- src/lib.rt:337:38
 shared-slice-read-wide : tie.Need-shared-slice-read-wide
 shared-slice-read-wide c = search needs
 
--- src/lib.rt:337:33
 wide-requires : tie.Need-wide-requires
 wide-requires c κs = search needs
 
--- src/lib.rt:337:29
 mul-word-at : tie.Need-mul-word-at
 mul-word-at c = search needs
 
--- src/lib.rt:337:20
 add-word-at-2 : tie.Need-add-word-at-2
 add-word-at-2 c = search needs
 
--- src/lib.rt:337:5
 word-at-requires : tie.Need-word-at-requires
 word-at-requires c κs = search needs
 
--- src/lib.rt:333:1
 returns : tie.Need-returns
 returns c = c .word-at .ensures .0 ∙ ap (λ (n : ℕ). word (now (c .before .before .before .before .args .bytes)) (c .before .before .before .before .args .at + 3 + 4 * n)) (c .before .wide .ensures .0)
 

@@ -12,53 +12,41 @@ use Rattle.file.proofs.wide.Reads as wide-reads
 use Rattle.file.proofs.wide16.Reads as wide16-reads
 use Rattle.lists.proofs.numbered.Reads as numbered-reads
 
--- src/lib.rt:400:9
 numbered-requires : tie.Need-numbered-requires
 numbered-requires c κs = search needs
 
--- src/lib.rt:401:9
 returns : tie.Need-returns
 returns c = no-type _ _ (c .before .before .before .before .before .pre .0) _ _ (c .before .numbered .ensures) _ _ (not-true _ (c .if1 .taken))
 
--- src/lib.rt:403:24
 add-wide : tie.Need-add-wide
 unfolding PathInside
 add-wide c = omega (arith, c .before .before .before .before .before .pre .1)
 
--- src/lib.rt:403:18
 shared-slice-read-wide : tie.Need-shared-slice-read-wide
 unfolding PathInside
 shared-slice-read-wide c = omega (arith, c .before .before .before .before .before .before .pre .1)
 
--- src/lib.rt:403:9
 wide-requires : tie.Need-wide-requires
 wide-requires c κs = search needs
 
--- src/lib.rt:404:25
 add-wide16 : tie.Need-add-wide16
 add-wide16 c = omega (arith, type-low _ _ (c .before .before .before .before .before .before .before .pre .0) _ _ (c .before .before .before .numbered .ensures) (not-false _ (c .before .before .if1 .left)))
 
--- src/lib.rt:404:19
 mul-wide16 : tie.Need-mul-wide16
 mul-wide16 c = omega (arith, type-low _ _ (c .before .before .before .before .before .before .before .pre .0) _ _ (c .before .before .before .numbered .ensures) (not-false _ (c .before .before .if1 .left)))
 
--- src/lib.rt:404:19
 shared-slice-read-wide16 : tie.Need-shared-slice-read-wide16
 shared-slice-read-wide16 c = omega (arith, type-low _ _ (c .before .before .before .before .before .before .before .before .pre .0) _ _ (c .before .before .before .before .numbered .ensures) (not-false _ (c .before .before .before .if1 .left)), c .before .before .before .before .before .before .before .before .pre .0 .indexed .long)
 
--- src/lib.rt:404:12
 wide16-requires : tie.Need-wide16-requires
 wide16-requires c κs = search needs
 
--- src/lib.rt:404:8
 add-if2 : tie.Need-add-if2
 add-if2 c = omega (arith, c .before .before .wide .ensures, c .wide16 .ensures, c .before .shared-slice-known5 .given (4682 + c .before .before .before .before .before .before .before .before .before .args .t))
 
--- src/lib.rt:405:9
 returns-2 : tie.Need-returns-2
 returns-2 c = has-room _ _ (c .before .before .before .before .before .before .before .before .before .before .pre .0) _ _ (c .before .before .before .before .before .before .numbered .ensures) _ _ _ _ (c .before .before .before .wide .ensures .0) (c .before .wide16 .ensures) (not-false _ (c .before .before .before .before .before .if1 .left)) (c .if2 .taken)
 
--- src/lib.rt:395:1
 returns-3 : tie.Need-returns-3
 returns-3 c = no-room _ _ (c .before .before .before .before .before .before .before .before .before .before .pre .0) _ _ (c .before .before .before .before .before .before .numbered .ensures) _ _ _ _ (c .before .before .before .wide .ensures .0) (c .before .wide16 .ensures) (not-false _ (c .before .before .before .before .before .if1 .left)) (c .if2 .left)
 

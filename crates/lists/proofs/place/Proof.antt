@@ -6,15 +6,12 @@ use Rattle.lists.proofs.place.Tie as tie
 use Rattle.lists.proofs.place.Reads as reads
 use Rattle.lists.proofs.place.Lts as lts
 
--- src/lib.rt:290:9
 returns : tie.Need-returns
 returns c = place-none _ (omega arith)
 
--- src/lib.rt:292:15
 sub-t3 : tie.Need-sub-t3
 sub-t3 c = search needs
 
--- src/lib.rt:286:1
 returns-2 : tie.Need-returns-2
 returns-2 c = place-next _ _ (omega arith)
 

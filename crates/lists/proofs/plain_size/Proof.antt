@@ -5,15 +5,12 @@ use Rattle.lists.proofs.plain_size.Tie as tie
 use Rattle.lists.proofs.plain_size.Reads as reads
 use Rattle.lists.proofs.plain_size.Lts as lts
 
--- src/lib.rt:311:9
 returns : tie.Need-returns
 returns c = search needs
 
--- src/lib.rt:314:9
 returns-2 : tie.Need-returns-2
 returns-2 c = search needs
 
--- src/lib.rt:307:1
 returns-3 : tie.Need-returns-3
 returns-3 c = size-four _ (c .before .if1 .left) (c .if2 .left)
 

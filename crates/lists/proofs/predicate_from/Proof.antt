@@ -8,19 +8,15 @@ use Rattle.lists.proofs.predicate_from.Reads as reads
 use Rattle.lists.proofs.predicate_from.Lts as lts
 use Rattle.file.proofs.word_at.Reads as word-at-reads
 
--- src/lib.rt:324:9
 word-at-requires : tie.Need-word-at-requires
 word-at-requires c κs = search needs
 
--- src/lib.rt:328:42
 cast-t6 : tie.Need-cast-t6
 cast-t6 c = search needs
 
--- src/lib.rt:320:1
 returns : tie.Need-returns
 returns c = none-is _ (c .if1 .taken) ∙ ap orNone (c .before .word-at .ensures .0)
 
--- src/lib.rt:320:1
 returns-2 : tie.Need-returns-2
 returns-2 c = some-is _ (c .if1 .left) ∙ ap orNone (c .before .word-at .ensures .0)
 

@@ -7,27 +7,21 @@ use Rattle.lists.proofs.predicate_in.Lts as lts
 use Rattle.file.proofs.wide16.Reads as wide16-reads
 use Rattle.lists.proofs.numbered.Reads as numbered-reads
 
--- src/lib.rt:389:36
 enum-told : tie.Need-enum-told
 enum-told c = search needs
 
--- src/lib.rt:390:30
 enum-known-p : tie.Need-enum-known-p
 enum-known-p c = search needs
 
--- src/lib.rt:390:62
 wide16-requires : tie.Need-wide16-requires
 wide16-requires c κs = search needs
 
--- src/lib.rt:390:37
 numbered-requires : tie.Need-numbered-requires
 numbered-requires c κs = search needs
 
--- src/lib.rt:384:1
 returns : tie.Need-returns
 returns c = no-predicate _ _ (c .enum-told .given .1)
 
--- src/lib.rt:384:1
 returns-2 : tie.Need-returns-2
 returns-2 c = some-predicate _ _ _ _ _ (c .before .before .before .p .given .1) (c .before .wide16 .ensures) (c .numbered .ensures)
 

@@ -13,31 +13,24 @@ use Rattle.lists.proofs.put_one.Reads as put-one-reads
 use Rattle.records.proofs.put16.Reads as put16-reads
 use Rattle.records.proofs.put_path.Reads as put-path-reads
 
--- src/lib.rt:211:26
 wide16-requires : tie.Need-wide16-requires
 wide16-requires c κs = search needs
 
--- src/lib.rt:211:5
 put-one-requires : tie.Need-put-one-requires
 put-one-requires c κs = search needs
 
--- src/lib.rt:212:28
 add-put-path : tie.Need-add-put-path
 add-put-path c = search needs
 
--- src/lib.rt:212:9
 put-path-requires : tie.Need-put-path-requires
 put-path-requires c κs = search needs
 
--- src/lib.rt:213:5
 put16-requires : tie.Need-put16-requires
 put16-requires c κs = search needs
 
--- src/lib.rt:207:1
 same-length : tie.Need-same-length
 same-length c = search needs
 
--- src/lib.rt:207:1
 returns : tie.Need-returns
 unfolding Plan.u16
 returns c = next _ _ _ _ _ _ _ (next _ _ _ _ _ _ _ (one-is _ _ _ _ _ _ (c .before .before .before .before .before .before .before .before .before .before .put-one .ensures) (c .before .before .before .before .before .before .before .before .before .before .before .wide16 .ensures)) (c .before .before .before .before .before .before .put-path .ensures .2) refl) (c .before .before .put16 .ensures) (omega (arith, c .before .before .before .before .before .before .put-path .ensures .0))

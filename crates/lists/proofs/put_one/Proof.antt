@@ -9,23 +9,18 @@ use Rattle.lists.proofs.put_one.Lts as lts
 use Rattle.records.proofs.put16.Reads as put16-reads
 use Rattle.records.proofs.put8.Reads as put8-reads
 
--- src/lib.rt:195:5
 put8-requires : tie.Need-put8-requires
 put8-requires c κs = search needs
 
--- src/lib.rt:196:17
 add-put16 : tie.Need-add-put16
 add-put16 c = search needs
 
--- src/lib.rt:196:5
 put16-requires : tie.Need-put16-requires
 put16-requires c κs = search needs
 
--- src/lib.rt:191:1
 same-length : tie.Need-same-length
 same-length c = search needs
 
--- src/lib.rt:191:1
 returns : tie.Need-returns
 unfolding Plan.u16
 returns c = next _ _ _ _ _ _ _ (c .before .before .before .before .before .before .put8 .ensures) (c .before .before .put16 .ensures) refl

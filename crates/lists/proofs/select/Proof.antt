@@ -18,41 +18,32 @@ use Rattle.records.proofs.put32.Reads as put32-reads
 use Rattle.records.proofs.put_path.Reads as put-path-reads
 use Rattle.records.proofs.wide32.Reads as wide32-reads
 
--- src/lib.rt:144:9
 returns : tie.Need-returns
 unfolding Ops.select
 returns c = λ lv tg p. over _ _ (c .if1 .taken)
 
--- src/lib.rt:149:9
 stopped-requires : tie.Need-stopped-requires
 stopped-requires c κs = search needs
 
--- src/lib.rt:149:9
 returns-2 : tie.Need-returns-2
 unfolding Ops.select
 returns-2 c = λ lv tg p. stops _ _ _ _ _ _ _ (c .before .before .before .if1 .left) (c .stopped .ensures) (too-many _ _ _ _ _ _ (c .before .if2 .taken))
 
--- src/lib.rt:151:9
 wide32-requires : tie.Need-wide32-requires
 wide32-requires c κs = search needs
 
--- src/lib.rt:152:20
 path-size-requires : tie.Need-path-size-requires
 path-size-requires c κs = search needs
 
--- src/lib.rt:152:15
 add-end : tie.Need-add-end
 add-end c = search needs
 
--- src/lib.rt:152:15
 add-end-2 : tie.Need-add-end-2
 add-end-2 c = search needs
 
--- src/lib.rt:154:9
 stopped-requires-2 : tie.Need-stopped-requires-2
 stopped-requires-2 c κs = search needs
 
--- src/lib.rt:154:9
 returns-3 : tie.Need-returns-3
 unfolding Ops.select
 returns-3 c = λ lv tg p.
@@ -60,39 +51,30 @@ returns-3 c = λ lv tg p.
     (counted _ _ _ _ _ _ _ (omega (arith, c .before .before .before .before .if2 .left))
     (no-room _ _ _ _ _ _ _ (c .before .before .before .wide32 .ensures .0) (select-end _ _ _ _ _ (c .before .before .path-size .ensures .0)) (c .before .if3 .taken)))
 
--- src/lib.rt:156:21
 wide16-requires : tie.Need-wide16-requires
 wide16-requires c κs = search needs
 
--- src/lib.rt:156:5
 put16-requires : tie.Need-put16-requires
 put16-requires c κs = search needs
 
--- src/lib.rt:157:28
 add-put-path : tie.Need-add-put-path
 add-put-path c = search needs
 
--- src/lib.rt:157:9
 put-path-requires : tie.Need-put-path-requires
 put-path-requires c κs = search needs
 
--- src/lib.rt:158:5
 put32-requires : tie.Need-put32-requires
 put32-requires c κs = search needs
 
--- src/lib.rt:159:20
 cast-ends : tie.Need-cast-ends
 cast-ends c = search needs
 
--- src/lib.rt:160:25
 add-ends : tie.Need-add-ends
 add-ends c = search needs
 
--- src/lib.rt:140:1
 same-length : tie.Need-same-length
 same-length c = search needs
 
--- src/lib.rt:140:1
 returns-4 : tie.Need-returns-4
 unfolding Ops.select Plan.select Plan.u16
 returns-4 c = λ lv tg p.

@@ -12,99 +12,75 @@ use Rattle.lists.proofs.past_path.Reads as past-path-reads
 use Rattle.lists.proofs.predicate_from.Reads as predicate-from-reads
 use Rattle.lists.proofs.register_at.Reads as register-at-reads
 
--- src/lib.rt:345:13
 add-q : tie.Need-add-q
 add-q c = omega (arith, (there _ _ (c .before .pre)) .room)
 
--- src/lib.rt:346:13
 add-p : tie.Need-add-p
 add-p c = omega (arith, (there _ _ (c .before .pre)) .kinded .inside)
 
--- src/lib.rt:347:11
 shared-slice-read-match : tie.Need-shared-slice-read-match
 shared-slice-read-match c = (there _ _ (c .before .before .pre)) .kinded .inside
 
--- src/lib.rt:348:28
 register-at-requires : tie.Need-register-at-requires
 register-at-requires c κs = omega (arith, row-here _ _ _ (there _ _ (c .before .before .before .pre)) (omega arith) .0)
 
--- src/lib.rt:348:73
 add-predicate-from : tie.Need-add-predicate-from
 add-predicate-from c = omega (arith, row-here _ _ _ (there _ _ (c .before .before .before .before .pre)) (omega arith) .0)
 
--- src/lib.rt:348:51
 predicate-from-requires : tie.Need-predicate-from-requires
 predicate-from-requires c κs = omega (arith, row-here _ _ _ (there _ _ (c .before .before .before .before .pre)) (omega arith) .0)
 
--- src/lib.rt:349:28
 register-at-requires-2 : tie.Need-register-at-requires-2
 register-at-requires-2 c κs = omega (arith, key-here _ _ _ (there _ _ (c .before .before .before .pre)) (omega arith) .0)
 
--- src/lib.rt:349:66
 add-word-at : tie.Need-add-word-at
 add-word-at c = omega (arith, key-here _ _ _ (there _ _ (c .before .before .before .before .pre)) (omega arith) .0)
 
--- src/lib.rt:349:51
 word-at-requires : tie.Need-word-at-requires
 word-at-requires c κs = omega (arith, key-here _ _ _ (there _ _ (c .before .before .before .before .pre)) (omega arith) .0)
 
--- src/lib.rt:350:32
 register-at-requires-3 : tie.Need-register-at-requires-3
 register-at-requires-3 c κs = omega (arith, derived-here _ _ _ (there _ _ (c .before .before .before .pre)) (omega arith) .0)
 
--- src/lib.rt:351:30
 register-at-requires-4 : tie.Need-register-at-requires-4
 register-at-requires-4 c κs = field-here _ _ _ (there _ _ (c .before .before .before .pre)) (omega arith) .first
 
--- src/lib.rt:351:53
 add-t17 : tie.Need-add-t17
 add-t17 c = omega (arith, field-here _ _ _ (there _ _ (c .before .before .before .before .pre)) (omega arith) .first)
 
--- src/lib.rt:351:77
 add-past-path : tie.Need-add-past-path
 add-past-path c = omega (arith, field-here _ _ _ (there _ _ (c .before .before .before .before .pre)) (omega arith) .first)
 
--- src/lib.rt:351:60
 past-path-requires : tie.Need-past-path-requires
 past-path-requires c κs = field-here _ _ _ (there _ _ (c .before .before .before .before .pre)) (omega arith) .last
 
--- src/lib.rt:352:30
 register-at-requires-5 : tie.Need-register-at-requires-5
 register-at-requires-5 c κs = omega (arith, value-here _ _ _ (there _ _ (c .before .before .before .pre)) (omega arith) .0)
 
--- src/lib.rt:352:68
 add-word-at-2 : tie.Need-add-word-at-2
 add-word-at-2 c = omega (arith, value-here _ _ _ (there _ _ (c .before .before .before .before .pre)) (omega arith) .0)
 
--- src/lib.rt:352:53
 word-at-requires-2 : tie.Need-word-at-requires-2
 word-at-requires-2 c κs = omega (arith, value-here _ _ _ (there _ _ (c .before .before .before .before .pre)) (omega arith) .0)
 
--- src/lib.rt:353:30
 word-at-requires-3 : tie.Need-word-at-requires-3
 word-at-requires-3 c κs = const-here _ _ _ (there _ _ (c .before .before .before .pre)) (omega (arith, (there _ _ (c .before .before .before .pre)) .kinded .known)) .0
 
--- src/lib.rt:341:1
 returns : tie.Need-returns
 returns c = seen-view _ _ (c .before .before .before .before .before .pre) _ (ap₂ Slot.Row (c .before .register-at .ensures) (c .predicate-from .ensures) ∙ row-here _ _ _ (there _ _ (c .before .before .before .before .before .pre)) (omega arith) .1) tt
 
--- src/lib.rt:341:1
 returns-2 : tie.Need-returns-2
 returns-2 c = seen-view _ _ (c .before .before .before .before .before .pre) _ (ap₂ Slot.Key (c .before .register-at2 .ensures) (c .word-at .ensures .0) ∙ key-here _ _ _ (there _ _ (c .before .before .before .before .before .pre)) (omega arith) .1) tt
 
--- src/lib.rt:341:1
 returns-3 : tie.Need-returns-3
 returns-3 c = seen-view _ _ (c .before .before .before .before .pre) _ (ap Slot.Derived (c .register-at3 .ensures) ∙ derived-here _ _ _ (there _ _ (c .before .before .before .before .pre)) (omega arith) .1) tt
 
--- src/lib.rt:341:1
 returns-4 : tie.Need-returns-4
 returns-4 c = seen-view _ _ (c .before .before .before .before .before .pre) _ (field-is _ _ _ (there _ _ (c .before .before .before .before .before .pre)) _ _ (omega arith) (c .before .register-at4 .ensures) (c .past-path .ensures)) (field-here _ _ _ (there _ _ (c .before .before .before .before .before .pre)) (omega arith) .path)
 
--- src/lib.rt:341:1
 returns-5 : tie.Need-returns-5
 returns-5 c = seen-view _ _ (c .before .before .before .before .before .pre) _ (ap₂ Slot.Value (c .before .register-at5 .ensures) (c .word-at2 .ensures .0) ∙ value-here _ _ _ (there _ _ (c .before .before .before .before .before .pre)) (omega arith) .1) tt
 
--- src/lib.rt:341:1
 returns-6 : tie.Need-returns-6
 returns-6 c = seen-view _ _ (c .before .before .before .before .pre) _ (ap Slot.Const (c .word-at3 .ensures .0) ∙ const-here _ _ _ (there _ _ (c .before .before .before .before .pre)) (omega (arith, (there _ _ (c .before .before .before .before .pre)) .kinded .known)) .1) tt
 

@@ -11,68 +11,53 @@ use Rattle.lists.proofs.numbered.Reads as numbered-reads
 use Rattle.lists.proofs.path_fits.Reads as path-fits-reads
 use Rattle.lists.proofs.predicate_in.Reads as predicate-in-reads
 
--- src/lib.rt:417:26
 enum-known-v : tie.Need-enum-known-v
 enum-known-v c = search needs
 
--- src/lib.rt:417:32
 predicate-in-requires : tie.Need-predicate-in-requires
 predicate-in-requires c κs = search needs
 
--- src/lib.rt:418:26
 enum-known-v-2 : tie.Need-enum-known-v-2
 enum-known-v-2 c = search needs
 
--- src/lib.rt:418:32
 numbered-requires : tie.Need-numbered-requires
 numbered-requires c κs = search needs
 
--- src/lib.rt:419:33
 enum-told : tie.Need-enum-told
 enum-told c = search needs
 
--- src/lib.rt:420:28
 enum-known-v-3 : tie.Need-enum-known-v-3
 enum-known-v-3 c = search needs
 
--- src/lib.rt:420:38
 path-fits-requires : tie.Need-path-fits-requires
 path-fits-requires c κs = (c .before .before .before .before .before .before .pre .0, inside-as _ _ _ (c .before .v3 .given .1) (c .before .before .before .before .before .before .pre .1))
 
--- src/lib.rt:421:34
 enum-told-2 : tie.Need-enum-told-2
 enum-told-2 c = search needs
 
--- src/lib.rt:422:31
 enum-told-3 : tie.Need-enum-told-3
 enum-told-3 c = search needs
 
--- src/lib.rt:411:1
 returns : tie.Need-returns
 unfolding roomy isType
 returns c = fits-as _ _ _ _ (c .before .before .v .given .1) _ (c .predicate-in .ensures)
 
--- src/lib.rt:411:1
 returns-2 : tie.Need-returns-2
 unfolding roomy isType
 returns-2 c = fits-as _ _ _ _ (c .before .before .v2 .given .1) _ (c .numbered .ensures)
 
--- src/lib.rt:411:1
 returns-3 : tie.Need-returns-3
 unfolding roomy isType
 returns-3 c = fits-as _ _ _ _ (c .enum-told .given .1) _ refl
 
--- src/lib.rt:411:1
 returns-4 : tie.Need-returns-4
 unfolding roomy isType
 returns-4 c = fits-as _ _ _ _ (c .before .before .v3 .given .1) _ (c .path-fits .ensures)
 
--- src/lib.rt:411:1
 returns-5 : tie.Need-returns-5
 unfolding roomy isType
 returns-5 c = fits-as _ _ _ _ (c .enum-told2 .given .1) _ refl
 
--- src/lib.rt:411:1
 returns-6 : tie.Need-returns-6
 unfolding roomy isType
 returns-6 c = fits-as _ _ _ _ (c .enum-told3 .given .1) _ refl

@@ -9,79 +9,60 @@ use Rattle.fields.proofs.path_at.Reads as path-at-reads
 use Rattle.slots.proofs.Slot.field.Reads as field-reads
 use Rattle.slots.proofs.Slot.plain.Reads as plain-reads
 
--- src/lib.rt:433:23
 enum-known-v : tie.Need-enum-known-v
 enum-known-v c = search needs
 
--- src/lib.rt:433:32
 plain-requires : tie.Need-plain-requires
 plain-requires c κs = search needs
 
--- src/lib.rt:434:23
 enum-known-v-2 : tie.Need-enum-known-v-2
 enum-known-v-2 c = search needs
 
--- src/lib.rt:434:32
 plain-requires-2 : tie.Need-plain-requires-2
 plain-requires-2 c κs = search needs
 
--- src/lib.rt:435:27
 enum-known-v-3 : tie.Need-enum-known-v-3
 enum-known-v-3 c = search needs
 
--- src/lib.rt:435:33
 plain-requires-3 : tie.Need-plain-requires-3
 plain-requires-3 c κs = search needs
 
--- src/lib.rt:436:25
 enum-known-v-4 : tie.Need-enum-known-v-4
 enum-known-v-4 c = search needs
 
--- src/lib.rt:436:53
 path-at-requires : tie.Need-path-at-requires
 path-at-requires c κs = (inside-as _ _ _ (c .before .v4 .given .1) (c .before .before .before .before .pre .0), short-as _ _ _ (c .before .v4 .given .1) (c .before .before .before .before .pre .1))
 
--- src/lib.rt:436:38
 field-requires : tie.Need-field-requires
 field-requires c κs = search needs
 
--- src/lib.rt:437:25
 enum-known-v-5 : tie.Need-enum-known-v-5
 enum-known-v-5 c = search needs
 
--- src/lib.rt:437:34
 plain-requires-4 : tie.Need-plain-requires-4
 plain-requires-4 c κs = search needs
 
--- src/lib.rt:438:25
 enum-known-v-6 : tie.Need-enum-known-v-6
 enum-known-v-6 c = search needs
 
--- src/lib.rt:438:31
 plain-requires-5 : tie.Need-plain-requires-5
 plain-requires-5 c κs = search needs
 
--- src/lib.rt:427:1
 returns : tie.Need-returns
 returns c = plain-slot _ _ _ _ _ (c .before .before .v .given .1) (c .plain .ensures) refl
 
--- src/lib.rt:427:1
 returns-2 : tie.Need-returns-2
 returns-2 c = plain-slot _ _ _ _ _ (c .before .before .v2 .given .1) (c .plain2 .ensures) refl
 
--- src/lib.rt:427:1
 returns-3 : tie.Need-returns-3
 returns-3 c = plain-slot _ _ _ _ _ (c .before .before .v3 .given .1) (c .plain3 .ensures) refl
 
--- src/lib.rt:427:1
 returns-4 : tie.Need-returns-4
 returns-4 c = field-slot _ _ _ _ _ _ _ (c .before .before .before .v4 .given .1) (c .before .path-at .ensures) (c .field .ensures)
 
--- src/lib.rt:427:1
 returns-5 : tie.Need-returns-5
 returns-5 c = plain-slot _ _ _ _ _ (c .before .before .v5 .given .1) (c .plain4 .ensures) refl
 
--- src/lib.rt:427:1
 returns-6 : tie.Need-returns-6
 returns-6 c = plain-slot _ _ _ _ _ (c .before .before .v6 .given .1) (c .plain5 .ensures) refl
 

@@ -9,63 +9,49 @@ use Rattle.lists.proofs.slot_size.Reads as reads
 use Rattle.lists.proofs.slot_size.Lts as lts
 use Rattle.records.proofs.path_size.Reads as path-size-reads
 
--- src/lib.rt:181:32
 enum-told : tie.Need-enum-told
 enum-told c = search needs
 
--- src/lib.rt:182:32
 enum-told-2 : tie.Need-enum-told-2
 enum-told-2 c = search needs
 
--- src/lib.rt:183:33
 enum-told-3 : tie.Need-enum-told-3
 enum-told-3 c = search needs
 
--- src/lib.rt:184:38
 enum-told-4 : tie.Need-enum-told-4
 enum-told-4 c = search needs
 
--- src/lib.rt:184:38
 path-size-requires : tie.Need-path-size-requires
 path-size-requires c κs = search needs
 
--- src/lib.rt:184:34
 add-result : tie.Need-add-result
 add-result c = search needs
 
--- src/lib.rt:185:34
 enum-told-5 : tie.Need-enum-told-5
 enum-told-5 c = search needs
 
--- src/lib.rt:186:31
 enum-told-6 : tie.Need-enum-told-6
 enum-told-6 c = search needs
 
--- src/lib.rt:176:1
 returns : tie.Need-returns
 unfolding Plan.slot Plan.u16 Plan.optional
 returns c = (slot-size _ _ (c .enum-told .given .1) _ refl, omega arith)
 
--- src/lib.rt:176:1
 returns-2 : tie.Need-returns-2
 unfolding Plan.slot Plan.u16 Plan.optional
 returns-2 c = (slot-size _ _ (c .enum-told2 .given .1) _ refl, omega arith)
 
--- src/lib.rt:176:1
 returns-3 : tie.Need-returns-3
 unfolding Plan.slot Plan.u16 Plan.optional
 returns-3 c = (slot-size _ _ (c .enum-told3 .given .1) _ refl, omega arith)
 
--- src/lib.rt:176:1
 returns-4 : tie.Need-returns-4
 returns-4 c = (slot-size _ _ (c .before .enum-told4 .given .1) _ (field-size _ _ _ _ (c .path-size .ensures .0)), omega (arith, c .path-size .ensures .1))
 
--- src/lib.rt:176:1
 returns-5 : tie.Need-returns-5
 unfolding Plan.slot Plan.u16 Plan.optional
 returns-5 c = (slot-size _ _ (c .enum-told5 .given .1) _ refl, omega arith)
 
--- src/lib.rt:176:1
 returns-6 : tie.Need-returns-6
 unfolding Plan.slot Plan.u16 Plan.optional
 returns-6 c = (slot-size _ _ (c .enum-told6 .given .1) _ refl, omega arith)

@@ -22,71 +22,54 @@ Inv-loop file long w n p left₀ q₀ left q = (distinct (run (numberAt file lon
 abbrev μ-loop : tie.MeasureT-loop
 μ-loop file long w n p left₀ q₀ left q = left
 
--- src/lib.rt:411:9
 returns : tie.Need-returns Inv-loop μ-loop
 returns c = sym (distinct-none _ _ _ _ (c .if1 .taken))
 
--- src/lib.rt:413:33
 sub-is-rising : tie.Need-sub-is-rising Inv-loop μ-loop
 sub-is-rising c = search needs
 
--- src/lib.rt:413:40
 add-is-rising : tie.Need-add-is-rising Inv-loop μ-loop
 add-is-rising c = let x = c .before .before .pre in omega (arith, words-first _ _ _ _ _ x (omega (arith, c .if1 .left)), x .small, x .stride)
 
--- src/lib.rt:413:47
 number-at-requires : tie.Need-number-at-requires Inv-loop μ-loop
 number-at-requires c κs = words-first _ _ _ _ _ (c .before .before .pre) (omega (arith, c .if1 .left))
 
--- src/lib.rt:413:8
 is-rising-requires : tie.Need-is-rising-requires Inv-loop μ-loop
 is-rising-requires c κs = words-next _ _ _ _ _ (c .before .before .before .pre) (omega (arith, c .before .if1 .left))
 
--- src/lib.rt:414:9
 returns-2 : tie.Need-returns-2 Inv-loop μ-loop
 returns-2 c = let a = c .before .before .before .before .before in sym (run-differs (numberAt (a .args .file .now) (a .args .long)) (a .args .w) (c .before .before .number-at .result) (a .args .n) (a .args .p) (omega (arith, c .before .before .before .if1 .left)) (c .before .before .number-at .ensures) (sym (c .before .is-rising .ensures) ∙ c .if2 .taken))
 
--- src/lib.rt:418:5
 loop-holds : tie.Need-loop-holds Inv-loop μ-loop
 loop-holds c = (refl, c .before .before .before .before .before .pre)
 
--- src/lib.rt:419:36
 sub-is-among : tie.Need-sub-is-among Inv-loop μ-loop
 sub-is-among c = search needs
 
--- src/lib.rt:419:46
 add-is-among : tie.Need-add-is-among Inv-loop μ-loop
 add-is-among c = let x = c .before .loop .inv .1 in omega (arith, words-first _ _ _ _ _ x (c .loop-test .taken), x .small, x .stride)
 
--- src/lib.rt:419:53
 number-at-requires-2 : tie.Need-number-at-requires-2 Inv-loop μ-loop
 number-at-requires-2 c κs = words-first _ _ _ _ _ (c .before .loop .inv .1) (c .loop-test .taken)
 
--- src/lib.rt:419:12
 is-among-requires : tie.Need-is-among-requires Inv-loop μ-loop
 is-among-requires c κs = words-next _ _ _ _ _ (c .before .before .loop .inv .1) (c .before .loop-test .taken)
 
--- src/lib.rt:420:13
 returns-3 : tie.Need-returns-3 Inv-loop μ-loop
 returns-3 c = let l = c .before .before .before .before in sym (l .loop .inv .0 ∙ distinct-stop _ _ _ _ (c .before .before .before .loop-test .taken) (among-as _ _ _ (c .before .before .number-at2 .ensures) ∙ sym (c .before .is-among .ensures) ∙ c .if3 .taken))
 
--- src/lib.rt:422:9
 add-q : tie.Need-add-q Inv-loop μ-loop
 add-q c = let x = c .before .before .before .before .loop .inv .1 in omega (arith, words-first _ _ _ _ _ x (c .before .before .before .loop-test .taken), x .small, x .stride)
 
--- src/lib.rt:423:9
 sub-left : tie.Need-sub-left Inv-loop μ-loop
 sub-left c = search needs
 
--- src/lib.rt:418:5
 loop-less : tie.Need-loop-less Inv-loop μ-loop
 loop-less c = search needs
 
--- src/lib.rt:418:5
 loop-again : tie.Need-loop-again Inv-loop μ-loop
 loop-again c = let l = c .before .before .before .before in (l .loop .inv .0 ∙ distinct-more _ _ _ _ (c .before .before .before .loop-test .taken) (among-as _ _ _ (c .before .before .number-at2 .ensures) ∙ sym (c .before .is-among .ensures) ∙ c .if3 .left), words-next _ _ _ _ _ (l .loop .inv .1) (c .before .before .before .loop-test .taken))
 
--- src/lib.rt:406:1
 returns-4 : tie.Need-returns-4 Inv-loop μ-loop
 returns-4 c = sym (c .before .loop .inv .0 ∙ distinct-none _ _ _ _ (omega arith))
 

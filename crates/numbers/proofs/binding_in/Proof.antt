@@ -13,97 +13,75 @@ use Rattle.file.proofs.wide16.Reads as wide16-reads
 use Rattle.views.proofs.binding_at.Reads as binding-at-reads
 use Rattle.views.proofs.count_of.Reads as count-of-reads
 
--- src/lib.rt:140:9
 count-of-requires : tie.Need-count-of-requires
 count-of-requires c κs = search needs
 
--- src/lib.rt:141:9
 binding-at-requires : tie.Need-binding-at-requires
 binding-at-requires c κs = search needs
 
--- src/lib.rt:142:18
 count-of-requires-2 : tie.Need-count-of-requires-2
 count-of-requires-2 c κs = search needs
 
--- src/lib.rt:143:9
 returns : tie.Need-returns
 returns c = binding-no _ _ _ _ (c .before .before .before .binding-at .ensures) (omega (arith, c .before .before .count-of2 .ensures))
 
--- src/lib.rt:147:26
 enum-known-slot : tie.Need-enum-known-slot
 enum-known-slot c = search needs
 
--- src/lib.rt:148:40
 enum-told : tie.Need-enum-told
 enum-told c = search needs
 
--- src/lib.rt:149:34
 enum-known-p : tie.Need-enum-known-p
 enum-known-p c = search needs
 
--- src/lib.rt:149:40
 wide16-requires : tie.Need-wide16-requires
 wide16-requires c κs = search needs
 
--- src/lib.rt:149:54
 count-of-requires-3 : tie.Need-count-of-requires-3
 count-of-requires-3 c κs = search needs
 
--- src/lib.rt:151:26
 enum-known-slot-2 : tie.Need-enum-known-slot-2
 enum-known-slot-2 c = search needs
 
--- src/lib.rt:152:33
 enum-told-2 : tie.Need-enum-told-2
 enum-told-2 c = search needs
 
--- src/lib.rt:153:31
 enum-known-slot-3 : tie.Need-enum-known-slot-3
 enum-known-slot-3 c = search needs
 
--- src/lib.rt:154:28
 enum-known-slot-4 : tie.Need-enum-known-slot-4
 enum-known-slot-4 c = search needs
 
--- src/lib.rt:155:25
 enum-known-slot-5 : tie.Need-enum-known-slot-5
 enum-known-slot-5 c = search needs
 
--- src/lib.rt:155:35
 count-of-requires-4 : tie.Need-count-of-requires-4
 count-of-requires-4 c κs = search needs
 
--- src/lib.rt:135:1
 returns-2 : tie.Need-returns-2
 unfolding noneOr
 returns-2 c = binding-yes _ _ _ _ (c .before .before .before .before .before .before .before .before .binding-at .ensures) _ (omega (arith, c .before .before .before .before .before .before .before .count-of2 .ensures)) (row-in _ _ _ _ _ _ _ (c .before .before .before .before .before .before .before .before .binding-at .ensures) (c .before .before .before .slot .given .1) (c .enum-told .given .1))
 
--- src/lib.rt:135:1
 returns-3 : tie.Need-returns-3
 unfolding noneOr isPredicate
 returns-3 c = binding-yes _ _ _ _ (c .before .before .before .before .before .before .before .before .before .before .before .binding-at .ensures) _ (omega (arith, c .before .before .before .before .before .before .before .before .before .before .count-of2 .ensures)) (ap₂ ltb (c .before .wide16 .ensures) (c .count-of3 .ensures) ∙ row-in _ _ _ _ _ _ _ (c .before .before .before .before .before .before .before .before .before .before .before .binding-at .ensures) (c .before .before .before .before .before .before .slot .given .1) (c .before .before .before .p .given .1))
 
--- src/lib.rt:135:1
 returns-4 : tie.Need-returns-4
 unfolding slotIn isType
 returns-4 c = binding-yes _ _ _ _ (c .before .before .before .before .before .before .binding-at .ensures) _ (omega (arith, c .before .before .before .before .before .count-of2 .ensures)) (ap (ltb _) (c .before .before .before .before .before .before .before .count-of .ensures) ∙ by-slot (slotIn _) (c .before .before .before .before .before .before .binding-at .ensures) (c .before .slot2 .given .1))
 
--- src/lib.rt:135:1
 returns-5 : tie.Need-returns-5
 unfolding slotIn
 returns-5 c = binding-yes _ _ _ _ (c .before .before .before .before .before .binding-at .ensures) _ (omega (arith, c .before .before .before .before .count-of2 .ensures)) (by-slot (slotIn _) (c .before .before .before .before .before .binding-at .ensures) (c .enum-told2 .given .1))
 
--- src/lib.rt:135:1
 returns-6 : tie.Need-returns-6
 unfolding slotIn isType
 returns-6 c = binding-yes _ _ _ _ (c .before .before .before .before .before .before .binding-at .ensures) _ (omega (arith, c .before .before .before .before .before .count-of2 .ensures)) (ap (ltb _) (c .before .before .before .before .before .before .before .count-of .ensures) ∙ by-slot (slotIn _) (c .before .before .before .before .before .before .binding-at .ensures) (c .before .slot3 .given .1))
 
--- src/lib.rt:135:1
 returns-7 : tie.Need-returns-7
 unfolding slotIn isType
 returns-7 c = binding-yes _ _ _ _ (c .before .before .before .before .before .before .binding-at .ensures) _ (omega (arith, c .before .before .before .before .before .count-of2 .ensures)) (ap (ltb _) (c .before .before .before .before .before .before .before .count-of .ensures) ∙ by-slot (slotIn _) (c .before .before .before .before .before .before .binding-at .ensures) (c .before .slot4 .given .1))
 
--- src/lib.rt:135:1
 returns-8 : tie.Need-returns-8
 unfolding slotIn isNode
 returns-8 c = binding-yes _ _ _ _ (c .before .before .before .before .before .before .before .binding-at .ensures) _ (omega (arith, c .before .before .before .before .before .before .count-of2 .ensures)) (ap (ltb _) (c .count-of4 .ensures) ∙ by-slot (slotIn _) (c .before .before .before .before .before .before .before .binding-at .ensures) (c .before .before .slot5 .given .1))

@@ -7,11 +7,9 @@ use Rattle.numbers.proofs.both_below.Tie as tie
 use Rattle.numbers.proofs.both_below.Reads as reads
 use Rattle.numbers.proofs.both_below.Lts as lts
 
--- src/lib.rt:130:9
 returns : tie.Need-returns
 returns c = sym (both-false _ _ (le-ltb _ _ (c .if1 .taken)))
 
--- src/lib.rt:126:1
 returns-2 : tie.Need-returns-2
 returns-2 c = sym (both-then _ _ (lt-ltb _ _ (c .if1 .left)))
 

@@ -12,20 +12,16 @@ use Rattle.numbers.proofs.children_lower.Lts as lts
 use Rattle.numbers.proofs.nodes_lower.Reads as nodes-lower-reads
 use Rattle.numbers.proofs.types_lower.Reads as types-lower-reads
 
--- src/lib.rt:298:9
 types-lower-requires : tie.Need-types-lower-requires
 types-lower-requires c κs = search needs
 
--- src/lib.rt:299:9
 returns : tie.Need-returns
 unfolding childrenLower typesLower
 returns c = sym (both-false _ _ (sym (c .before .types-lower .ensures) ∙ not-true _ (c .if1 .taken)))
 
--- src/lib.rt:301:5
 nodes-lower-requires : tie.Need-nodes-lower-requires
 nodes-lower-requires c κs = search needs
 
--- src/lib.rt:294:1
 returns-2 : tie.Need-returns-2
 unfolding childrenLower typesLower nodesLower
 returns-2 c = c .nodes-lower .ensures ∙ sym (both-then _ _ (sym (c .before .before .types-lower .ensures) ∙ not-false _ (c .before .if1 .left)))

@@ -12,23 +12,18 @@ use Rattle.numbers.proofs.both_below.Reads as both-below-reads
 use Rattle.views.proofs.comparison_at.Reads as comparison-at-reads
 use Rattle.views.proofs.count_of.Reads as count-of-reads
 
--- src/lib.rt:190:9
 comparison-at-requires : tie.Need-comparison-at-requires
 comparison-at-requires c κs = search needs
 
--- src/lib.rt:191:24
 count-of-requires : tie.Need-count-of-requires
 count-of-requires c κs = search needs
 
--- src/lib.rt:191:59
 count-of-requires-2 : tie.Need-count-of-requires-2
 count-of-requires-2 c κs = search needs
 
--- src/lib.rt:191:5
 both-below-requires : tie.Need-both-below-requires
 both-below-requires c κs = search needs
 
--- src/lib.rt:185:1
 returns : tie.Need-returns
 unfolding comparisonIn isNode
 returns c = c .both-below .ensures ∙ below-as refl (c .before .before .count-of .ensures) refl (c .before .count-of2 .ensures) ∙ ap (comparisonIn (tablesOf (now (c .before .before .before .before .before .before .args .file)))) (c .before .before .before .comparison-at .ensures)

@@ -12,23 +12,18 @@ use Rattle.numbers.proofs.both_below.Reads as both-below-reads
 use Rattle.views.proofs.constraint_at.Reads as constraint-at-reads
 use Rattle.views.proofs.count_of.Reads as count-of-reads
 
--- src/lib.rt:181:9
 constraint-at-requires : tie.Need-constraint-at-requires
 constraint-at-requires c κs = search needs
 
--- src/lib.rt:182:24
 count-of-requires : tie.Need-count-of-requires
 count-of-requires c κs = search needs
 
--- src/lib.rt:182:58
 count-of-requires-2 : tie.Need-count-of-requires-2
 count-of-requires-2 c κs = search needs
 
--- src/lib.rt:182:5
 both-below-requires : tie.Need-both-below-requires
 both-below-requires c κs = search needs
 
--- src/lib.rt:176:1
 returns : tie.Need-returns
 unfolding constraintIn isName isNode
 returns c = c .both-below .ensures ∙ below-as refl (c .before .before .count-of .ensures) refl (c .before .count-of2 .ensures) ∙ ap (constraintIn (tablesOf (now (c .before .before .before .before .before .before .args .file)))) (c .before .before .before .constraint-at .ensures)

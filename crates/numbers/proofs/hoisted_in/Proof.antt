@@ -12,23 +12,18 @@ use Rattle.numbers.proofs.both_below.Reads as both-below-reads
 use Rattle.views.proofs.count_of.Reads as count-of-reads
 use Rattle.views.proofs.hoisted_at.Reads as hoisted-at-reads
 
--- src/lib.rt:172:9
 hoisted-at-requires : tie.Need-hoisted-at-requires
 hoisted-at-requires c κs = search needs
 
--- src/lib.rt:173:24
 count-of-requires : tie.Need-count-of-requires
 count-of-requires c κs = search needs
 
--- src/lib.rt:173:58
 count-of-requires-2 : tie.Need-count-of-requires-2
 count-of-requires-2 c κs = search needs
 
--- src/lib.rt:173:5
 both-below-requires : tie.Need-both-below-requires
 both-below-requires c κs = search needs
 
--- src/lib.rt:167:1
 returns : tie.Need-returns
 unfolding hoistedIn isName isNode
 returns c = c .both-below .ensures ∙ below-as refl (c .before .before .count-of .ensures) refl (c .before .count-of2 .ensures) ∙ ap (hoistedIn (tablesOf (now (c .before .before .before .before .before .before .args .file)))) (c .before .before .before .hoisted-at .ensures)

@@ -17,35 +17,27 @@ Inv-loop file long w n p x left₀ q₀ left q = (among x (run (numberAt file lo
 abbrev μ-loop : tie.MeasureT-loop
 μ-loop file long w n p x left₀ q₀ left q = left
 
--- src/lib.rt:323:5
 loop-holds : tie.Need-loop-holds Inv-loop μ-loop
 loop-holds c = (refl, c .before .pre)
 
--- src/lib.rt:324:12
 number-at-requires : tie.Need-number-at-requires Inv-loop μ-loop
 number-at-requires c κs = words-first _ _ _ _ _ (c .before .loop .inv .1) (c .loop-test .taken)
 
--- src/lib.rt:325:13
 returns : tie.Need-returns Inv-loop μ-loop
 returns c = let l = c .before .before .before in sym (l .loop .inv .0 ∙ among-here _ _ _ _ _ (c .before .before .loop-test .taken) (sym (c .before .number-at .ensures) ∙ c .if1 .taken))
 
--- src/lib.rt:327:9
 add-q : tie.Need-add-q Inv-loop μ-loop
 add-q c = let x = c .before .before .before .loop .inv .1 in omega (arith, words-first _ _ _ _ _ x (c .before .before .loop-test .taken), x .small, x .stride)
 
--- src/lib.rt:328:9
 sub-left : tie.Need-sub-left Inv-loop μ-loop
 sub-left c = search needs
 
--- src/lib.rt:323:5
 loop-less : tie.Need-loop-less Inv-loop μ-loop
 loop-less c = search needs
 
--- src/lib.rt:323:5
 loop-again : tie.Need-loop-again Inv-loop μ-loop
 loop-again c = let l = c .before .before .before in (l .loop .inv .0 ∙ among-later _ _ _ _ _ (c .before .before .loop-test .taken) (λ z. c .if1 .left (c .before .number-at .ensures ∙ z)), words-next _ _ _ _ _ (l .loop .inv .1) (c .before .before .loop-test .taken))
 
--- src/lib.rt:317:1
 returns-2 : tie.Need-returns-2 Inv-loop μ-loop
 returns-2 c = sym (c .before .loop .inv .0 ∙ among-none _ _ _ _ _ (omega arith))
 

@@ -18,35 +18,27 @@ Inv-loop file long w n p x last₀ left₀ q₀ last left q = (rising x (run (nu
 abbrev μ-loop : tie.MeasureT-loop
 μ-loop file long w n p x last₀ left₀ q₀ last left q = left
 
--- src/lib.rt:393:5
 loop-holds : tie.Need-loop-holds Inv-loop μ-loop
 loop-holds c = (refl, c .before .pre)
 
--- src/lib.rt:394:13
 number-at-requires : tie.Need-number-at-requires Inv-loop μ-loop
 number-at-requires c κs = words-first _ _ _ _ _ (c .before .loop .inv .1) (c .loop-test .taken)
 
--- src/lib.rt:396:13
 returns : tie.Need-returns Inv-loop μ-loop
 returns c = let l = c .before .before .before in let a = c .before .before .before .before .before in let t = c .before .before .loop-test .taken in sym (l .loop .inv .0 ∙ rising-stop (numberAt (a .args .file .now) (a .args .long)) _ (l .loop .last) (l .loop .left) (l .loop .q) (c .before .number-at .result) t (c .before .number-at .ensures) (c .if1 .taken))
 
--- src/lib.rt:399:9
 add-q : tie.Need-add-q Inv-loop μ-loop
 add-q c = let x = c .before .before .before .loop .inv .1 in omega (arith, words-first _ _ _ _ _ x (c .before .before .loop-test .taken), x .small, x .stride)
 
--- src/lib.rt:400:9
 sub-left : tie.Need-sub-left Inv-loop μ-loop
 sub-left c = search needs
 
--- src/lib.rt:393:5
 loop-less : tie.Need-loop-less Inv-loop μ-loop
 loop-less c = search needs
 
--- src/lib.rt:393:5
 loop-again : tie.Need-loop-again Inv-loop μ-loop
 loop-again c = let l = c .before .before .before in let a = c .before .before .before .before .before in let t = c .before .before .loop-test .taken in (l .loop .inv .0 ∙ rising-on (numberAt (a .args .file .now) (a .args .long)) _ (l .loop .last) (l .loop .left) (l .loop .q) (c .before .number-at .result) t (c .before .number-at .ensures) (c .if1 .left), words-next _ _ _ _ _ (l .loop .inv .1) t)
 
--- src/lib.rt:386:1
 returns-2 : tie.Need-returns-2 Inv-loop μ-loop
 returns-2 c = sym (c .before .loop .inv .0 ∙ rising-end _ _ _ _ _ (omega arith))
 

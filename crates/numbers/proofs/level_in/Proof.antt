@@ -13,27 +13,21 @@ use Rattle.numbers.proofs.both_below.Reads as both-below-reads
 use Rattle.views.proofs.count_of.Reads as count-of-reads
 use Rattle.views.proofs.level_at.Reads as level-at-reads
 
--- src/lib.rt:199:9
 level-at-requires : tie.Need-level-at-requires
 level-at-requires c κs = search needs
 
--- src/lib.rt:201:16
 wide16-requires : tie.Need-wide16-requires
 wide16-requires c κs = search needs
 
--- src/lib.rt:201:29
 count-of-requires : tie.Need-count-of-requires
 count-of-requires c κs = search needs
 
--- src/lib.rt:201:63
 count-of-requires-2 : tie.Need-count-of-requires-2
 count-of-requires-2 c κs = search needs
 
--- src/lib.rt:201:5
 both-below-requires : tie.Need-both-below-requires
 both-below-requires c κs = search needs
 
--- src/lib.rt:194:1
 returns : tie.Need-returns
 unfolding levelIn isPredicate isNode
 returns c = c .both-below .ensures ∙ below-as (c .before .before .before .wide16 .ensures) (c .before .before .count-of .ensures) refl (c .before .count-of2 .ensures) ∙ ap (levelIn (tablesOf (now (c .before .before .before .before .before .before .before .before .args .file)))) (c .before .before .before .before .before .level-at .ensures)

@@ -22,51 +22,39 @@ Inv-loop file w n p marks₀ left₀ q₀ marks left q = (distinct (run (word fi
 abbrev μ-loop : tie.MeasureT-loop
 μ-loop file w n p marks₀ left₀ q₀ marks left q = left
 
--- src/lib.rt:409:5
 loop-holds : tie.Need-loop-holds Inv-loop μ-loop
 loop-holds c = (fresh-zeros 512 _, refl, c .before .pre)
 
--- src/lib.rt:410:13
 word-at-requires : tie.Need-word-at-requires Inv-loop μ-loop
 word-at-requires c κs = let x = words-first _ _ _ _ _ (c .before .loop .inv .2) (c .loop-test .taken) in omega (arith, x)
 
--- src/lib.rt:412:13
 all-distinct-requires : tie.Need-all-distinct-requires Inv-loop μ-loop
 all-distinct-requires c κs = c .before .before .before .before .before .pre
 
--- src/lib.rt:412:13
 returns : tie.Need-returns Inv-loop μ-loop
 returns c = c .all-distinct .ensures
 
--- src/lib.rt:414:12
 array-read-if2 : tie.Need-array-read-if2 Inv-loop μ-loop
 array-read-if2 c = search needs
 
--- src/lib.rt:415:13
 returns-2 : tie.Need-returns-2 Inv-loop μ-loop
 returns-2 c = let l = c .before .before .before .before in sym (l .loop .inv .0 ∙ fresh-met (word (c .before .before .before .before .before .before .args .file .now)) _ (l .loop .marks) (l .loop .left) (l .loop .q) (c .before .before .word-at .result) (c .before .before .before .loop-test .taken) (c .before .before .word-at .ensures .0) (c .if2 .taken))
 
--- src/lib.rt:417:9
 array-write-marks : tie.Need-array-write-marks Inv-loop μ-loop
 array-write-marks c = search needs
 
--- src/lib.rt:418:9
 add-q : tie.Need-add-q Inv-loop μ-loop
 add-q c = let x = c .before .before .before .before .loop .inv .2 in omega (arith, words-first _ _ _ _ _ x (c .before .before .before .loop-test .taken), x .small, x .stride)
 
--- src/lib.rt:419:9
 sub-left : tie.Need-sub-left Inv-loop μ-loop
 sub-left c = search needs
 
--- src/lib.rt:409:5
 loop-less : tie.Need-loop-less Inv-loop μ-loop
 loop-less c = search needs
 
--- src/lib.rt:409:5
 loop-again : tie.Need-loop-again Inv-loop μ-loop
 loop-again c = let l = c .before .before .before .before in let t = c .before .before .before .loop-test .taken in (l .loop .inv .0 ∙ fresh-on (word (c .before .before .before .before .before .before .args .file .now)) _ (l .loop .marks) (l .loop .left) (l .loop .q) (c .before .before .word-at .result) t (c .before .before .word-at .ensures .0) (omega (arith, l .loop .inv .1, c .before .if1 .left)) (c .if2 .left), length-set {A = ℕ} (l .loop .marks) (c .before .before .word-at .result) 1 ∙ l .loop .inv .1, words-next _ _ _ _ _ (l .loop .inv .2) t)
 
--- src/lib.rt:402:1
 returns-3 : tie.Need-returns-3 Inv-loop μ-loop
 returns-3 c = sym (c .before .loop .inv .0 ∙ fresh-end _ _ _ _ _ (omega arith))
 

@@ -8,23 +8,18 @@ use Rattle.numbers.proofs.number_at.Lts as lts
 use Rattle.file.proofs.word_at.Reads as word-at-reads
 use Rattle.views.proofs.long_at.Reads as long-at-reads
 
--- src/lib.rt:310:9
 long-at-requires : tie.Need-long-at-requires
 long-at-requires c κs = search needs
 
--- src/lib.rt:312:9
 word-at-requires : tie.Need-word-at-requires
 word-at-requires c κs = search needs
 
--- src/lib.rt:312:9
 cast-result : tie.Need-cast-result
 cast-result c = search needs
 
--- src/lib.rt:305:1
 returns : tie.Need-returns
 returns c = number-long _ _ _ _ (c .before .if1 .taken) (c .long-at .ensures)
 
--- src/lib.rt:305:1
 returns-2 : tie.Need-returns-2
 returns-2 c = number-short _ _ _ _ (c .before .if1 .left) (c .word-at .ensures .0)
 

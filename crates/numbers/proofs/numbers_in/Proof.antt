@@ -20,31 +20,24 @@ Inv-loop file index s₀ s = (numbersIn (tablesOf file) ≡ every (sectionIn (ta
 abbrev μ-loop : tie.MeasureT-loop
 μ-loop file index s₀ s = 10 - s
 
--- src/lib.rt:213:5
 loop-holds : tie.Need-loop-holds Inv-loop μ-loop
 loop-holds c = (numbers-every _, omega arith)
 
--- src/lib.rt:214:13
 records-in-requires : tie.Need-records-in-requires Inv-loop μ-loop
 records-in-requires c κs = (c .before .before .before .before .pre, c .loop-test .taken)
 
--- src/lib.rt:215:13
 returns : tie.Need-returns Inv-loop μ-loop
 returns c = sym (c .before .before .before .loop .inv .0 ∙ every-no _ _ _ (omega arith) (sym (c .before .records-in .ensures) ∙ not-true _ (c .if1 .taken)))
 
--- src/lib.rt:217:9
 add-s : tie.Need-add-s Inv-loop μ-loop
 add-s c = search needs
 
--- src/lib.rt:213:5
 loop-less : tie.Need-loop-less Inv-loop μ-loop
 loop-less c = omega arith
 
--- src/lib.rt:213:5
 loop-again : tie.Need-loop-again Inv-loop μ-loop
 loop-again c = (c .before .before .before .loop .inv .0 ∙ every-yes _ _ _ _ (omega arith) (sym (c .before .records-in .ensures) ∙ not-false _ (c .if1 .left)), omega arith)
 
--- src/lib.rt:208:1
 returns-2 : tie.Need-returns-2 Inv-loop μ-loop
 returns-2 c = sym (c .before .loop .inv .0 ∙ every-none _ _ _ (omega arith))
 

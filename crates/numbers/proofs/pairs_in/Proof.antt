@@ -10,24 +10,19 @@ use Rattle.numbers.proofs.pairs_in.Reads as reads
 use Rattle.numbers.proofs.pairs_in.Lts as lts
 use Rattle.numbers.proofs.words_below.Reads as words-below-reads
 
--- src/lib.rt:57:9
 words-below-requires : tie.Need-words-below-requires
 words-below-requires c κs = c .before .pre .0
 
--- src/lib.rt:58:9
 returns : tie.Need-returns
 unfolding pairsIn
 returns c = sym (both-false _ _ (sym (c .before .words-below .ensures) ∙ not-true _ (c .if1 .taken)))
 
--- src/lib.rt:60:29
 add-words-below : tie.Need-add-words-below
 add-words-below c = omega (arith, c .before .before .before .pre .1 .inside, c .before .before .before .pre .1 .small, c .before .before .before .pre .1 .stride)
 
--- src/lib.rt:60:5
 words-below-requires-2 : tie.Need-words-below-requires-2
 words-below-requires-2 c κs = c .before .before .before .pre .1
 
--- src/lib.rt:52:1
 returns-2 : tie.Need-returns-2
 unfolding pairsIn
 returns-2 c = c .words-below2 .ensures ∙ sym (both-then _ _ (sym (c .before .before .words-below .ensures) ∙ not-false _ (c .before .if1 .left)))

@@ -13,37 +13,29 @@ use Rattle.numbers.proofs.predicate_in.Lts as lts
 use Rattle.views.proofs.count_of.Reads as count-of-reads
 use Rattle.views.proofs.predicate_at.Reads as predicate-at-reads
 
--- src/lib.rt:85:9
 count-of-requires : tie.Need-count-of-requires
 count-of-requires c κs = search needs
 
--- src/lib.rt:86:51
 cast-t8 : tie.Need-cast-t8
 unfolding limitOf
 cast-t8 c = let h = c .before .before .before .pre .0 .predicates .under in omega (arith, h, c .before .before .before .pre .1)
 
--- src/lib.rt:86:9
 predicate-at-requires : tie.Need-predicate-at-requires
 predicate-at-requires c κs = search needs
 
--- src/lib.rt:88:9
 returns : tie.Need-returns
 returns c = predicate-no _ (c .before .before .predicate-at .result) _ (c .before .before .predicate-at .ensures) (omega (arith, c .before .before .before .count-of .ensures))
 
--- src/lib.rt:92:31
 enum-told : tie.Need-enum-told
 enum-told c = search needs
 
--- src/lib.rt:93:25
 enum-known-value : tie.Need-enum-known-value
 enum-known-value c = search needs
 
--- src/lib.rt:80:1
 returns-2 : tie.Need-returns-2
 unfolding noneOr
 returns-2 c = predicate-yes _ (c .before .before .before .before .predicate-at .result) _ _ _ (c .before .before .before .before .predicate-at .ensures) (omega (arith, c .before .before .before .before .before .count-of .ensures)) (c .enum-told .given .1) refl
 
--- src/lib.rt:80:1
 returns-3 : tie.Need-returns-3
 unfolding noneOr isType
 returns-3 c = predicate-yes _ (c .before .before .before .before .before .predicate-at .result) _ _ _ (c .before .before .before .before .before .predicate-at .ensures) (omega (arith, c .before .before .before .before .before .before .count-of .ensures)) (c .before .value .given .1) (ap (ltb _) (c .before .before .before .before .before .before .count-of .ensures))

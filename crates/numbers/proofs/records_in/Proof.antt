@@ -21,35 +21,27 @@ Inv-loop file index s n t₀ t = (sectionIn (tablesOf file) s ≡ every (recordI
 abbrev μ-loop : tie.MeasureT-loop
 μ-loop file index s n t₀ t = n - t
 
--- src/lib.rt:196:9
 count-of-requires : tie.Need-count-of-requires Inv-loop μ-loop
 count-of-requires c κs = search needs
 
--- src/lib.rt:198:5
 loop-holds : tie.Need-loop-holds Inv-loop μ-loop
 loop-holds c = (section-every _ _ (c .before .before .before .pre .1) ∙ every-start _ _ _ (c .count-of .ensures), omega arith, c .count-of .ensures)
 
--- src/lib.rt:199:13
 record-in-requires : tie.Need-record-in-requires Inv-loop μ-loop
 record-in-requires c κs = (c .before .before .before .before .before .pre .0, (c .before .before .before .before .before .pre .1, omega (arith, c .before .loop .inv .2, c .loop-test .taken)))
 
--- src/lib.rt:200:13
 returns : tie.Need-returns Inv-loop μ-loop
 returns c = sym (c .before .before .before .loop .inv .0 ∙ every-no _ _ _ (omega arith) (sym (c .before .record-in .ensures) ∙ not-true _ (c .if1 .taken)))
 
--- src/lib.rt:202:9
 add-t : tie.Need-add-t Inv-loop μ-loop
 add-t c = search needs
 
--- src/lib.rt:198:5
 loop-less : tie.Need-loop-less Inv-loop μ-loop
 loop-less c = omega arith
 
--- src/lib.rt:198:5
 loop-again : tie.Need-loop-again Inv-loop μ-loop
 loop-again c = (c .before .before .before .loop .inv .0 ∙ every-yes _ _ _ _ (omega arith) (sym (c .before .record-in .ensures) ∙ not-false _ (c .if1 .left)), omega arith, c .before .before .before .loop .inv .2)
 
--- src/lib.rt:191:1
 returns-2 : tie.Need-returns-2 Inv-loop μ-loop
 returns-2 c = sym (c .before .loop .inv .0 ∙ every-none _ _ _ (omega arith))
 

@@ -14,87 +14,68 @@ use Rattle.numbers.proofs.pairs_in.Reads as pairs-in-reads
 use Rattle.views.proofs.count_of.Reads as count-of-reads
 use Rattle.views.proofs.type_at.Reads as type-at-reads
 
--- src/lib.rt:68:9
 count-of-requires : tie.Need-count-of-requires
 count-of-requires c κs = search needs
 
--- src/lib.rt:69:9
 count-of-requires-2 : tie.Need-count-of-requires-2
 count-of-requires-2 c κs = search needs
 
--- src/lib.rt:70:11
 type-at-requires : tie.Need-type-at-requires
 type-at-requires c κs = search needs
 
--- src/lib.rt:71:26
 enum-told : tie.Need-enum-told
 enum-told c = search needs
 
--- src/lib.rt:72:26
 enum-told-2 : tie.Need-enum-told-2
 enum-told-2 c = search needs
 
--- src/lib.rt:73:28
 enum-told-3 : tie.Need-enum-told-3
 enum-told-3 c = search needs
 
--- src/lib.rt:74:24
 enum-known-p : tie.Need-enum-known-p
 enum-known-p c = search needs
 
--- src/lib.rt:74:30
 wide16-requires : tie.Need-wide16-requires
 wide16-requires c κs = search needs
 
--- src/lib.rt:74:44
 count-of-requires-3 : tie.Need-count-of-requires-3
 count-of-requires-3 c κs = search needs
 
--- src/lib.rt:75:26
 enum-known-n : tie.Need-enum-known-n
 enum-known-n c = search needs
 
--- src/lib.rt:75:36
 pairs-in-requires : tie.Need-pairs-in-requires
 pairs-in-requires c κs =
     let i = type-as (c .before .before .before .type-at .ensures) (c .before .n .given .1) .inside in
     (words-4-first _ (c .before .before .before .before .before .before .before .before .pre .0 .small) _ _ 2 i (omega arith), words-4 _ (c .before .before .before .before .before .before .before .before .pre .0 .small) _ _ 2 2 i (omega arith))
 
--- src/lib.rt:76:25
 enum-known-n-2 : tie.Need-enum-known-n-2
 enum-known-n-2 c = search needs
 
--- src/lib.rt:76:35
 pairs-in-requires-2 : tie.Need-pairs-in-requires-2
 pairs-in-requires-2 c κs =
     let i = type-as (c .before .before .before .type-at .ensures) (c .before .n2 .given .1) .inside in
     (words-8-first _ (c .before .before .before .before .before .before .before .before .pre .0 .small) _ _ 2 i (omega arith), words-8 _ (c .before .before .before .before .before .before .before .before .pre .0 .small) _ _ 2 6 i (omega arith))
 
--- src/lib.rt:63:1
 returns : tie.Need-returns
 unfolding typeIn
 returns c = by-type (typeIn _) (c .before .before .type-at .ensures) (c .enum-told .given .1)
 
--- src/lib.rt:63:1
 returns-2 : tie.Need-returns-2
 unfolding typeIn
 returns-2 c = by-type (typeIn _) (c .before .before .type-at .ensures) (c .enum-told2 .given .1)
 
--- src/lib.rt:63:1
 returns-3 : tie.Need-returns-3
 unfolding typeIn
 returns-3 c = by-type (typeIn _) (c .before .before .type-at .ensures) (c .enum-told3 .given .1)
 
--- src/lib.rt:63:1
 returns-4 : tie.Need-returns-4
 unfolding typeIn isPredicate
 returns-4 c = ap₂ ltb (c .before .wide16 .ensures) (c .count-of3 .ensures) ∙ by-type (typeIn _) (c .before .before .before .before .before .type-at .ensures) (c .before .before .before .p .given .1)
 
--- src/lib.rt:63:1
 returns-5 : tie.Need-returns-5
 returns-5 c = c .pairs-in .ensures ∙ pairs-as _ _ _ _ _ (c .before .before .before .before .before .before .count-of .ensures) (c .before .before .before .before .before .count-of2 .ensures) ∙ fields-in _ _ _ _ ∙ by-type (typeIn _) (c .before .before .before .before .type-at .ensures) (c .before .before .n .given .1)
 
--- src/lib.rt:63:1
 returns-6 : tie.Need-returns-6
 returns-6 c = c .pairs-in2 .ensures ∙ pairs-as _ _ _ _ _ (c .before .before .before .before .before .before .count-of .ensures) (c .before .before .before .before .before .count-of2 .ensures) ∙ alternatives-in _ _ _ _ ∙ by-type (typeIn _) (c .before .before .before .before .type-at .ensures) (c .before .before .n2 .given .1)
 

@@ -20,35 +20,27 @@ Inv-loop file w n p bound left₀ q₀ left q = (all (λ c. ltb c bound) (run (w
 abbrev μ-loop : tie.MeasureT-loop
 μ-loop file w n p bound left₀ q₀ left q = left
 
--- src/lib.rt:41:5
 loop-holds : tie.Need-loop-holds Inv-loop μ-loop
 loop-holds c = (refl, c .before .pre)
 
--- src/lib.rt:42:12
 word-at-requires : tie.Need-word-at-requires Inv-loop μ-loop
 word-at-requires c κs = words-first _ _ _ _ _ (c .before .loop .inv .1) (c .loop-test .taken)
 
--- src/lib.rt:43:13
 returns : tie.Need-returns Inv-loop μ-loop
 returns c = let l = c .before .before .before in sym (l .loop .inv .0 ∙ run-no _ _ _ _ _ (c .before .before .loop-test .taken) (word-high _ _ _ (c .before .word-at .ensures .0) (c .if1 .taken)))
 
--- src/lib.rt:45:9
 add-q : tie.Need-add-q Inv-loop μ-loop
 add-q c = let x = c .before .before .before .loop .inv .1 in omega (arith, words-first _ _ _ _ _ x (c .before .before .loop-test .taken), x .small, x .stride)
 
--- src/lib.rt:46:9
 sub-left : tie.Need-sub-left Inv-loop μ-loop
 sub-left c = search needs
 
--- src/lib.rt:41:5
 loop-less : tie.Need-loop-less Inv-loop μ-loop
 loop-less c = search needs
 
--- src/lib.rt:41:5
 loop-again : tie.Need-loop-again Inv-loop μ-loop
 loop-again c = let l = c .before .before .before in (l .loop .inv .0 ∙ run-yes _ _ _ _ _ (c .before .before .loop-test .taken) (word-low _ _ _ (c .before .word-at .ensures .0) (c .if1 .left)), words-next _ _ _ _ _ (l .loop .inv .1) (c .before .before .loop-test .taken))
 
--- src/lib.rt:35:1
 returns-2 : tie.Need-returns-2 Inv-loop μ-loop
 returns-2 c = sym (c .before .loop .inv .0 ∙ run-done _ _ _ _ _ (omega arith))
 

@@ -15,43 +15,33 @@ Inv-loop work from to plan₀ at end p₀ i₀ plan p i = Copying work plan₀ f
 abbrev μ-loop : tie.MeasureT-loop
 μ-loop work from to plan₀ at end p₀ i₀ plan p i = end - i
 
--- src/lib.rt:48:9
 least-requires : tie.Need-least-requires Inv-loop μ-loop
 least-requires c κs = search needs
 
--- src/lib.rt:51:5
 loop-holds : tie.Need-loop-holds Inv-loop μ-loop
 loop-holds c = copy-start _ _ _ _ _
 
--- src/lib.rt:52:23
 shared-slice-read-put8 : tie.Need-shared-slice-read-put8 Inv-loop μ-loop
 shared-slice-read-put8 c = search needs
 
--- src/lib.rt:52:9
 put8-requires : tie.Need-put8-requires Inv-loop μ-loop
 put8-requires c κs = search needs
 
--- src/lib.rt:53:9
 add-p : tie.Need-add-p Inv-loop μ-loop
 add-p c = search needs
 
--- src/lib.rt:54:9
 add-i : tie.Need-add-i Inv-loop μ-loop
 add-i c = search needs
 
--- src/lib.rt:51:5
 loop-less : tie.Need-loop-less Inv-loop μ-loop
 loop-less c = search needs
 
--- src/lib.rt:51:5
 loop-again : tie.Need-loop-again Inv-loop μ-loop
 loop-again c = copy-more _ _ _ _ _ _ _ _ (c .before .before .before .before .before .before .loop .inv) (c .before .before .before .before .before .loop-test .taken) (omega (arith, c .before .before .before .before .before .before .before .least .ensures)) _ (c .before .before .put8 .ensures) (c .before .before .put8 .kept .0)
 
--- src/lib.rt:44:1
 same-length : tie.Need-same-length Inv-loop μ-loop
 same-length c = c .before .loop .inv .going .size
 
--- src/lib.rt:44:1
 returns : tie.Need-returns Inv-loop μ-loop
 returns c = copy-end _ _ _ _ _ _ _ _ (c .before .loop .inv) _ (c .loop-test .left) (c .before .before .least .ensures)
 

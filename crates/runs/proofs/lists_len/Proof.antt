@@ -10,55 +10,42 @@ use Rattle.runs.proofs.lists_len.Lts as lts
 use Rattle.records.proofs.wide32.Reads as wide32-reads
 use Rattle.runs.proofs.run_len.Reads as run-len-reads
 
--- src/lib.rt:72:30
 wide32-requires : tie.Need-wide32-requires
 wide32-requires c κs = search needs
 
--- src/lib.rt:72:9
 run-len-requires : tie.Need-run-len-requires
 run-len-requires c κs = search needs
 
--- src/lib.rt:73:40
 wide32-requires-2 : tie.Need-wide32-requires-2
 wide32-requires-2 c κs = search needs
 
--- src/lib.rt:73:9
 run-len-requires-2 : tie.Need-run-len-requires-2
 run-len-requires-2 c κs = search needs
 
--- src/lib.rt:74:36
 wide32-requires-3 : tie.Need-wide32-requires-3
 wide32-requires-3 c κs = search needs
 
--- src/lib.rt:74:9
 run-len-requires-3 : tie.Need-run-len-requires-3
 run-len-requires-3 c κs = search needs
 
--- src/lib.rt:75:40
 wide32-requires-4 : tie.Need-wide32-requires-4
 wide32-requires-4 c κs = search needs
 
--- src/lib.rt:75:9
 run-len-requires-4 : tie.Need-run-len-requires-4
 run-len-requires-4 c κs = search needs
 
--- src/lib.rt:76:5
 add-result : tie.Need-add-result
 add-result c = search needs
 
--- src/lib.rt:76:5
 add-result-2 : tie.Need-add-result-2
 add-result-2 c = search needs
 
--- src/lib.rt:76:5
 add-result-3 : tie.Need-add-result-3
 add-result-3 c = search needs
 
--- src/lib.rt:76:5
 add-result-4 : tie.Need-add-result-4
 add-result-4 c = search needs
 
--- src/lib.rt:69:1
 returns : tie.Need-returns
 returns c =
     let a = c .before .before .before .before .before .before .before .before .before .args in

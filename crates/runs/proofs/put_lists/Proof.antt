@@ -12,59 +12,45 @@ use Rattle.records.proofs.wide32.Reads as wide32-reads
 use Rattle.runs.proofs.past.Reads as past-reads
 use Rattle.runs.proofs.put_run.Reads as put-run-reads
 
--- src/lib.rt:83:9
 wide32-requires : tie.Need-wide32-requires
 wide32-requires c κs = search needs
 
--- src/lib.rt:84:9
 wide32-requires-2 : tie.Need-wide32-requires-2
 wide32-requires-2 c κs = search needs
 
--- src/lib.rt:85:17
 past-requires : tie.Need-past-requires
 past-requires c κs = search needs
 
--- src/lib.rt:86:19
 past-requires-2 : tie.Need-past-requires-2
 past-requires-2 c κs = search needs
 
--- src/lib.rt:87:30
 wide32-requires-3 : tie.Need-wide32-requires-3
 wide32-requires-3 c κs = search needs
 
--- src/lib.rt:87:50
 wide32-requires-4 : tie.Need-wide32-requires-4
 wide32-requires-4 c κs = search needs
 
--- src/lib.rt:87:9
 put-run-requires : tie.Need-put-run-requires
 put-run-requires c κs = search needs
 
--- src/lib.rt:88:9
 put-run-requires-2 : tie.Need-put-run-requires-2
 put-run-requires-2 c κs = search needs
 
--- src/lib.rt:89:36
 wide32-requires-5 : tie.Need-wide32-requires-5
 wide32-requires-5 c κs = search needs
 
--- src/lib.rt:89:55
 wide32-requires-6 : tie.Need-wide32-requires-6
 wide32-requires-6 c κs = search needs
 
--- src/lib.rt:89:9
 put-run-requires-3 : tie.Need-put-run-requires-3
 put-run-requires-3 c κs = search needs
 
--- src/lib.rt:90:5
 put-run-requires-4 : tie.Need-put-run-requires-4
 put-run-requires-4 c κs = search needs
 
--- src/lib.rt:79:1
 same-length : tie.Need-same-length
 same-length c = search needs
 
--- src/lib.rt:79:1
 returns : tie.Need-returns
 returns c =
     let d = c .before .before .before .before .before .before .before .before .before .before .before .before .before .before .before .before .before .before .before .before in

@@ -8,23 +8,18 @@ use Rattle.runs.proofs.put_run.Lts as lts
 use Rattle.records.proofs.put16.Reads as put16-reads
 use Rattle.runs.proofs.copy_run.Reads as copy-run-reads
 
--- src/lib.rt:64:5
 put16-requires : tie.Need-put16-requires
 put16-requires c κs = search needs
 
--- src/lib.rt:65:36
 add-copy-run : tie.Need-add-copy-run
 add-copy-run c = search needs
 
--- src/lib.rt:65:5
 copy-run-requires : tie.Need-copy-run-requires
 copy-run-requires c κs = search needs
 
--- src/lib.rt:60:1
 same-length : tie.Need-same-length
 same-length c = search needs
 
--- src/lib.rt:60:1
 returns : tie.Need-returns
 returns c = let a = c .before .before .before .before .before .before .before .before .before .before .args in run-put _ _ _ (a .from) (a .to) (now (a .work)) _ _ _ (c .before .before .before .before .before .before .put16 .ensures) (c .before .before .copy-run .ensures)
 

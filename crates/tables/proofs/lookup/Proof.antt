@@ -11,52 +11,42 @@ use Rattle.file.proofs.wide16.Reads as wide16-reads
 use Rattle.views.proofs.binding_at.Reads as binding-at-reads
 use Rattle.views.proofs.count_of.Reads as count-of-reads
 
--- src/lib.rt:134:16
 count-of-requires : tie.Need-count-of-requires
 count-of-requires c κs = search needs
 
--- src/lib.rt:135:9
 returns : tie.Need-returns
 returns c =
     let r = c .before .before .before .before .pre in
     record { is = no-name _ _ (passed _ _ r) (omega (arith, c .before .count-of .ensures, c .if1 .taken)); inside = tt }
 
--- src/lib.rt:137:26
 add-wide16 : tie.Need-add-wide16
 add-wide16 c = omega (arith, c .before .count-of .ensures, c .if1 .left, few-names _ _ (c .before .before .before .before .pre .indexed))
 
--- src/lib.rt:137:20
 mul-wide16 : tie.Need-mul-wide16
 mul-wide16 c = omega (arith, c .before .count-of .ensures, c .if1 .left, few-names _ _ (c .before .before .before .before .pre .indexed))
 
--- src/lib.rt:137:20
 shared-slice-read-wide16 : tie.Need-shared-slice-read-wide16
 shared-slice-read-wide16 c =
     let i = c .before .before .before .before .before .pre .indexed in
     omega (arith, c .before .before .count-of .ensures, c .before .if1 .left, few-names _ _ i, i .long)
 
--- src/lib.rt:137:9
 wide16-requires : tie.Need-wide16-requires
 wide16-requires c κs = search needs
 
--- src/lib.rt:139:9
 returns-2 : tie.Need-returns-2
 returns-2 c =
     let s = c .before .before .before in
     record { is = last-none _ _ _ (c .before .wide16 .ensures ∙ c .before .before .before .before .before .before .before .pre .last-bindings _ (omega (arith, c .before .before .before .before .count-of .ensures, s .if1 .left))) (c .if2 .taken); inside = tt }
 
--- src/lib.rt:141:37
 sub-binding-at : tie.Need-sub-binding-at
 sub-binding-at c = search needs
 
--- src/lib.rt:141:9
 binding-at-requires : tie.Need-binding-at-requires
 binding-at-requires c κs =
     let s = c .before .before .before in
     let r = c .before .before .before .before .before .before .before .pre in
     (r .indexed, last-some _ _ _ (c .before .wide16 .ensures ∙ r .last-bindings _ (omega (arith, c .before .before .before .before .count-of .ensures, s .if1 .left))) (c .if2 .left) .0)
 
--- src/lib.rt:130:1
 returns-3 : tie.Need-returns-3
 returns-3 c =
     let e = c .before in

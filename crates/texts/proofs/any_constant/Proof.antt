@@ -9,31 +9,24 @@ use Rattle.constant.proofs.constant.Reads as constant-reads
 use Rattle.texts.proofs.past_constant.Reads as past-constant-reads
 use Rattle.views.proofs.count_of.Reads as count-of-reads
 
--- src/lib.rt:66:16
 count-of-requires : tie.Need-count-of-requires
 count-of-requires c κs = search needs
 
--- src/lib.rt:67:9
 returns : tie.Need-returns
 returns c = node-past _ _ _ (omega (arith, c .if1 .taken, c .before .count-of .ensures))
 
--- src/lib.rt:69:13
 count-of-requires-2 : tie.Need-count-of-requires-2
 count-of-requires-2 c κs = search needs
 
--- src/lib.rt:70:9
 constant-requires : tie.Need-constant-requires
 constant-requires c κs = (c .before .before .before .before .before .before .pre, (omega (arith, c .before .before .if1 .left, c .before .before .before .count-of .ensures), omega (arith, c .if2 .taken, c .before .count-of2 .ensures)))
 
--- src/lib.rt:72:9
 past-constant-requires : tie.Need-past-constant-requires
 past-constant-requires c κs = search needs
 
--- src/lib.rt:62:1
 returns-2 : tie.Need-returns-2
 returns-2 c = search needs
 
--- src/lib.rt:62:1
 returns-3 : tie.Need-returns-3
 returns-3 c = search needs
 

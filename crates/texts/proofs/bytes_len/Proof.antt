@@ -7,39 +7,30 @@ use Rattle.texts.proofs.bytes_len.Reads as reads
 use Rattle.texts.proofs.bytes_len.Lts as lts
 use Rattle.texts.proofs.any_constant.Reads as any-constant-reads
 
--- src/lib.rt:81:11
 any-constant-requires : tie.Need-any-constant-requires
 any-constant-requires c κs = search needs
 
--- src/lib.rt:82:27
 enum-told : tie.Need-enum-told
 enum-told c = search needs
 
--- src/lib.rt:83:28
 enum-known-n : tie.Need-enum-known-n
 enum-known-n c = search needs
 
--- src/lib.rt:84:29
 enum-told-2 : tie.Need-enum-told-2
 enum-told-2 c = search needs
 
--- src/lib.rt:85:34
 enum-told-3 : tie.Need-enum-told-3
 enum-told-3 c = search needs
 
--- src/lib.rt:77:1
 returns : tie.Need-returns
 returns c = bytes-size _ _ _ _ _ (c .before .before .any-constant .ensures) (ap carried (sym (c .enum-told .given .1)))
 
--- src/lib.rt:77:1
 returns-2 : tie.Need-returns-2
 returns-2 c = bytes-size _ _ _ _ _ (c .before .before .before .any-constant .ensures) (ap carried (sym (c .before .n .given .1)))
 
--- src/lib.rt:77:1
 returns-3 : tie.Need-returns-3
 returns-3 c = bytes-size _ _ _ _ _ (c .before .before .any-constant .ensures) (ap carried (sym (c .enum-told2 .given .1)))
 
--- src/lib.rt:77:1
 returns-4 : tie.Need-returns-4
 returns-4 c = bytes-size _ _ _ _ _ (c .before .before .any-constant .ensures) (ap carried (sym (c .enum-told3 .given .1)))
 

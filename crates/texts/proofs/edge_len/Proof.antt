@@ -7,27 +7,21 @@ use Rattle.texts.proofs.edge_len.Lts as lts
 use Rattle.constant.proofs.capped.Reads as capped-reads
 use Rattle.texts.proofs.bytes_len.Reads as bytes-len-reads
 
--- src/lib.rt:113:44
 cast-bytes-len : tie.Need-cast-bytes-len
 cast-bytes-len c = search needs
 
--- src/lib.rt:113:61
 cast-bytes-len-2 : tie.Need-cast-bytes-len-2
 cast-bytes-len-2 c = search needs
 
--- src/lib.rt:113:19
 bytes-len-requires : tie.Need-bytes-len-requires
 bytes-len-requires c κs = search needs
 
--- src/lib.rt:113:9
 capped-requires : tie.Need-capped-requires
 capped-requires c κs = search needs
 
--- src/lib.rt:108:1
 returns : tie.Need-returns
 returns c = edge-size _ _ _ _ (c .before .before .before .before .if1 .taken) (c .before .bytes-len .ensures) (c .capped .ensures)
 
--- src/lib.rt:108:1
 returns-2 : tie.Need-returns-2
 returns-2 c = unset-size _ _ (c .if1 .left)
 

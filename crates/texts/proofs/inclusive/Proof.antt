@@ -5,12 +5,10 @@ use Rattle.texts.proofs.inclusive.Tie as tie
 use Rattle.texts.proofs.inclusive.Reads as reads
 use Rattle.texts.proofs.inclusive.Lts as lts
 
--- src/lib.rt:119:1
 returns : tie.Need-returns
 unfolding Plan.inclusive
 returns c = ap Plan.inclusive (sym (c .if1 .taken))
 
--- src/lib.rt:119:1
 returns-2 : tie.Need-returns-2
 unfolding Plan.inclusive
 returns-2 c = ap Plan.inclusive (sym (c .if1 .left))

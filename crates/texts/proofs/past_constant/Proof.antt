@@ -9,31 +9,24 @@ use Rattle.tables.proofs.folded.Reads as folded-reads
 use Rattle.views.proofs.count_of.Reads as count-of-reads
 use Rattle.views.proofs.node_at.Reads as node-at-reads
 
--- src/lib.rt:36:8
 count-of-requires : tie.Need-count-of-requires
 count-of-requires c κs = search needs
 
--- src/lib.rt:37:9
 returns : tie.Need-returns
 returns c = none-typed _ _ _ _ (c .before .count-of .ensures) (c .if1 .taken)
 
--- src/lib.rt:39:9
 folded-requires : tie.Need-folded-requires
 folded-requires c κs = search needs
 
--- src/lib.rt:40:31
 node-at-requires : tie.Need-node-at-requires
 node-at-requires c κs = let s = c .before .before .before .before .before in (s .pre .0 .indexed, stood-in _ _ (s .pre .0) _ _ (s .pre .1 .0) (c .folded .ensures))
 
--- src/lib.rt:41:9
 enum-told : tie.Need-enum-told
 enum-told c = search needs
 
--- src/lib.rt:30:1
 returns-2 : tie.Need-returns-2
 returns-2 c = past-int _ _ _ _ _ _ (c .before .before .before .before .before .before .before .before .pre .1 .1) (c .before .before .before .folded .ensures) (c .before .before .node-at .ensures) _ (c .enum-told .given .1) _ (c .before .before .before .before .before .count-of .ensures) (c .before .before .before .before .if1 .left)
 
--- src/lib.rt:30:1
 returns-3 : tie.Need-returns-3
 returns-3 c = past-other _ _ _ _ _ _ (c .before .before .before .before .before .before .before .pre .1 .1) (c .before .before .folded .ensures) (c .before .node-at .ensures) (c .match .keys2)
 

@@ -8,23 +8,18 @@ use Rattle.texts.proofs.prefix_text_len.Lts as lts
 use Rattle.constant.proofs.prefix_len.Reads as prefix-len-reads
 use Rattle.views.proofs.count_of.Reads as count-of-reads
 
--- src/lib.rt:144:15
 count-of-requires : tie.Need-count-of-requires
 count-of-requires c κs = search needs
 
--- src/lib.rt:145:13
 prefix-len-requires : tie.Need-prefix-len-requires
 prefix-len-requires c κs = search needs
 
--- src/lib.rt:145:9
 add-result : tie.Need-add-result
 add-result c = search needs
 
--- src/lib.rt:140:1
 returns : tie.Need-returns
 returns c = (text-size _ _ _ (c .prefix-len .ensures .0), omega arith)
 
--- src/lib.rt:140:1
 returns-2 : tie.Need-returns-2
 returns-2 c = (past-size _ _ (omega (arith, c .if1 .left, c .before .count-of .ensures)), omega arith)
 

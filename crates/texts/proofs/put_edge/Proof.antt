@@ -9,51 +9,39 @@ use Rattle.records.proofs.put8.Reads as put8-reads
 use Rattle.texts.proofs.inclusive.Reads as inclusive-reads
 use Rattle.texts.proofs.put_text.Reads as put-text-reads
 
--- src/lib.rt:131:23
 inclusive-requires : tie.Need-inclusive-requires
 inclusive-requires c κs = search needs
 
--- src/lib.rt:131:9
 put8-requires : tie.Need-put8-requires
 put8-requires c κs = search needs
 
--- src/lib.rt:132:36
 add-put-text : tie.Need-add-put-text
 add-put-text c = search needs
 
--- src/lib.rt:132:44
 cast-put-text : tie.Need-cast-put-text
 cast-put-text c = search needs
 
--- src/lib.rt:132:61
 cast-put-text-2 : tie.Need-cast-put-text-2
 cast-put-text-2 c = search needs
 
--- src/lib.rt:132:9
 put-text-requires : tie.Need-put-text-requires
 put-text-requires c κs = let s = c .before .before .before .before .before .before .before .before .before .before .before .before in (s .pre .0, (omega (arith, s .pre .1 .0), value-small _ _ (c .before .before .before .before .before .before .before .before .if1 .taken) (s .pre .1 .1)))
 
--- src/lib.rt:134:9
 put8-requires-2 : tie.Need-put8-requires-2
 put8-requires-2 c κs = search needs
 
--- src/lib.rt:135:9
 add-result : tie.Need-add-result
 add-result c = search needs
 
--- src/lib.rt:125:1
 same-length : tie.Need-same-length
 same-length c = search needs
 
--- src/lib.rt:125:1
 returns : tie.Need-returns
 returns c = put-set _ _ _ _ _ _ _ _ (c .before .before .before .before .before .before .before .before .before .before .before .if1 .taken) (c .before .before .before .before .before .before .before .before .before .inclusive .ensures) (c .before .before .before .before .before .before .before .before .put8 .ensures) (c .before .before .put-text .ensures)
 
--- src/lib.rt:125:1
 same-length-2 : tie.Need-same-length-2
 same-length-2 c = search needs
 
--- src/lib.rt:125:1
 returns-2 : tie.Need-returns-2
 returns-2 c = put-unset _ _ _ 0 _ _ (c .before .before .before .before .if1 .left) (c .before .before .put82 .ensures)
 

@@ -10,31 +10,24 @@ use Rattle.encode.proofs.put_i64.Reads as put-i64-reads
 use Rattle.tables.proofs.folded.Reads as folded-reads
 use Rattle.views.proofs.node_at.Reads as node-at-reads
 
--- src/lib.rt:54:9
 folded-requires : tie.Need-folded-requires
 folded-requires c κs = search needs
 
--- src/lib.rt:55:31
 node-at-requires : tie.Need-node-at-requires
 node-at-requires c κs = let s = c .before .before .before .before in (s .pre .0 .indexed, stood-in _ _ (s .pre .0) _ _ (s .pre .1 .0) (c .folded .ensures))
 
--- src/lib.rt:55:26
 enum-known-p : tie.Need-enum-known-p
 enum-known-p c = search needs
 
--- src/lib.rt:56:9
 put-i64-requires : tie.Need-put-i64-requires
 put-i64-requires c κs = (int-inside _ _ _ _ (c .before .before .before .before .node-at .ensures) (c .before .before .p .given .1), omega (arith, c .before .before .before .before .before .before .before .before .before .pre .1 .1 .1 .room))
 
--- src/lib.rt:47:1
 same-length : tie.Need-same-length
 same-length c = search needs
 
--- src/lib.rt:47:1
 returns : tie.Need-returns
 returns c = let s = c .before .before .before .before .before .before .before .before .before .before .before .before in put-int _ _ _ _ _ _ (s .pre .1 .1 .0) (c .before .before .before .before .before .before .before .before .folded .ensures) (c .before .before .before .before .before .before .before .node-at .ensures) _ (c .before .before .before .before .before .p .given .1) _ _ _ _ (s .pre .1 .1 .1) (c .before .before .put-i64 .ensures)
 
--- src/lib.rt:47:1
 returns-2 : tie.Need-returns-2
 returns-2 c = put-other _ _ _ _ _ _ (c .before .before .before .before .before .before .pre .1 .1 .0) (c .before .before .folded .ensures) (c .before .node-at .ensures) _ _ (c .match .keys2)
 

@@ -12,55 +12,42 @@ use Rattle.records.proofs.put16.Reads as put16-reads
 use Rattle.records.proofs.put8.Reads as put8-reads
 use Rattle.views.proofs.count_of.Reads as count-of-reads
 
--- src/lib.rt:156:15
 count-of-requires : tie.Need-count-of-requires
 count-of-requires c κs = search needs
 
--- src/lib.rt:157:24
 prefix-len-requires : tie.Need-prefix-len-requires
 prefix-len-requires c κs = search needs
 
--- src/lib.rt:157:9
 put16-requires : tie.Need-put16-requires
 put16-requires c κs = search needs
 
--- src/lib.rt:158:38
 add-put-prefix : tie.Need-add-put-prefix
 add-put-prefix c = search needs
 
--- src/lib.rt:158:9
 put-prefix-requires : tie.Need-put-prefix-requires
 put-prefix-requires c κs = let s = c .before .before .before .before .before .before .before .before .before .before .before in (s .pre .0 .indexed, (omega (arith, c .before .before .before .before .before .before .if1 .taken, c .before .before .before .before .before .before .before .count-of .ensures), omega (arith, s .pre .1)))
 
--- src/lib.rt:160:9
 put16-requires-2 : tie.Need-put16-requires-2
 put16-requires-2 c κs = search needs
 
--- src/lib.rt:161:19
 add-put8 : tie.Need-add-put8
 add-put8 c = search needs
 
--- src/lib.rt:161:9
 put8-requires : tie.Need-put8-requires
 put8-requires c κs = search needs
 
--- src/lib.rt:162:9
 add-result : tie.Need-add-result
 add-result c = search needs
 
--- src/lib.rt:151:1
 same-length : tie.Need-same-length
 same-length c = search needs
 
--- src/lib.rt:151:1
 returns : tie.Need-returns
 returns c = put-name _ _ _ _ _ _ _ (c .before .before .before .before .before .before .put16 .ensures) _ (c .before .before .before .before .before .before .before .prefix-len .ensures .0) (c .before .before .put-prefix .ensures .0)
 
--- src/lib.rt:151:1
 same-length-2 : tie.Need-same-length-2
 same-length-2 c = search needs
 
--- src/lib.rt:151:1
 returns-2 : tie.Need-returns-2
 returns-2 c = put-past _ _ _ _ _ _ _ (c .before .before .before .before .before .before .put162 .ensures) (omega (arith, c .before .before .before .before .before .before .before .before .if1 .left, c .before .before .before .before .before .before .before .before .before .count-of .ensures)) refl (c .before .before .put8 .ensures)
 

@@ -11,35 +11,27 @@ use Rattle.texts.proofs.bytes_len.Reads as bytes-len-reads
 use Rattle.texts.proofs.put_past.Reads as put-past-reads
 use Rattle.views.proofs.count_of.Reads as count-of-reads
 
--- src/lib.rt:95:9
 bytes-len-requires : tie.Need-bytes-len-requires
 bytes-len-requires c κs = search needs
 
--- src/lib.rt:96:5
 put16-requires : tie.Need-put16-requires
 put16-requires c κs = search needs
 
--- src/lib.rt:98:16
 add-result : tie.Need-add-result
 add-result c = search needs
 
--- src/lib.rt:98:9
 same-length : tie.Need-same-length
 same-length c = search needs
 
--- src/lib.rt:98:9
 returns : tie.Need-returns
 returns c = empty-text _ _ _ _ (c .before .before .before .before .before .bytes-len .ensures) _ (c .before .before .before .before .before .before .before .before .before .pre .1 .1) _ _ (c .before .before .before .put16 .ensures) (c .if1 .taken)
 
--- src/lib.rt:100:13
 count-of-requires : tie.Need-count-of-requires
 count-of-requires c κs = search needs
 
--- src/lib.rt:101:40
 add-put-constant : tie.Need-add-put-constant
 add-put-constant c = search needs
 
--- src/lib.rt:101:9
 put-constant-requires : tie.Need-put-constant-requires
 put-constant-requires c κs =
     let s = c .before .before .before .before .before .before .before .before .before .before .before .before in
@@ -47,11 +39,9 @@ put-constant-requires c κs =
     let z = c .before .before .before .if1 .left in
     (s .pre .0, (node-in _ _ _ _ (b .ensures) z, (omega (arith, c .before .if2 .taken, c .before .before .count-of .ensures), here _ _ _ _ (b .ensures) _ (s .pre .1 .1) z (s .pre .1 .0))))
 
--- src/lib.rt:103:36
 add-put-past : tie.Need-add-put-past
 add-put-past c = search needs
 
--- src/lib.rt:103:9
 put-past-requires : tie.Need-put-past-requires
 put-past-requires c κs =
     let s = c .before .before .before .before .before .before .before .before .before .before .before .before in
@@ -59,19 +49,15 @@ put-past-requires c κs =
     let z = c .before .before .before .if1 .left in
     (s .pre .0, (node-in _ _ _ _ (b .ensures) z, (omega (arith, c .before .if2 .left, c .before .before .count-of .ensures), here _ _ _ _ (b .ensures) _ (s .pre .1 .1) z (s .pre .1 .0))))
 
--- src/lib.rt:90:1
 same-length-2 : tie.Need-same-length-2
 same-length-2 c = search needs
 
--- src/lib.rt:90:1
 returns-2 : tie.Need-returns-2
 returns-2 c = whole-text _ _ _ _ (c .before .before .before .before .before .before .before .before .before .before .before .bytes-len .ensures) _ (c .before .before .before .before .before .before .before .before .before .before .before .before .before .before .before .pre .1 .1) _ _ (c .before .before .before .before .before .before .before .before .before .put16 .ensures) _ _ (c .before .before .put-constant .ensures)
 
--- src/lib.rt:90:1
 same-length-3 : tie.Need-same-length-3
 same-length-3 c = search needs
 
--- src/lib.rt:90:1
 returns-3 : tie.Need-returns-3
 returns-3 c = whole-text _ _ _ _ (c .before .before .before .before .before .before .before .before .before .before .before .bytes-len .ensures) _ (c .before .before .before .before .before .before .before .before .before .before .before .before .before .before .before .pre .1 .1) _ _ (c .before .before .before .before .before .before .before .before .before .put16 .ensures) _ _ (c .before .before .put-past .ensures)
 

@@ -8,35 +8,27 @@ use Rattle.views.proofs.alternative_at.Lts as lts
 use Rattle.file.proofs.word_at.Reads as word-at-reads
 use Rattle.views.proofs.long_at.Reads as long-at-reads
 
--- src/lib.rt:205:18
 mul-p : tie.Need-mul-p
 mul-p c = search needs
 
--- src/lib.rt:205:13
 add-p : tie.Need-add-p
 add-p c = search needs
 
--- src/lib.rt:207:15
 word-at-requires : tie.Need-word-at-requires
 word-at-requires c κs = search needs
 
--- src/lib.rt:208:29
 add-long-at : tie.Need-add-long-at
 add-long-at c = search needs
 
--- src/lib.rt:208:15
 long-at-requires : tie.Need-long-at-requires
 long-at-requires c κs = search needs
 
--- src/lib.rt:209:27
 add-word-at : tie.Need-add-word-at
 add-word-at c = search needs
 
--- src/lib.rt:209:13
 word-at-requires-2 : tie.Need-word-at-requires-2
 word-at-requires-2 c κs = search needs
 
--- src/lib.rt:201:1
 returns : tie.Need-returns
 unfolding alternativeAt
 returns c = rw (c .before .before .word-at .ensures .0, c .before .long-at .ensures, c .word-at2 .ensures .0) refl

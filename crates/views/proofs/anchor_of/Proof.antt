@@ -6,12 +6,10 @@ use Rattle.views.proofs.anchor_of.Tie as tie
 use Rattle.views.proofs.anchor_of.Reads as reads
 use Rattle.views.proofs.anchor_of.Lts as lts
 
--- src/lib.rt:270:1
 returns : tie.Need-returns
 unfolding anchorKind
 returns c = sym (ap anchorKind (c .if1 .taken))
 
--- src/lib.rt:270:1
 returns-2 : tie.Need-returns-2
 unfolding anchorKind
 returns-2 c = let e : c .before .args .b ≡ 1 = omega arith in sym (ap anchorKind e)

@@ -23,97 +23,75 @@ here d = binding-here _ _ (d .before .before .before .before .pre .0) _ _ (d .be
 
 -- @end
 
--- src/lib.rt:322:9
 start-of-requires : tie.Need-start-of-requires
 start-of-requires c κs = let a = c .before .before in omega (arith, a .pre .0 .long, a .pre .0 .bindings .under)
 
--- src/lib.rt:323:9
 word-at-requires : tie.Need-word-at-requires
 word-at-requires c κs = binding-here _ _ (c .before .before .before .pre .0) _ _ (c .before .before .before .pre .1) (c .start-of .ensures) .room
 
--- src/lib.rt:324:13
 add-q : tie.Need-add-q
 add-q c = omega (arith, here c .room)
 
--- src/lib.rt:325:13
 add-p : tie.Need-add-p
 add-p c = omega (arith, here c .kinded .inside)
 
--- src/lib.rt:326:21
 half-at-requires : tie.Need-half-at-requires
 half-at-requires c κs = first-here _ _ _ (here c)
 
--- src/lib.rt:327:11
 shared-slice-read-match : tie.Need-shared-slice-read-match
 shared-slice-read-match c = here (c .before .before) .kinded .inside
 
--- src/lib.rt:330:66
 add-half-at : tie.Need-add-half-at
 add-half-at c = omega (arith, row-here _ _ _ (here (c .before .before .before)) (omega arith) .0)
 
--- src/lib.rt:330:52
 half-at-requires-2 : tie.Need-half-at-requires-2
 half-at-requires-2 c κs = omega (arith, row-here _ _ _ (here (c .before .before .before)) (omega arith) .0)
 
--- src/lib.rt:330:36
 maybe-predicate-requires : tie.Need-maybe-predicate-requires
 maybe-predicate-requires c κs = search needs
 
--- src/lib.rt:334:50
 add-word-at : tie.Need-add-word-at
 add-word-at c = omega (arith, key-here _ _ _ (here (c .before .before .before)) (omega arith) .0)
 
--- src/lib.rt:334:36
 word-at-requires-2 : tie.Need-word-at-requires-2
 word-at-requires-2 c κs = omega (arith, key-here _ _ _ (here (c .before .before .before)) (omega arith) .0)
 
--- src/lib.rt:342:38
 add-t22 : tie.Need-add-t22
 add-t22 c = omega (arith, first-here _ _ _ (here (c .before .before .before)))
 
--- src/lib.rt:342:75
 add-past-path : tie.Need-add-past-path
 add-past-path c = omega (arith, first-here _ _ _ (here (c .before .before .before)))
 
--- src/lib.rt:342:59
 past-path-requires : tie.Need-past-path-requires
 past-path-requires c κs = field-here _ _ _ (here (c .before .before .before)) (omega arith) .path
 
--- src/lib.rt:342:45
 word-at-requires-3 : tie.Need-word-at-requires-3
 word-at-requires-3 c κs = omega (arith, field-here _ _ _ (here (c .before .before .before .before)) (omega arith) .last)
 
--- src/lib.rt:346:52
 add-word-at-2 : tie.Need-add-word-at-2
 add-word-at-2 c = omega (arith, value-here _ _ _ (here (c .before .before .before)) (omega arith) .0)
 
--- src/lib.rt:346:38
 word-at-requires-4 : tie.Need-word-at-requires-4
 word-at-requires-4 c κs = omega (arith, value-here _ _ _ (here (c .before .before .before)) (omega arith) .0)
 
--- src/lib.rt:350:35
 word-at-requires-5 : tie.Need-word-at-requires-5
 word-at-requires-5 c κs = first-here _ _ _ (here (c .before .before .before))
 
--- src/lib.rt:317:1
 returns : tie.Need-returns
 returns c =
     let d = c .before .before .before .before .before in
     seen-binding _ _ _ (here d) _ (d .word-at .ensures .0) (ap₂ Slot.Row (c .before .before .before .before .half-at .ensures) (c .maybe-predicate .ensures ∙ ap orNone (c .before .half-at2 .ensures)) ∙ row-here _ _ _ (here d) (omega arith) .1) tt
 
--- src/lib.rt:317:1
 returns-2 : tie.Need-returns-2
 returns-2 c =
     let d = c .before .before .before .before in
     seen-binding _ _ _ (here d) _ (d .word-at .ensures .0) (ap₂ Slot.Key (c .before .before .before .half-at .ensures) (c .word-at2 .ensures .0) ∙ key-here _ _ _ (here d) (omega arith) .1) tt
 
--- src/lib.rt:317:1
 returns-3 : tie.Need-returns-3
 returns-3 c =
     let d = c .before .before .before in
     seen-binding _ _ _ (here d) _ (d .word-at .ensures .0) (ap Slot.Derived (c .before .before .half-at .ensures) ∙ derived-here _ _ _ (here d) (omega arith) .1) tt
 
--- src/lib.rt:317:1
 returns-4 : tie.Need-returns-4
 returns-4 c =
     let d = c .before .before .before .before .before in
@@ -121,13 +99,11 @@ returns-4 c =
     (field-is _ _ _ (here d) _ _ (omega arith) (c .before .before .before .before .half-at .ensures) (c .word-at3 .ensures .0 ∙ ap (word (now (d .before .before .before .before .args .file))) (c .before .past-path .ensures)))
     (field-here _ _ _ (here d) (omega arith) .path)
 
--- src/lib.rt:317:1
 returns-5 : tie.Need-returns-5
 returns-5 c =
     let d = c .before .before .before .before in
     seen-binding _ _ _ (here d) _ (d .word-at .ensures .0) (ap₂ Slot.Value (c .before .before .before .half-at .ensures) (c .word-at4 .ensures .0) ∙ value-here _ _ _ (here d) (omega arith) .1) tt
 
--- src/lib.rt:317:1
 returns-6 : tie.Need-returns-6
 returns-6 c =
     let d = c .before .before .before .before in

@@ -6,22 +6,18 @@ use Rattle.views.proofs.compare_op.Tie as tie
 use Rattle.views.proofs.compare_op.Reads as reads
 use Rattle.views.proofs.compare_op.Lts as lts
 
--- src/lib.rt:380:1
 returns : tie.Need-returns
 unfolding opKind
 returns c = let e : c .before .args .b ≡ 0 = omega arith in sym (ap opKind e)
 
--- src/lib.rt:380:1
 returns-2 : tie.Need-returns-2
 unfolding opKind
 returns-2 c = let e : c .before .args .b ≡ 1 = omega arith in sym (ap opKind e)
 
--- src/lib.rt:380:1
 returns-3 : tie.Need-returns-3
 unfolding opKind
 returns-3 c = let e : c .before .args .b ≡ 2 = omega arith in sym (ap opKind e)
 
--- src/lib.rt:380:1
 returns-4 : tie.Need-returns-4
 unfolding opKind
 returns-4 c = let e : c .before .args .b ≡ 3 = omega arith in sym (ap opKind e)

@@ -12,23 +12,18 @@ use Rattle.views.proofs.count_of.Lts as lts
 use Rattle.file.proofs.base.Reads as base-reads
 use Rattle.file.proofs.wide16.Reads as wide16-reads
 
--- src/lib.rt:145:18
 base-requires : tie.Need-base-requires
 base-requires c κs = search needs
 
--- src/lib.rt:145:12
 mul-wide16 : tie.Need-mul-wide16
 mul-wide16 c = let a = c .before .before .before in omega (arith, roomy (a .args .s) (a .pre .1), a .pre .0 .long)
 
--- src/lib.rt:145:12
 shared-slice-read-wide16 : tie.Need-shared-slice-read-wide16
 shared-slice-read-wide16 c = let a = c .before .before .before .before in omega (arith, roomy (a .args .s) (a .pre .1), a .pre .0 .long)
 
--- src/lib.rt:145:5
 wide16-requires : tie.Need-wide16-requires
 wide16-requires c κs = search needs
 
--- src/lib.rt:140:1
 returns : tie.Need-returns
 returns c = let a = c .before .before .before .before .before in c .wide16 .ensures ∙ ap (λ k. getD (now (a .args .index)) k 0) (c .before .before .base .ensures) ∙ size-found _ _ (a .pre .0) _ (a .pre .1)
 

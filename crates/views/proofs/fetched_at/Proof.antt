@@ -11,31 +11,24 @@ use Rattle.views.proofs.half_at.Reads as half-at-reads
 use Rattle.views.proofs.past_path.Reads as past-path-reads
 use Rattle.views.proofs.start_of.Reads as start-of-reads
 
--- src/lib.rt:367:9
 start-of-requires : tie.Need-start-of-requires
 start-of-requires c κs = let a = c .before .before in omega (arith, a .pre .0 .long, a .pre .0 .fetched .under)
 
--- src/lib.rt:368:27
 half-at-requires : tie.Need-half-at-requires
 half-at-requires c κs = fetched-here _ _ (c .before .before .before .pre .0) _ _ (c .before .before .before .pre .1) (c .start-of .ensures) .first
 
--- src/lib.rt:369:58
 add-past-path : tie.Need-add-past-path
 add-past-path c = omega (arith, fetched-here _ _ (c .before .before .before .before .pre .0) _ _ (c .before .before .before .before .pre .1) (c .before .start-of .ensures) .first)
 
--- src/lib.rt:369:42
 past-path-requires : tie.Need-past-path-requires
 past-path-requires c κs = fetched-here _ _ (c .before .before .before .before .pre .0) _ _ (c .before .before .before .before .pre .1) (c .before .start-of .ensures) .path
 
--- src/lib.rt:369:28
 half-at-requires-2 : tie.Need-half-at-requires-2
 half-at-requires-2 c κs = omega (arith, fetched-here _ _ (c .before .before .before .before .before .pre .0) _ _ (c .before .before .before .before .before .pre .1) (c .before .before .start-of .ensures) .last)
 
--- src/lib.rt:372:15
 add-t8 : tie.Need-add-t8
 add-t8 c = omega (arith, fetched-here _ _ (c .before .before .before .before .before .before .pre .0) _ _ (c .before .before .before .before .before .before .pre .1) (c .before .before .before .start-of .ensures) .first)
 
--- src/lib.rt:362:1
 returns : tie.Need-returns
 returns c = seen-fetched _ _ _ _ _ (fetched-here _ _ (c .before .before .before .before .before .before .pre .0) _ _ (c .before .before .before .before .before .before .pre .1) (c .before .before .before .start-of .ensures)) (c .before .before .half-at .ensures) (c .half-at2 .ensures ∙ ap (word (now (c .before .before .before .before .before .before .args .file))) (c .before .past-path .ensures))
 

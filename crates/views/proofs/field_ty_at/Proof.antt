@@ -7,27 +7,21 @@ use Rattle.views.proofs.field_ty_at.Reads as reads
 use Rattle.views.proofs.field_ty_at.Lts as lts
 use Rattle.file.proofs.word_at.Reads as word-at-reads
 
--- src/lib.rt:193:18
 mul-p : tie.Need-mul-p
 mul-p c = search needs
 
--- src/lib.rt:193:13
 add-p : tie.Need-add-p
 add-p c = search needs
 
--- src/lib.rt:195:15
 word-at-requires : tie.Need-word-at-requires
 word-at-requires c κs = search needs
 
--- src/lib.rt:196:27
 add-word-at : tie.Need-add-word-at
 add-word-at c = search needs
 
--- src/lib.rt:196:13
 word-at-requires-2 : tie.Need-word-at-requires-2
 word-at-requires-2 c κs = search needs
 
--- src/lib.rt:189:1
 returns : tie.Need-returns
 unfolding fieldAt
 returns c = rw (c .before .word-at .ensures .0, c .word-at2 .ensures .0) refl

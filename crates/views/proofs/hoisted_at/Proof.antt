@@ -7,23 +7,18 @@ use Rattle.views.proofs.hoisted_at.Lts as lts
 use Rattle.file.proofs.word_at.Reads as word-at-reads
 use Rattle.views.proofs.start_of.Reads as start-of-reads
 
--- src/lib.rt:346:9
 start-of-requires : tie.Need-start-of-requires
 start-of-requires c κs = let a = c .before .before in omega (arith, a .pre .0 .long, a .pre .0 .hoisted .under)
 
--- src/lib.rt:348:15
 word-at-requires : tie.Need-word-at-requires
 word-at-requires c κs = let a = c .before .before .before in omega (arith, hoisted-here _ _ (a .pre .0) _ _ (a .pre .1) (c .start-of .ensures) .0)
 
--- src/lib.rt:349:29
 add-word-at : tie.Need-add-word-at
 add-word-at c = let a = c .before .before .before .before in omega (arith, hoisted-here _ _ (a .pre .0) _ _ (a .pre .1) (c .before .start-of .ensures) .0)
 
--- src/lib.rt:349:15
 word-at-requires-2 : tie.Need-word-at-requires-2
 word-at-requires-2 c κs = let a = c .before .before .before .before in omega (arith, hoisted-here _ _ (a .pre .0) _ _ (a .pre .1) (c .before .start-of .ensures) .0)
 
--- src/lib.rt:341:1
 returns : tie.Need-returns
 returns c = let a = c .before .before .before .before .before in rw (c .before .word-at .ensures .0, c .word-at2 .ensures .0) (hoisted-here _ _ (a .pre .0) _ _ (a .pre .1) (c .before .before .start-of .ensures) .1)
 

@@ -8,31 +8,24 @@ use Rattle.file.proofs.word_at.Reads as word-at-reads
 use Rattle.views.proofs.half_at.Reads as half-at-reads
 use Rattle.views.proofs.start_of.Reads as start-of-reads
 
--- src/lib.rt:410:9
 start-of-requires : tie.Need-start-of-requires
 start-of-requires c κs = let a = c .before .before in omega (arith, a .pre .0 .long, a .pre .0 .levels .under)
 
--- src/lib.rt:411:33
 half-at-requires : tie.Need-half-at-requires
 half-at-requires c κs = let a = c .before .before .before in omega (arith, level-here _ _ (a .pre .0) _ _ (a .pre .1) (c .start-of .ensures) .0)
 
--- src/lib.rt:412:41
 add-half-at : tie.Need-add-half-at
 add-half-at c = let a = c .before .before .before .before in omega (arith, level-here _ _ (a .pre .0) _ _ (a .pre .1) (c .before .start-of .ensures) .0)
 
--- src/lib.rt:412:27
 half-at-requires-2 : tie.Need-half-at-requires-2
 half-at-requires-2 c κs = let a = c .before .before .before .before in omega (arith, level-here _ _ (a .pre .0) _ _ (a .pre .1) (c .before .start-of .ensures) .0)
 
--- src/lib.rt:415:29
 add-word-at : tie.Need-add-word-at
 add-word-at c = let a = c .before .before .before .before .before in omega (arith, level-here _ _ (a .pre .0) _ _ (a .pre .1) (c .before .before .start-of .ensures) .0)
 
--- src/lib.rt:415:15
 word-at-requires : tie.Need-word-at-requires
 word-at-requires c κs = let a = c .before .before .before .before .before in omega (arith, level-here _ _ (a .pre .0) _ _ (a .pre .1) (c .before .before .start-of .ensures) .0)
 
--- src/lib.rt:405:1
 returns : tie.Need-returns
 returns c = let a = c .before .before .before .before .before .before in rw (c .before .before .half-at .ensures, c .before .half-at2 .ensures, c .word-at .ensures .0) (level-here _ _ (a .pre .0) _ _ (a .pre .1) (c .before .before .before .start-of .ensures) .1)
 

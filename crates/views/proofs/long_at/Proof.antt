@@ -7,35 +7,27 @@ use Rattle.views.proofs.long_at.Reads as reads
 use Rattle.views.proofs.long_at.Lts as lts
 use Rattle.file.proofs.word_at.Reads as word-at-reads
 
--- src/lib.rt:185:6
 word-at-requires : tie.Need-word-at-requires
 word-at-requires c κs = search needs
 
--- src/lib.rt:185:6
 cast-result : tie.Need-cast-result
 cast-result c = search needs
 
--- src/lib.rt:185:56
 add-word-at : tie.Need-add-word-at
 add-word-at c = search needs
 
--- src/lib.rt:185:42
 word-at-requires-2 : tie.Need-word-at-requires-2
 word-at-requires-2 c κs = search needs
 
--- src/lib.rt:185:42
 cast-result-2 : tie.Need-cast-result-2
 cast-result-2 c = search needs
 
--- src/lib.rt:185:33
 mul-result : tie.Need-mul-result
 mul-result c = search needs
 
--- src/lib.rt:185:5
 add-result : tie.Need-add-result
 add-result c = search needs
 
--- src/lib.rt:181:1
 returns : tie.Need-returns
 unfolding long
 returns c = omega arith

@@ -4,11 +4,9 @@ use Rattle.views.proofs.maybe_predicate.Tie as tie
 use Rattle.views.proofs.maybe_predicate.Reads as reads
 use Rattle.views.proofs.maybe_predicate.Lts as lts
 
--- src/lib.rt:247:1
 returns : tie.Need-returns
 returns c = none-is _ (c .if1 .taken)
 
--- src/lib.rt:247:1
 returns-2 : tie.Need-returns-2
 returns-2 c = some-is _ (c .if1 .left)
 

@@ -9,23 +9,18 @@ use Rattle.views.proofs.name_at.Lts as lts
 use Rattle.file.proofs.wide.Reads as wide-reads
 use Rattle.views.proofs.start_of.Reads as start-of-reads
 
--- src/lib.rt:230:9
 start-of-requires : tie.Need-start-of-requires
 start-of-requires c κs = let a = c .before .before in omega (arith, a .pre .0 .long, a .pre .0 .names .under)
 
--- src/lib.rt:232:13
 add-t5 : tie.Need-add-t5
 add-t5 c = let a = c .before .before .before in omega (arith, name-seen _ _ (a .pre .0) _ _ _ (a .pre .1) (c .start-of .ensures) refl .0)
 
--- src/lib.rt:233:19
 shared-slice-read-wide : tie.Need-shared-slice-read-wide
 shared-slice-read-wide c = let a = c .before .before .before .before in name-seen _ _ (a .pre .0) _ _ _ (a .pre .1) (c .before .start-of .ensures) refl .0
 
--- src/lib.rt:233:14
 wide-requires : tie.Need-wide-requires
 wide-requires c κs = search needs
 
--- src/lib.rt:225:1
 returns : tie.Need-returns
 returns c = let a = c .before .before .before .before .before in name-seen _ _ (a .pre .0) _ _ _ (a .pre .1) (c .before .before .start-of .ensures) (c .wide .ensures .0) .1
 

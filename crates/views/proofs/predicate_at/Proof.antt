@@ -21,31 +21,24 @@ placed d = d .start-of .ensures ∙ ap (λ (k : ℕ). getD (now (d .before .befo
 
 -- @end
 
--- src/lib.rt:262:9
 wide16-requires : tie.Need-wide16-requires
 wide16-requires c κs = search needs
 
--- src/lib.rt:263:9
 start-of-requires : tie.Need-start-of-requires
 start-of-requires c κs = let a = c .before .before .before in omega (arith, a .pre .0 .long, a .pre .0 .predicates .under, c .wide16 .ensures, a .pre .1)
 
--- src/lib.rt:265:14
 word-at-requires : tie.Need-word-at-requires
 word-at-requires c κs = let a = c .before .before .before .before in omega (arith, predicate-here _ _ (a .pre .0) _ _ (a .pre .1) (placed c) .0)
 
--- src/lib.rt:266:41
 add-word-at : tie.Need-add-word-at
 add-word-at c = let a = c .before .before .before .before .before in omega (arith, predicate-here _ _ (a .pre .0) _ _ (a .pre .1) (placed (c .before)) .0)
 
--- src/lib.rt:266:27
 word-at-requires-2 : tie.Need-word-at-requires-2
 word-at-requires-2 c κs = let a = c .before .before .before .before .before in omega (arith, predicate-here _ _ (a .pre .0) _ _ (a .pre .1) (placed (c .before)) .0)
 
--- src/lib.rt:266:16
 maybe-type-requires : tie.Need-maybe-type-requires
 maybe-type-requires c κs = search needs
 
--- src/lib.rt:257:1
 returns : tie.Need-returns
 returns c = let a = c .before .before .before .before .before .before .before in rw (c .before .before .word-at .ensures .0, c .maybe-type .ensures, c .before .word-at2 .ensures .0) (predicate-here _ _ (a .pre .0) _ _ (a .pre .1) (placed (c .before .before .before)) .1)
 

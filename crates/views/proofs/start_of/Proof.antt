@@ -12,31 +12,24 @@ use Rattle.views.proofs.start_of.Lts as lts
 use Rattle.file.proofs.base.Reads as base-reads
 use Rattle.file.proofs.wide16.Reads as wide16-reads
 
--- src/lib.rt:153:18
 base-requires : tie.Need-base-requires
 base-requires c κs = search needs
 
--- src/lib.rt:153:18
 add-wide16 : tie.Need-add-wide16
 add-wide16 c = let a = c .before .before in omega (arith, roomy (a .args .s) (omega arith))
 
--- src/lib.rt:153:18
 add-wide16-2 : tie.Need-add-wide16-2
 add-wide16-2 c = let a = c .before .before in omega (arith, roomy (a .args .s) (omega arith))
 
--- src/lib.rt:153:12
 mul-wide16 : tie.Need-mul-wide16
 mul-wide16 c = let a = c .before .before in omega (arith, roomy (a .args .s) (omega arith))
 
--- src/lib.rt:153:12
 shared-slice-read-wide16 : tie.Need-shared-slice-read-wide16
 shared-slice-read-wide16 c = let a = c .before .before .before in omega (arith, roomy (a .args .s) (omega arith))
 
--- src/lib.rt:153:5
 wide16-requires : tie.Need-wide16-requires
 wide16-requires c κs = search needs
 
--- src/lib.rt:149:1
 returns : tie.Need-returns
 returns c = let a = c .before .before .before .before in c .wide16 .ensures ∙ ap (λ k. getD (now (a .args .index)) (k + 1 + a .args .t) 0) (c .before .before .base .ensures)
 

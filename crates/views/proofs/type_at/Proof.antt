@@ -9,75 +9,57 @@ use Rattle.file.proofs.wide.Reads as wide-reads
 use Rattle.views.proofs.half_at.Reads as half-at-reads
 use Rattle.views.proofs.start_of.Reads as start-of-reads
 
--- src/lib.rt:169:9
 start-of-requires : tie.Need-start-of-requires
 start-of-requires c κs = let a = c .before .before in omega (arith, a .pre .0 .long, a .pre .0 .types .under)
 
--- src/lib.rt:170:11
 shared-slice-read-match : tie.Need-shared-slice-read-match
 shared-slice-read-match c = type-here _ _ (c .before .before .before .before .pre .0) _ _ (c .before .before .before .before .pre .1) (c .before .start-of .ensures) .inside
 
--- src/lib.rt:174:55
 add-half-at : tie.Need-add-half-at
 add-half-at c = omega (arith, fact-room _ _ (c .before .before .before .before .before .pre .0) _ _ (c .before .before .before .before .before .pre .1) (c .before .before .start-of .ensures) (omega arith))
 
--- src/lib.rt:174:41
 half-at-requires : tie.Need-half-at-requires
 half-at-requires c κs = omega (arith, fact-room _ _ (c .before .before .before .before .before .pre .0) _ _ (c .before .before .before .before .before .pre .1) (c .before .before .start-of .ensures) (omega arith))
 
--- src/lib.rt:175:41
 add-wide : tie.Need-add-wide
 add-wide c = omega (arith, fields-here _ _ (c .before .before .before .before .before .pre .0) _ _ (c .before .before .before .before .before .pre .1) (c .before .before .start-of .ensures) (omega arith) .inside)
 
--- src/lib.rt:175:36
 shared-slice-read-wide : tie.Need-shared-slice-read-wide
 shared-slice-read-wide c = fields-here _ _ (c .before .before .before .before .before .before .pre .0) _ _ (c .before .before .before .before .before .before .pre .1) (c .before .before .before .start-of .ensures) (omega arith) .inside
 
--- src/lib.rt:175:31
 wide-requires : tie.Need-wide-requires
 wide-requires c κs = search needs
 
--- src/lib.rt:175:50
 add-t16 : tie.Need-add-t16
 add-t16 c = omega (arith, fields-here _ _ (c .before .before .before .before .before .before .before .pre .0) _ _ (c .before .before .before .before .before .before .before .pre .1) (c .before .before .before .before .start-of .ensures) (omega arith) .inside)
 
--- src/lib.rt:176:40
 add-wide-2 : tie.Need-add-wide-2
 add-wide-2 c = omega (arith, alternatives-here _ _ (c .before .before .before .before .before .pre .0) _ _ (c .before .before .before .before .before .pre .1) (c .before .before .start-of .ensures) (omega (arith, type-here _ _ (c .before .before .before .before .before .pre .0) _ _ (c .before .before .before .before .before .pre .1) (c .before .before .start-of .ensures) .known)) .inside)
 
--- src/lib.rt:176:35
 shared-slice-read-wide-2 : tie.Need-shared-slice-read-wide-2
 shared-slice-read-wide-2 c = alternatives-here _ _ (c .before .before .before .before .before .before .pre .0) _ _ (c .before .before .before .before .before .before .pre .1) (c .before .before .before .start-of .ensures) (omega (arith, type-here _ _ (c .before .before .before .before .before .before .pre .0) _ _ (c .before .before .before .before .before .before .pre .1) (c .before .before .before .start-of .ensures) .known)) .inside
 
--- src/lib.rt:176:30
 wide-requires-2 : tie.Need-wide-requires-2
 wide-requires-2 c κs = search needs
 
--- src/lib.rt:176:49
 add-t21 : tie.Need-add-t21
 add-t21 c = omega (arith, alternatives-here _ _ (c .before .before .before .before .before .before .before .pre .0) _ _ (c .before .before .before .before .before .before .before .pre .1) (c .before .before .before .before .start-of .ensures) (omega (arith, type-here _ _ (c .before .before .before .before .before .before .before .pre .0) _ _ (c .before .before .before .before .before .before .before .pre .1) (c .before .before .before .before .start-of .ensures) .known)) .inside)
 
--- src/lib.rt:164:1
 returns : tie.Need-returns
 returns c = seen-int _ _ (c .before .before .before .before .before .pre .0) _ _ (c .before .before .before .before .before .pre .1) (c .before .before .start-of .ensures) (omega arith)
 
--- src/lib.rt:164:1
 returns-2 : tie.Need-returns-2
 returns-2 c = seen-str _ _ (c .before .before .before .before .before .pre .0) _ _ (c .before .before .before .before .before .pre .1) (c .before .before .start-of .ensures) (omega arith)
 
--- src/lib.rt:164:1
 returns-3 : tie.Need-returns-3
 returns-3 c = seen-bytes _ _ (c .before .before .before .before .before .pre .0) _ _ (c .before .before .before .before .before .pre .1) (c .before .before .start-of .ensures) (omega arith)
 
--- src/lib.rt:164:1
 returns-4 : tie.Need-returns-4
 returns-4 c = seen-fact _ _ (c .before .before .before .before .before .before .pre .0) _ _ (c .before .before .before .before .before .before .pre .1) (c .before .before .before .start-of .ensures) _ (omega arith) (c .half-at .ensures)
 
--- src/lib.rt:164:1
 returns-5 : tie.Need-returns-5
 returns-5 c = seen-record _ _ (c .before .before .before .before .before .before .before .pre .0) _ _ (c .before .before .before .before .before .before .before .pre .1) (c .before .before .before .before .start-of .ensures) _ (omega arith) (c .wide .ensures .0)
 
--- src/lib.rt:164:1
 returns-6 : tie.Need-returns-6
 returns-6 c = seen-union _ _ (c .before .before .before .before .before .before .before .pre .0) _ _ (c .before .before .before .before .before .before .before .pre .1) (c .before .before .before .before .start-of .ensures) _ (omega (arith, type-here _ _ (c .before .before .before .before .before .before .before .pre .0) _ _ (c .before .before .before .before .before .before .before .pre .1) (c .before .before .before .before .start-of .ensures) .known)) (c .wide2 .ensures .0)
 

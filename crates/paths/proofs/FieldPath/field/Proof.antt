@@ -6,7 +6,6 @@ use Rattle.paths.proofs.FieldPath.field.Tie as tie
 use Rattle.paths.proofs.FieldPath.field.Reads as reads
 use Rattle.paths.proofs.FieldPath.field.Lts as lts
 
--- src/lib.rt:24:5
 returns : tie.Need-returns
 unfolding fieldPath pathOf
 returns c = record { is = refl; count = refl }

@@ -6,11 +6,9 @@ use Rattle.paths.proofs.FieldPath.payload.Reads as reads
 use Rattle.paths.proofs.FieldPath.payload.Lts as lts
 use Rattle.paths.proofs.FieldPath.then.Reads as then-reads
 
--- src/lib.rt:49:9
 then-requires : tie.Need-then-requires
 then-requires c κs = search needs
 
--- src/lib.rt:45:5
 returns : tie.Need-returns
 unfolding payload
 returns c = c .then .ensures

@@ -17,51 +17,39 @@ Inv-loop n a b i₀ i = (sameSteps (take n a) (take n b) ≡ sameSteps (drop i (
 abbrev μ-loop : tie.MeasureT-loop
 μ-loop n a b i₀ i = n - i
 
--- src/lib.rt:57:13
 returns : tie.Need-returns Inv-loop μ-loop
 returns c = fields-differ _ _ (c .if1 .taken)
 
--- src/lib.rt:61:13
 returns-2 : tie.Need-returns-2 Inv-loop μ-loop
 returns-2 c = counts-differ _ _ stepLimit (search needs) (search needs) (search needs) (search needs) (search needs) (c .if2 .taken)
 
--- src/lib.rt:66:9
 loop-holds : tie.Need-loop-holds Inv-loop μ-loop
 loop-holds c = search needs
 
--- src/lib.rt:67:16
 mul-if3 : tie.Need-mul-if3 Inv-loop μ-loop
 mul-if3 c = search needs
 
--- src/lib.rt:67:16
 array-read-if3 : tie.Need-array-read-if3 Inv-loop μ-loop
 array-read-if3 c = search needs
 
--- src/lib.rt:67:24
 mul-if3-2 : tie.Need-mul-if3-2 Inv-loop μ-loop
 mul-if3-2 c = search needs
 
--- src/lib.rt:67:24
 array-read-if3-2 : tie.Need-array-read-if3-2 Inv-loop μ-loop
 array-read-if3-2 c = search needs
 
--- src/lib.rt:68:17
 returns-3 : tie.Need-returns-3 Inv-loop μ-loop
 returns-3 c = let l = c .before .before in steps-decide _ _ _ (search needs) (search needs) (l .loop .inv .0 ∙ steps-stop stepLimit _ _ _ (search needs) (search needs) (search needs) _ (c .before .loop-test .taken) (c .if3 .taken))
 
--- src/lib.rt:70:13
 add-i : tie.Need-add-i Inv-loop μ-loop
 add-i c = search needs
 
--- src/lib.rt:66:9
 loop-less : tie.Need-loop-less Inv-loop μ-loop
 loop-less c = omega arith
 
--- src/lib.rt:66:9
 loop-again : tie.Need-loop-again Inv-loop μ-loop
 loop-again c = let l = c .before .before in (l .loop .inv .0 ∙ steps-more stepLimit _ _ _ (search needs) (search needs) (search needs) _ (c .before .loop-test .taken) (c .if3 .left), omega arith)
 
--- src/lib.rt:52:5
 returns-4 : tie.Need-returns-4 Inv-loop μ-loop
 returns-4 c = steps-decide _ _ _ (search needs) (search needs) (c .before .loop .inv .0 ∙ steps-end stepLimit _ _ _ (search needs) (search needs) (search needs) _ (c .loop-test .left))
 

@@ -10,19 +10,15 @@ use Rattle.paths.proofs.FieldPath.then.Tie as tie
 use Rattle.paths.proofs.FieldPath.then.Reads as reads
 use Rattle.paths.proofs.FieldPath.then.Lts as lts
 
--- src/lib.rt:40:9
 mul-p : tie.Need-mul-p
 mul-p c = search needs
 
--- src/lib.rt:40:9
 element-write-p : tie.Need-element-write-p
 element-write-p c = search needs
 
--- src/lib.rt:41:19
 add-p : tie.Need-add-p
 add-p c = search needs
 
--- src/lib.rt:34:5
 returns : tie.Need-returns
 unfolding File.then pathOf
 returns c =

@@ -6,15 +6,12 @@ use Rattle.step.proofs.Walk.bind.Reads as reads
 use Rattle.step.proofs.Walk.bind.Lts as lts
 use Rattle.lists.proofs.bind.Reads as bind-reads
 
--- src/lib.rt:103:13
 bind-requires : tie.Need-bind-requires
 bind-requires c κs = search needs
 
--- src/lib.rt:100:5
 same-length : tie.Need-same-length
 same-length c = search needs
 
--- src/lib.rt:100:5
 returns : tie.Need-returns
 unfolding walkState
 returns c = λ T p. c .before .before .before .bind .ensures _ _ p

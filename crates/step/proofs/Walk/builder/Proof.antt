@@ -6,7 +6,6 @@ use Rattle.step.proofs.Walk.builder.Tie as tie
 use Rattle.step.proofs.Walk.builder.Reads as reads
 use Rattle.step.proofs.Walk.builder.Lts as lts
 
--- src/lib.rt:31:5
 returns : tie.Need-returns
 unfolding walkState stateOf levelOf guideOf rangeOf edgesOf
 returns c = λ T w p. refl

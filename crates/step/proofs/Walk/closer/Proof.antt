@@ -9,23 +9,18 @@ use Rattle.seek.proofs.SeekBuilder.closer.Reads as closer-reads
 use Rattle.step.proofs.Walk.builder.Reads as builder-reads
 use Rattle.step.proofs.Walk.placed.Reads as placed-reads
 
--- src/lib.rt:96:17
 builder-requires : tie.Need-builder-requires
 builder-requires c κs = search needs
 
--- src/lib.rt:96:13
 closer-requires : tie.Need-closer-requires
 closer-requires c κs = search needs
 
--- src/lib.rt:97:9
 placed-requires : tie.Need-placed-requires
 placed-requires c κs = search needs
 
--- src/lib.rt:93:5
 same-length : tie.Need-same-length
 same-length c = search needs
 
--- src/lib.rt:93:5
 returns : tie.Need-returns
 returns c = λ T w before h. c .placed .ensures T w _ ∙ c .before .before .before .closer .ensures T _ w before h ∙ ap (closer before) (c .before .before .before .before .before .builder .ensures T w _)
 

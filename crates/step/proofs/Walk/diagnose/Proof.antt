@@ -9,31 +9,24 @@ use Rattle.step.proofs.Walk.diagnose.Lts as lts
 use Rattle.step.proofs.Walk.report.Reads as report-reads
 use Rattle.step.proofs.Walk.skip.Reads as skip-reads
 
--- src/lib.rt:130:20
 skip-requires : tie.Need-skip-requires
 skip-requires c κs = search needs
 
--- src/lib.rt:130:13
 report-requires : tie.Need-report-requires
 report-requires c κs = search needs
 
--- src/lib.rt:130:13
 same-length : tie.Need-same-length
 same-length c = search needs
 
--- src/lib.rt:130:13
 returns : tie.Need-returns
 returns c = λ T p. c .before .before .report .ensures T p ∙ ap (report _ _) (c .before .before .before .before .skip .ensures T _ p) ∙ falls-with _ _ _ _ (c .before .before .before .before .before .if1 .taken)
 
--- src/lib.rt:132:9
 report-requires-2 : tie.Need-report-requires-2
 report-requires-2 c κs = search needs
 
--- src/lib.rt:126:5
 same-length-2 : tie.Need-same-length-2
 same-length-2 c = search needs
 
--- src/lib.rt:126:5
 returns-2 : tie.Need-returns-2
 returns-2 c = λ T p. c .before .before .report2 .ensures T p ∙ stays-with _ _ _ _ (c .before .before .before .before .if1 .left)
 

@@ -9,23 +9,18 @@ use Rattle.seek.proofs.SeekBuilder.fact_id.Reads as fact-id-reads
 use Rattle.step.proofs.Walk.builder.Reads as builder-reads
 use Rattle.step.proofs.Walk.placed.Reads as placed-reads
 
--- src/lib.rt:88:17
 builder-requires : tie.Need-builder-requires
 builder-requires c κs = search needs
 
--- src/lib.rt:88:13
 fact-id-requires : tie.Need-fact-id-requires
 fact-id-requires c κs = search needs
 
--- src/lib.rt:89:9
 placed-requires : tie.Need-placed-requires
 placed-requires c κs = search needs
 
--- src/lib.rt:85:5
 same-length : tie.Need-same-length
 same-length c = search needs
 
--- src/lib.rt:85:5
 returns : tie.Need-returns
 returns c = λ T w. c .placed .ensures T w _ ∙ c .before .before .before .fact-id .ensures T _ w ∙ ap (narrow _ _) (c .before .before .before .before .before .builder .ensures T w _)
 

@@ -6,7 +6,6 @@ use Rattle.step.proofs.Walk.listed.Tie as tie
 use Rattle.step.proofs.Walk.listed.Reads as reads
 use Rattle.step.proofs.Walk.listed.Lts as lts
 
--- src/lib.rt:50:5
 returns : tie.Need-returns
 unfolding walkState stateOf levelOf guideOf rangeOf edgesOf
 returns c = λ T w p. refl

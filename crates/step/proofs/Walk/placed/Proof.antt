@@ -6,7 +6,6 @@ use Rattle.step.proofs.Walk.placed.Tie as tie
 use Rattle.step.proofs.Walk.placed.Reads as reads
 use Rattle.step.proofs.Walk.placed.Lts as lts
 
--- src/lib.rt:41:5
 returns : tie.Need-returns
 unfolding walkState stateOf levelOf guideOf rangeOf edgesOf
 returns c = λ T w p. refl

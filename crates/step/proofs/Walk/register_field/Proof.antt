@@ -9,23 +9,18 @@ use Rattle.seek.proofs.SeekBuilder.register_field.Reads as register-field-reads
 use Rattle.step.proofs.Walk.builder.Reads as builder-reads
 use Rattle.step.proofs.Walk.placed.Reads as placed-reads
 
--- src/lib.rt:81:17
 builder-requires : tie.Need-builder-requires
 builder-requires c κs = search needs
 
--- src/lib.rt:81:13
 register-field-requires : tie.Need-register-field-requires
 register-field-requires c κs = search needs
 
--- src/lib.rt:82:9
 placed-requires : tie.Need-placed-requires
 placed-requires c κs = search needs
 
--- src/lib.rt:72:5
 same-length : tie.Need-same-length
 same-length c = search needs
 
--- src/lib.rt:72:5
 returns : tie.Need-returns
 returns c = λ T w. c .placed .ensures T w _ ∙ c .before .before .before .register-field .ensures T _ w ∙ ap (narrow _ _) (c .before .before .before .before .before .builder .ensures T w _)
 

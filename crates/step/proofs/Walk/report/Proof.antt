@@ -6,15 +6,12 @@ use Rattle.step.proofs.Walk.report.Reads as reads
 use Rattle.step.proofs.Walk.report.Lts as lts
 use Rattle.lists.proofs.report.Reads as report-reads
 
--- src/lib.rt:119:13
 report-requires : tie.Need-report-requires
 report-requires c κs = search needs
 
--- src/lib.rt:116:5
 same-length : tie.Need-same-length
 same-length c = search needs
 
--- src/lib.rt:116:5
 returns : tie.Need-returns
 unfolding walkState
 returns c = λ T p. c .before .before .before .report .ensures _ _ p

@@ -9,19 +9,15 @@ use Rattle.seek.proofs.SeekBuilder.skip.Reads as skip-reads
 use Rattle.step.proofs.Walk.builder.Reads as builder-reads
 use Rattle.step.proofs.Walk.placed.Reads as placed-reads
 
--- src/lib.rt:61:17
 builder-requires : tie.Need-builder-requires
 builder-requires c κs = search needs
 
--- src/lib.rt:61:13
 skip-requires : tie.Need-skip-requires
 skip-requires c κs = search needs
 
--- src/lib.rt:62:9
 placed-requires : tie.Need-placed-requires
 placed-requires c κs = search needs
 
--- src/lib.rt:58:5
 returns : tie.Need-returns
 returns c = λ T w p. c .placed .ensures T w p ∙ c .before .skip .ensures T _ w p ∙ ap skip (c .before .before .builder .ensures T w p)
 

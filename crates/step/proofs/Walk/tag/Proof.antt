@@ -4,23 +4,18 @@ use borrow.Author.Needs.{needs}
 use Rattle.step.proofs.Walk.tag.Statement.{statement}
 use Rattle.step.proofs.Walk.tag.Tie as tie
 
--- src/lib.rt:68:17
 builder-requires : tie.Need-builder-requires
 builder-requires c κs = search needs
 
--- src/lib.rt:68:13
 tagged-requires : tie.Need-tagged-requires
 tagged-requires c κs = search needs
 
--- src/lib.rt:69:9
 placed-requires : tie.Need-placed-requires
 placed-requires c κs = search needs
 
--- src/lib.rt:65:5
 same-length : tie.Need-same-length
 same-length c = search needs
 
--- src/lib.rt:65:5
 returns : tie.Need-returns
 returns c = λ T w. c .placed .ensures T w _ ∙ c .before .before .before .tagged .ensures T _ w ∙ ap (narrow _ _) (c .before .before .before .before .before .builder .ensures T w _)
 
