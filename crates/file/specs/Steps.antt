@@ -11,6 +11,10 @@ use Rattle.rules.specs.Read.Read.{got, refused}
 use Rattle.file.specs.declared.Step.{Step}
 use Rattle.file.specs.declared.Step.the-variants.{Next, Refused}
 
+-- two bytes hold a number below this
+abbrev pub wordLimit : ℕ
+wordLimit = 65536
+
 -- the two bytes at p, the lower first
 unfoldable pub word : List ℕ → ℕ → ℕ
 word f p = getD f p 0 + 256 * getD f (p + 1) 0
@@ -20,10 +24,11 @@ unfoldable pub stepOf : {A : Type 0} → List ℕ → Read A → Step
 stepOf f (got a rest) = Next (length f - length rest)
 stepOf f (refused n) = Refused n
 
--- what reader r finds at position p of f, and where it ends
+-- what reader r finds at position p of f
 unfoldable pub readAt : {A : Type 0} → List ℕ → Reader A → ℕ → Read A
 readAt f r p = r (drop p f)
 
+-- and where it ends
 unfoldable pub stepAt : {A : Type 0} → List ℕ → Reader A → ℕ → Step
 stepAt f r p = stepOf f (readAt f r p)
 
@@ -33,21 +38,44 @@ skim r = r >>= λ a. pure tt
 
 abbrev pub recordReaders : List (Reader (Unit {0}))
 recordReaders =
-    skim name ∷ skim type ∷ skim predicate ∷ skim node ∷ skim binding ∷ skim hoisted ∷ skim fetched ∷ skim constraint ∷ skim comparison ∷ skim level ∷ []
+    skim name ∷
+    skim type ∷
+    skim predicate ∷
+    skim node ∷
+    skim binding ∷
+    skim hoisted ∷
+    skim fetched ∷
+    skim constraint ∷
+    skim comparison ∷
+    skim level ∷
+    []
 
 -- a record of section s, the sections counted from 0 in the file's order
 unfoldable pub recordOf : ℕ → Reader (Unit {0})
 recordOf s = getD recordReaders s (refuse 0)
 
+-- how many sections there are, and how many records each may have
+abbrev pub sectionCount : ℕ
+sectionCount = 10
+
 abbrev pub limits : List ℕ
 limits =
-    nameLimit ∷ typeLimit ∷ predicateLimit ∷ nodeLimit ∷ bindingLimit ∷ hoistedLimit ∷ fetchedLimit ∷ constraintLimit ∷ comparisonLimit ∷ levelLimit ∷ []
+    nameLimit ∷
+    typeLimit ∷
+    predicateLimit ∷
+    nodeLimit ∷
+    bindingLimit ∷
+    hoistedLimit ∷
+    fetchedLimit ∷
+    constraintLimit ∷
+    comparisonLimit ∷
+    levelLimit ∷
+    []
 
--- how many records section s may have, and where its area of the index begins: its count, then where each record starts. The last
--- base is the end of the areas.
 unfoldable pub limitOf : ℕ → ℕ
 limitOf s = getD limits s 0
 
+-- where the area of section s begins in the index: its count, then where each record starts. The last base is the end of the areas.
 abbrev pub bases : List ℕ
 bases = 0 ∷ 513 ∷ 1026 ∷ 1283 ∷ 3332 ∷ 3589 ∷ 3846 ∷ 4103 ∷ 4360 ∷ 4617 ∷ 4682 ∷ []
 
@@ -100,8 +128,11 @@ sections (suc n) s = sectionOf s >>= λ a. sections n (s + 1)
 unfoldable pub filled : List ℕ → ℕ → ℕ → ℕ → List ℕ → List ℕ
 filled f zero s p ix = ix
 filled f (suc n) s p ix =
-    elim (stepAt f (sectionOf s) p) [ Next q ↦ filled f n (s + 1) q (sets ix (baseOf s) (entries f s p)) | Refused x ↦ sets ix (baseOf s) (entries f s p) ]
+    elim (stepAt f (sectionOf s) p) [
+      | Next q ↦ filled f n (s + 1) q (sets ix (baseOf s) (entries f s p))
+      | Refused x ↦ sets ix (baseOf s) (entries f s p)
+    ]
 
 -- the index after file f was read
 unfoldable pub indexOf : List ℕ → List ℕ → List ℕ
-indexOf f ix = filled f 10 0 0 ix
+indexOf f ix = filled f sectionCount 0 0 ix

@@ -13,7 +13,19 @@ use Rattle.rules.specs.Read as Read
 use Rattle.file.specs.Steps.{readAt, baseOf, limitOf, indexLength}
 
 abbrev pub noTables : Tables
-noTables = record { names = []; types = []; predicates = []; nodes = []; bindings = []; hoisted = []; fetched = []; constraints = []; comparisons = []; levels = [] }
+noTables =
+    record {
+      names = [];
+      types = [];
+      predicates = [];
+      nodes = [];
+      bindings = [];
+      hoisted = [];
+      fetched = [];
+      constraints = [];
+      comparisons = [];
+      levels = [];
+    }
 
 abbrev pub gotTables : Read Tables → Tables
 gotTables (got T rest) = T
@@ -50,11 +62,15 @@ pub record Indexed (f ix : List ℕ) : Type 0 where
   pub comparisons : Section f ix 8 comparison (tablesOf f .comparisons)
   pub levels : Section f ix 9 level (tablesOf f .levels)
 
--- 1 + the number of the last of these bindings that has name x, the first of them having number k; what was found before, if none has it
+-- the number + 1 of the last of these bindings that has name x, the first of them having number k; what was found before if none has it
 unfoldable pub lastFrom : ℕ → ℕ → List Binding → ℕ → ℕ
 lastFrom found k [] x = found
-lastFrom found k (b ∷ bs) x = elim (eqb (b .name) x) [ true ↦ lastFrom (k + 1) (k + 1) bs x | false ↦ lastFrom found (k + 1) bs x ]
+lastFrom found k (b ∷ bs) x =
+    elim (eqb (b .name) x) [
+      | true ↦ lastFrom (k + 1) (k + 1) bs x
+      | false ↦ lastFrom found (k + 1) bs x
+    ]
 
--- 1 + the number of name x's last binding, 0 if it has none
+-- the number of name x's last binding + 1, or 0 if it has none
 unfoldable pub lastBinding : Tables → ℕ → ℕ
 lastBinding T x = lastFrom 0 0 (T .bindings) x

@@ -6,7 +6,7 @@ ghost use lib.Seq.{sets};
 ghost use Rattle.rules.specs.Limits.{fileLimit};
 ghost use Rattle.rules.specs.Read.{u8, many, several, name, type, node, slot, binding, fetched, comparison, fuzzyNode, path};
 ghost use Rattle.rules.specs.Read as Read;
-ghost use Rattle.file.specs.Steps.{word, stepAt, recordOf, limitOf, baseOf, countAt, starts, sectionOf, entries, indexLength, indexOf};
+ghost use Rattle.file.specs.Steps.{wordLimit, word, stepAt, recordOf, sectionCount, limitOf, baseOf, countAt, starts, sectionOf, entries, indexLength, indexOf};
 ghost use Rattle.file.specs.Tables.{Indexed};
 
 // Where what was read ends, or the number of the first fault.
@@ -15,8 +15,39 @@ pub enum Step {
     Refused(u8),
 }
 
+// The sections by number, in the file's order.
+pub const NAMES: usize = 0;
+
+pub const TYPES: usize = 1;
+
+pub const PREDICATES: usize = 2;
+
+pub const NODES: usize = 3;
+
+pub const BINDINGS: usize = 4;
+
+pub const HOISTED: usize = 5;
+
+pub const FETCHED: usize = 6;
+
+pub const CONSTRAINTS: usize = 7;
+
+pub const COMPARISONS: usize = 8;
+
+pub const LEVELS: usize = 9;
+
+pub const SECTIONS: usize = 10;
+
+// Limits that the checks need too; the written rules have them in Limits.antt.
+pub const NAME_LIMIT: usize = 512;
+
+pub const NODE_LIMIT: usize = 2048;
+
+pub const DEPTH_LIMIT: usize = 16;
+
 // The index has an area for each section: its count, then where each of its records starts. Three further areas hold the depth of each
-// type, for each node whether it is constant, and for each name 1 + the number of its last binding: the checks fill them.
+// type, for each node whether it is constant, and for each name the number of its last binding + 1, or 0 if it has none: the checks
+// fill them.
 pub const INDEX: usize = 7754;
 
 pub const DEPTHS: usize = 4682;
@@ -25,8 +56,21 @@ pub const CONSTANTS: usize = 5194;
 
 pub const LAST_BINDINGS: usize = 7242;
 
-const LIMITS: [usize; 10] = [512, 512, 256, 2048, 256, 256, 256, 256, 256, 64];
+// How many records each section may have.
+const LIMITS: [usize; SECTIONS] = [
+    NAME_LIMIT,
+    512,
+    256,
+    NODE_LIMIT,
+    256,
+    256,
+    256,
+    256,
+    256,
+    64,
+];
 
+// Where each section's area begins in the index; the last is where they end.
 const BASES: [usize; 11] = [
     0,
     513,
@@ -42,7 +86,7 @@ const BASES: [usize; 11] = [
 ];
 
 // The bytes of a section's record, where their number is fixed, and those that follow a kind.
-const RECORD_SIZES: [usize; 10] = [0, 0, 4, 0, 0, 4, 0, 4, 0, 6];
+const RECORD_SIZES: [usize; SECTIONS] = [0, 0, 4, 0, 0, 4, 0, 4, 0, 6];
 
 const TYPE_SIZES: [usize; 4] = [0, 0, 0, 2];
 
@@ -50,12 +94,15 @@ const NODE_SIZES: [usize; 17] = [8, 2, 0, 2, 0, 0, 2, 0, 0, 4, 2, 4, 0, 0, 4, 0,
 
 const SLOT_SIZES: [usize; 6] = [4, 4, 2, 0, 4, 2];
 
+// A byte as a position or a count has it.
 pub fn wide(x: u8) -> usize
-    ensures { λ r. ⌜ (r ≡ x) × (r < 256) ⌝ }
+    ensures same { λ r. ⌜ r ≡ x ⌝ }
+    ensures bounded { λ r. ⌜ r < 256 ⌝ }
 {
     x as usize
 }
 
+// An entry of the index as a position or a count has it.
 pub fn wide16(x: u16) -> usize
     ensures { λ r. ⌜ r ≡ x ⌝ }
 {
@@ -72,14 +119,15 @@ pub fn least(a: u8, b: u8) -> u8
 // The two bytes at p, the lower first.
 pub fn word_at(file: &[u8], p: usize) -> usize
     requires { ⌜ p + 2 ≤ length (now file) ⌝ }
-    ensures { λ r. ⌜ (r ≡ word (now (file .entry)) p) × (r < 65536) ⌝ }
+    ensures reads { λ r. ⌜ r ≡ word (now (file .entry)) p ⌝ }
+    ensures bounded { λ r. ⌜ r < wordLimit ⌝ }
 {
     wide(file[p]) + 256 * wide(file[p + 1])
 }
 
-// n bytes, whatever they hold.
+// Where n bytes from p on end, whatever they hold.
 pub fn fixed(file: &[u8], n: usize, p: usize) -> Step
-    requires { ⌜ (p ≤ length (now file)) × (n ≤ 65536) ⌝ }
+    requires { ⌜ (p ≤ length (now file)) × (n ≤ wordLimit) ⌝ }
     ensures { λ r. ⌜ r ≡ stepAt (now (file .entry)) (many n u8) p ⌝ }
 {
     if n <= file.len() - p {
@@ -89,7 +137,7 @@ pub fn fixed(file: &[u8], n: usize, p: usize) -> Step
     }
 }
 
-// A count byte, then as many times w bytes.
+// Where a count byte at p and as many times w bytes end.
 pub fn repeated(file: &[u8], w: usize, p: usize) -> Step
     requires { ⌜ (p ≤ length (now file)) × (w ≤ 8) ⌝ }
     ensures { λ r. ⌜ r ≡ stepAt (now (file .entry)) (several (many w u8)) p ⌝ }
@@ -101,6 +149,7 @@ pub fn repeated(file: &[u8], w: usize, p: usize) -> Step
     fixed(file, n * w, p + 1)
 }
 
+// Where the name at `at` ends: its length, then as many bytes below 80 hex.
 pub fn name_end(file: &[u8], at: usize) -> Step
     requires { ⌜ at ≤ length (now file) ⌝ }
     ensures { λ r. ⌜ r ≡ stepAt (now (file .entry)) name at ⌝ }
@@ -123,6 +172,7 @@ pub fn name_end(file: &[u8], at: usize) -> Step
     Step::Next(p)
 }
 
+// Where the type at `at` ends: its kind says how many bytes follow.
 pub fn type_end(file: &[u8], at: usize) -> Step
     requires { ⌜ at ≤ length (now file) ⌝ }
     ensures { λ r. ⌜ r ≡ stepAt (now (file .entry)) type at ⌝ }
@@ -143,6 +193,7 @@ pub fn type_end(file: &[u8], at: usize) -> Step
     Step::Refused(5)
 }
 
+// Where a Fuzzy node ends that has its name at p: name, distance, anchor.
 fn fuzzy_end(file: &[u8], p: usize) -> Step
     requires { ⌜ p ≤ length (now file) ⌝ }
     ensures { λ r. ⌜ r ≡ stepAt (now (file .entry)) fuzzyNode p ⌝ }
@@ -156,6 +207,7 @@ fn fuzzy_end(file: &[u8], p: usize) -> Step
     Step::Next(p + 4)
 }
 
+// Where the node at `at` ends: its kind says how many bytes follow.
 pub fn node_end(file: &[u8], at: usize) -> Step
     requires { ⌜ at ≤ length (now file) ⌝ }
     ensures { λ r. ⌜ r ≡ stepAt (now (file .entry)) node at ⌝ }
@@ -179,6 +231,7 @@ pub fn node_end(file: &[u8], at: usize) -> Step
     fixed(file, NODE_SIZES[k], at + 1)
 }
 
+// Where the path at p ends: its field, a count, and as many steps.
 fn path_end(file: &[u8], p: usize) -> Step
     requires { ⌜ p ≤ length (now file) ⌝ }
     ensures { λ r. ⌜ r ≡ stepAt (now (file .entry)) path p ⌝ }
@@ -189,7 +242,7 @@ fn path_end(file: &[u8], p: usize) -> Step
     repeated(file, 4, p + 2)
 }
 
-// An address, a path and a number: a fetched entry, and a Field slot after its kind.
+// Where an address, a path and a number end: a fetched entry has them, and a Field slot after its kind.
 pub fn fetched_end(file: &[u8], p: usize) -> Step
     requires { ⌜ p ≤ length (now file) ⌝ }
     ensures { λ r. ⌜ r ≡ stepAt (now (file .entry)) fetched p ⌝ }
@@ -203,6 +256,7 @@ pub fn fetched_end(file: &[u8], p: usize) -> Step
     }
 }
 
+// Where the slot at `at` ends: its kind says how many bytes follow.
 pub fn slot_end(file: &[u8], at: usize) -> Step
     requires { ⌜ at ≤ length (now file) ⌝ }
     ensures { λ r. ⌜ r ≡ stepAt (now (file .entry)) slot at ⌝ }
@@ -220,6 +274,7 @@ pub fn slot_end(file: &[u8], at: usize) -> Step
     fixed(file, SLOT_SIZES[k], at + 1)
 }
 
+// Where the binding at p ends: a name and a slot.
 pub fn binding_end(file: &[u8], p: usize) -> Step
     requires { ⌜ p ≤ length (now file) ⌝ }
     ensures { λ r. ⌜ r ≡ stepAt (now (file .entry)) binding p ⌝ }
@@ -230,6 +285,7 @@ pub fn binding_end(file: &[u8], p: usize) -> Step
     slot_end(file, p + 2)
 }
 
+// Where the comparison at `at` ends: an op and two nodes.
 pub fn comparison_end(file: &[u8], at: usize) -> Step
     requires { ⌜ at ≤ length (now file) ⌝ }
     ensures { λ r. ⌜ r ≡ stepAt (now (file .entry)) comparison at ⌝ }
@@ -243,27 +299,32 @@ pub fn comparison_end(file: &[u8], at: usize) -> Step
     fixed(file, 4, at + 1)
 }
 
-// A record of section s.
+// Where the record of section s at `at` ends.
 pub fn record_end(file: &[u8], s: usize, at: usize) -> Step
-    requires { ⌜ (at ≤ length (now file)) × (s < 10) ⌝ }
+    requires { ⌜ (at ≤ length (now file)) × (s < sectionCount) ⌝ }
     ensures { λ r. ⌜ r ≡ stepAt (now (file .entry)) (recordOf s) at ⌝ }
 {
     match s {
-        0 => name_end(file, at),
-        1 => type_end(file, at),
-        3 => node_end(file, at),
-        4 => binding_end(file, at),
-        6 => fetched_end(file, at),
-        8 => comparison_end(file, at),
+        NAMES => name_end(file, at),
+        TYPES => type_end(file, at),
+        NODES => node_end(file, at),
+        BINDINGS => binding_end(file, at),
+        FETCHED => fetched_end(file, at),
+        COMPARISONS => comparison_end(file, at),
         _ => fixed(file, RECORD_SIZES[s], at),
     }
 }
 
-// n records of section s from at on: each one's start goes into the index, from base on.
+// Where n records of section s from `at` on end. Each one's start goes into the index, from base on.
 pub fn records(file: &[u8], index: &mut [u16], s: usize, base: usize, n: usize, at: usize) -> Step
-    requires { ⌜ (at ≤ length (now file)) × (length (now file) ≤ fileLimit) × (s < 10) × (base + n ≤ length (now index)) ⌝ }
-    ensures { λ r. ⌜ r ≡ stepAt (now (file .entry)) (many n (recordOf s)) at ⌝ }
-    ensures { λ r. ⌜ now (index .exit) ≡ sets (now (index .entry)) base (starts (now (file .entry)) s n at) ⌝ }
+    requires { ⌜ (
+        (at ≤ length (now file)) ×
+        (length (now file) ≤ fileLimit) ×
+        (s < sectionCount) ×
+        (base + n ≤ length (now index))
+        ) ⌝ }
+    ensures reads { λ r. ⌜ r ≡ stepAt (now (file .entry)) (many n (recordOf s)) at ⌝ }
+    ensures indexes { λ r. ⌜ now (index .exit) ≡ sets (now (index .entry)) base (starts (now (file .entry)) s n at) ⌝ }
 {
     let mut p = at;
     let mut i = base;
@@ -284,8 +345,9 @@ pub fn records(file: &[u8], index: &mut [u16], s: usize, base: usize, n: usize, 
     Step::Next(p)
 }
 
+// How many records section s may have.
 fn limit(s: usize) -> usize
-    requires { ⌜ s < 10 ⌝ }
+    requires { ⌜ s < sectionCount ⌝ }
     ensures { λ r. ⌜ r ≡ limitOf s ⌝ }
 {
     LIMITS[s]
@@ -293,15 +355,15 @@ fn limit(s: usize) -> usize
 
 // Where the area of section s begins in the index.
 pub fn base(s: usize) -> usize
-    requires { ⌜ s < 10 ⌝ }
+    requires { ⌜ s < sectionCount ⌝ }
     ensures { λ r. ⌜ r ≡ baseOf s ⌝ }
 {
     BASES[s]
 }
 
-// The count of section s.
+// The count of section s, which stands at p, or the refusal of a count above the section's limit.
 pub fn count(file: &[u8], s: usize, p: usize) -> Step
-    requires { ⌜ (p ≤ length (now file)) × (s < 10) ⌝ }
+    requires { ⌜ (p ≤ length (now file)) × (s < sectionCount) ⌝ }
     ensures { λ r. ⌜ r ≡ countAt (now (file .entry)) s p ⌝ }
 {
     if file.len() - p < 2 {
@@ -314,10 +376,16 @@ pub fn count(file: &[u8], s: usize, p: usize) -> Step
     Step::Next(n)
 }
 
+// Where section s at p ends: its count and its records. The count and each record's start go into the section's area of the index.
 pub fn section(file: &[u8], index: &mut [u16], s: usize, p: usize) -> Step
-    requires { ⌜ (p ≤ length (now file)) × (length (now file) ≤ fileLimit) × (s < 10) × (length (now index) ≡ indexLength) ⌝ }
-    ensures { λ r. ⌜ r ≡ stepAt (now (file .entry)) (sectionOf s) p ⌝ }
-    ensures { λ r. ⌜ now (index .exit) ≡ sets (now (index .entry)) (baseOf s) (entries (now (file .entry)) s p) ⌝ }
+    requires { ⌜ (
+        (p ≤ length (now file)) ×
+        (length (now file) ≤ fileLimit) ×
+        (s < sectionCount) ×
+        (length (now index) ≡ indexLength)
+        ) ⌝ }
+    ensures reads { λ r. ⌜ r ≡ stepAt (now (file .entry)) (sectionOf s) p ⌝ }
+    ensures indexes { λ r. ⌜ now (index .exit) ≡ sets (now (index .entry)) (baseOf s) (entries (now (file .entry)) s p) ⌝ }
 {
     match count(file, s, p) {
         Step::Next(n) => {
@@ -329,16 +397,16 @@ pub fn section(file: &[u8], index: &mut [u16], s: usize, p: usize) -> Step
     }
 }
 
-// The whole file. On acceptance the index finds every record.
+// Reads the whole file: the refusal of its first fault, or its end. On acceptance the index finds every record.
 pub fn read(file: &[u8], index: &mut [u16]) -> Step
     requires { ⌜ (length (now file) ≤ fileLimit) × (length (now index) ≡ indexLength) ⌝ }
-    ensures { λ r. ⌜ r ≡ stepAt (now (file .entry)) Read.file 0 ⌝ }
-    ensures { λ r. ⌜ now (index .exit) ≡ indexOf (now (file .entry)) (now (index .entry)) ⌝ }
-    ensures { λ r. ⌜ ((q : ℕ) → r ≡ Step.Next q → Indexed (now (file .entry)) (now (index .exit))) ⌝ }
+    ensures reads { λ r. ⌜ r ≡ stepAt (now (file .entry)) Read.file 0 ⌝ }
+    ensures indexes { λ r. ⌜ now (index .exit) ≡ indexOf (now (file .entry)) (now (index .entry)) ⌝ }
+    ensures finds { λ r. ⌜ ((q : ℕ) → r ≡ Step.Next q → Indexed (now (file .entry)) (now (index .exit))) ⌝ }
 {
     let mut p = 0;
     let mut s = 0;
-    while s < 10 {
+    while s < SECTIONS {
         match section(file, index, s, p) {
             Step::Next(q) => {
                 p = q;
