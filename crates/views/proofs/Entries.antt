@@ -7,6 +7,7 @@ use mathlib.Core.Option.{Option, none, some}
 use mathlib.Core.Logic.{⊎-elim}
 use native.Mathlib.Omega.{arith}
 use lib.ListN.{length, getD, drop, List·getD-eq-default}
+use lib.Dec.{eqb}
 use borrow.Author.Tests.{eq-eqb, ne-eqb}
 use Rattle.rules.specs.File as File
 use Rattle.rules.specs.File.{Ty, nameAt, typeAt, predicateAt}
@@ -17,8 +18,12 @@ use Rattle.file.specs.Tables.{Stands, Section, Indexed, tablesOf}
 use Rattle.file.proofs.Readers.{lt-or-le, refused-got, bind-inv, then-got, then-refused, kind-in, kind-out, needs-fixed, needs-first, fixed-bind, fixed-pure, fixed-u16}
 use Rattle.file.proofs.Leaves.{char-cut, char-bad, char-good, typeReaders, fixed-fieldTy, fixed-alternative, fixed-predicate, fixed-hoisted, fixed-constraint, fixed-level}
 use Rattle.file.proofs.Sections.{word-then}
-use Rattle.views.specs.Views.{sizeOf, run, byteAt, orNone, opKind, SeenType, SeenText, hoistedAt, constraintAt, comparisonAt, levelAt}
+use Rattle.views.specs.Views.{sizeOf, startAt, run, byteAt, orNone, opKind, textView, typeViews, typeView, predicateMaybe, predicateOption, SeenType, SeenText, hoistedAt, constraintAt, comparisonAt, levelAt}
+use Rattle.views.specs.declared.Text.{Text}
+use Rattle.views.specs.declared.TypeView.{TypeView}
 use Rattle.views.specs.declared.TypeView.the-variants as Tv
+use Rattle.views.specs.declared.MaybePredicate.{MaybePredicate}
+use Rattle.views.specs.declared.MaybePredicate.the-variants as Mp
 use Rattle.views.proofs.Runs.{value-of, needs-room, First, first-byte, one-in, two-in, three-in, optional-in, finds-field, finds-alternative, Made, several-made}
 
 -- a kind at p that was read: its byte, and what its reader found
@@ -178,25 +183,36 @@ module _ (f ix : List ℕ) (x : Indexed f ix) (t p : ℕ) (h : t < length (table
   type-is : (k : ℕ) → getD f p 0 ≡ k → readAt f (getD typeReaders k (refuse 5)) (p + 1) ≡ got ty (type-reads .rest)
   type-is k g = kind-is f typeReaders p k ty (type-reads .rest) type-here g
 
-  pub seen-int : getD f p 0 ≡ 0 → SeenType f ty Tv.Int
-  unfolding readAt pure
-  seen-int g = record { is = value-of refl (type-is 0 g); inside = tt }
+  -- v shows type t, and is its view
+  abbrev Shown : TypeView → Type 0
+  Shown v = SeenType f ty v × (v ≡ typeView f (startAt ix 1 t))
 
-  pub seen-str : getD f p 0 ≡ 1 → SeenType f ty Tv.Str
-  unfolding readAt pure
-  seen-str g = record { is = value-of refl (type-is 1 g); inside = tt }
+  shown : (k : ℕ) (v : TypeView) → getD f p 0 ≡ k → v ≡ getD (typeViews f p) k Tv.Int → v ≡ typeView f (startAt ix 1 t)
+  unfolding typeView byteAt
+  shown k v g q = q ∙ ap (λ (j : ℕ). getD (typeViews f p) j Tv.Int) (sym g) ∙ ap (typeView f) e
 
-  pub seen-bytes : getD f p 0 ≡ 2 → SeenType f ty Tv.Bytes
+  pub seen-int : getD f p 0 ≡ 0 → Shown Tv.Int
   unfolding readAt pure
-  seen-bytes g = record { is = value-of refl (type-is 2 g); inside = tt }
+  seen-int g = (record { is = value-of refl (type-is 0 g); inside = tt }, shown 0 _ g refl)
+
+  pub seen-str : getD f p 0 ≡ 1 → Shown Tv.Str
+  unfolding readAt pure
+  seen-str g = (record { is = value-of refl (type-is 1 g); inside = tt }, shown 1 _ g refl)
+
+  pub seen-bytes : getD f p 0 ≡ 2 → Shown Tv.Bytes
+  unfolding readAt pure
+  seen-bytes g = (record { is = value-of refl (type-is 2 g); inside = tt }, shown 2 _ g refl)
 
   pub fact-room : getD f p 0 ≡ 3 → p + 1 + 2 ≤ length f
   unfolding factTy
   fact-room g = needs-room f 2 (p + 1) (omega arith) (needs-first 2 _ (needs-fixed 2 fixed-u16)) (type-is 3 g)
 
-  pub seen-fact : (w : ℕ) → getD f p 0 ≡ 3 → w ≡ word f (p + 1) → SeenType f ty (Tv.Fact (record { 0 = w }))
+  pub seen-fact : (w : ℕ) → getD f p 0 ≡ 3 → w ≡ word f (p + 1) → Shown (Tv.Fact (record { 0 = w }))
   unfolding factTy
-  seen-fact w g k = record { is = ap Ty.Fact k ∙ value-of (one-in f (p + 1) Ty.Fact (fact-room g)) (type-is 3 g); inside = tt }
+  seen-fact w g k = (
+    record { is = ap Ty.Fact k ∙ value-of (one-in f (p + 1) Ty.Fact (fact-room g)) (type-is 3 g); inside = tt },
+    shown 3 _ g (ap (λ (j : ℕ). Tv.Fact (record { 0 = j })) k),
+  )
 
   pub fields-here : getD f p 0 ≡ 4 → Made f 4 (finds-field f) Ty.Record (p + 1) ty (type-reads .rest)
   unfolding recordTy
@@ -206,17 +222,19 @@ module _ (f ix : List ℕ) (x : Indexed f ix) (t p : ℕ) (h : t < length (table
   unfolding unionTy
   alternatives-here g = several-made f 8 (finds-alternative f) Ty.Union (p + 1) ty (type-reads .rest) fixed-alternative (type-is 5 g)
 
-  pub seen-record : (n : ℕ) → getD f p 0 ≡ 4 → n ≡ getD f (p + 1) 0 → SeenType f ty (Tv.Record n (p + 2))
+  pub seen-record : (n : ℕ) → getD f p 0 ≡ 4 → n ≡ getD f (p + 1) 0 → Shown (Tv.Record n (p + 2))
+  unfolding byteAt
   seen-record n g k =
       let m = fields-here g in
       let z : p + 1 + 1 ≡ p + 2 = omega arith in
-      record { is = rw (k, ← z) (m .is); inside = omega (arith, m .room, ap (λ (j : ℕ). 4 * j) k) }
+      (record { is = rw (k, ← z) (m .is); inside = omega (arith, m .room, ap (λ (j : ℕ). 4 * j) k) }, shown 4 _ g (ap (λ (j : ℕ). Tv.Record j (p + 2)) k))
 
-  pub seen-union : (n : ℕ) → getD f p 0 ≡ 5 → n ≡ getD f (p + 1) 0 → SeenType f ty (Tv.Union n (p + 2))
+  pub seen-union : (n : ℕ) → getD f p 0 ≡ 5 → n ≡ getD f (p + 1) 0 → Shown (Tv.Union n (p + 2))
+  unfolding byteAt
   seen-union n g k =
       let m = alternatives-here g in
       let z : p + 1 + 1 ≡ p + 2 = omega arith in
-      record { is = rw (k, ← z) (m .is); inside = omega (arith, m .room, ap (λ (j : ℕ). 8 * j) k) }
+      (record { is = rw (k, ← z) (m .is); inside = omega (arith, m .room, ap (λ (j : ℕ). 8 * j) k) }, shown 5 _ g (ap (λ (j : ℕ). Tv.Union j (p + 2)) k))
 
 pub none-is : (n : ℕ) → n ≡ 65535 → none ≡ orNone n
 unfolding orNone
@@ -225,3 +243,25 @@ none-is n h = sym (ap (λ (b : Bool). elim b as (λ _. Option ℕ) [ true ↦ no
 pub some-is : (n : ℕ) → (n ≡ 65535 → ⊥) → some n ≡ orNone n
 unfolding orNone
 some-is n h = sym (ap (λ (b : Bool). elim b as (λ _. Option ℕ) [ true ↦ none | false ↦ some n ]) (ne-eqb _ _ h))
+
+-- the code's predicate by its number
+pub no-predicate : (n : ℕ) → n ≡ 65535 → Mp.Nothing ≡ predicateMaybe n
+unfolding predicateMaybe
+no-predicate n h = sym (ap (λ (b : Bool). elim b as (λ _. MaybePredicate) [ true ↦ Mp.Nothing | false ↦ Mp.Just (record { 0 = n }) ]) (eq-eqb _ _ h))
+
+pub a-predicate : (n : ℕ) → (n ≡ 65535 → ⊥) → Mp.Just (record { 0 = n }) ≡ predicateMaybe n
+unfolding predicateMaybe
+a-predicate n h = sym (ap (λ (b : Bool). elim b as (λ _. MaybePredicate) [ true ↦ Mp.Nothing | false ↦ Mp.Just (record { 0 = n }) ]) (ne-eqb _ _ h))
+
+pub predicate-option : (n : ℕ) → predicateOption (predicateMaybe n) ≡ orNone n
+unfolding predicateMaybe orNone
+predicate-option n = by (eqb n 65535)
+  where
+    by : (b : Bool) → predicateOption (elim b as (λ _. MaybePredicate) [ true ↦ Mp.Nothing | false ↦ Mp.Just (record { 0 = n }) ]) ≡ (elim b as (λ _. Option ℕ) [ true ↦ none | false ↦ some n ])
+    by true = refl
+    by false = refl
+
+-- the view of a name
+pub text-shown : (f : List ℕ) (p q n : ℕ) → p ≡ q → n ≡ getD f p 0 → _≡_ {A = Text} (record { at = p + 1; len = n }) (textView f q)
+unfolding textView byteAt
+text-shown f p q n e k = ap (λ (j : ℕ). record { at = p + 1; len = j }) k ∙ ap (textView f) e

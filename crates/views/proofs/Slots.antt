@@ -13,8 +13,11 @@ use Rattle.file.specs.Tables.{Indexed, tablesOf}
 use Rattle.file.proofs.Readers.{bind-inv, then-got, needs-fixed, needs-first, fixed-bind, fixed-pure, fixed-u16, fixed-optional}
 use Rattle.file.proofs.Leaves.{slotReaders}
 use Rattle.file.proofs.Sections.{word-then}
-use Rattle.views.specs.Views.{pathAt, orNone, slotOf, SlotInside, PathInside, SeenBinding, SeenFetched, bindingAt, fetchedAt}
+use Rattle.views.specs.Views.{byteAt, pathAt, pastPath, orNone, slotViews, slotView, bindingView, fetchedView, slotOf, SlotInside, PathInside, SeenBinding, SeenFetched, bindingAt, fetchedAt}
+use Rattle.views.specs.declared.SlotView.{SlotView}
+use Rattle.views.specs.declared.SlotView.the-variants as Sv
 use Rattle.views.specs.declared.BindingView.{BindingView}
+use Rattle.views.specs.declared.FetchedView.{FetchedView}
 use Rattle.views.proofs.Runs.{value-of, needs-room, one-in, two-in, optional-in, path-then}
 use Rattle.views.proofs.Entries.{stands-at, Kinded, kind-found, kind-is}
 
@@ -44,6 +47,22 @@ fetched-here f ix x t p h e =
 pub seen-fetched : (f : List ℕ) (p : ℕ) (b : File.Fetched) (a r : ℕ) → Reached f (λ (a : ℕ) (q : File.FieldPath) (r : ℕ). record { address = a; path = q; register = r }) p b
     → a ≡ word f p → r ≡ word f (p + 2 + 3 + 4 * getD f (p + 2 + 2) 0) → SeenFetched f b (record { address = record { 0 = a }; path = p + 2; register = record { 0 = r } })
 seen-fetched f p b a r x u v = record { is = rw (u, v) (x .is); inside = x .path }
+
+-- and it is the view of that entry
+pub shown-fetched : (f : List ℕ) (p q a r : ℕ) → p ≡ q → a ≡ word f p → r ≡ word f (pastPath f (p + 2)) → _≡_ {A = FetchedView} (record { address = record { 0 = a }; path = p + 2; register = record { 0 = r } }) (fetchedView f q)
+unfolding fetchedView
+shown-fetched f p q a r e u v =
+    ap (λ (j : ℕ). record { address = record { 0 = j }; path = p + 2; register = record { 0 = r } }) u
+    ∙ ap (λ (j : ℕ). record { address = record { 0 = word f p }; path = p + 2; register = record { 0 = j } }) v
+    ∙ ap (fetchedView f) e
+
+-- a binding with a slot of kind k is the view of that binding
+pub shown-binding : (f : List ℕ) (p q k w : ℕ) (s : SlotView) → p ≡ q → getD f (p + 2) 0 ≡ k → w ≡ word f p → s ≡ getD (slotViews f (p + 2 + 1)) k (Sv.Const 0) → _≡_ {A = BindingView} (record { name = w; slot = s }) (bindingView f q)
+unfolding bindingView slotView byteAt
+shown-binding f p q k w s e g u h =
+    ap (λ (j : ℕ). record { name = j; slot = s }) u
+    ∙ ap (λ (y : SlotView). record { name = word f p; slot = y }) (h ∙ ap (λ (j : ℕ). getD (slotViews f (p + 2 + 1)) j (Sv.Const 0)) (sym g))
+    ∙ ap (bindingView f) e
 
 -- binding t, which starts at p: its name, then its slot
 pub record BindingRead (f : List ℕ) (p : ℕ) (b : File.Binding) : Type 0 where

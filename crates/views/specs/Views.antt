@@ -8,7 +8,7 @@ use lib.ListN.{length, getD}
 use lib.Dec.{eqb}
 use Rattle.rules.specs.File as File
 use Rattle.rules.specs.File.{Tables, Ty, Node, Slot}
-use Rattle.file.specs.Steps.{word}
+use Rattle.file.specs.Steps.{word, baseOf}
 use Rattle.views.specs.declared.TypeView.{TypeView}
 use Rattle.views.specs.declared.TypeView.the-variants as Tv
 use Rattle.views.specs.declared.NodeView.{NodeView}
@@ -39,10 +39,23 @@ use Rattle.views.specs.declared.LevelEntry.{LevelEntry}
 abbrev pub sizeOf : Tables → ℕ → ℕ
 sizeOf T s =
     getD
-    (length (T .names) ∷ length (T .types) ∷ length (T .predicates) ∷ length (T .nodes) ∷ length (T .bindings) ∷ length (T .hoisted) ∷ length (T .fetched) ∷
-    length (T .constraints) ∷ length (T .comparisons) ∷ length (T .levels) ∷ [])
+    (length (T .names) ∷
+    length (T .types) ∷
+    length (T .predicates) ∷
+    length (T .nodes) ∷
+    length (T .bindings) ∷
+    length (T .hoisted) ∷
+    length (T .fetched) ∷
+    length (T .constraints) ∷
+    length (T .comparisons) ∷
+    length (T .levels) ∷
+    [])
     s
     0
+
+-- where the index says that record t of section s starts
+abbrev pub startAt : List ℕ → ℕ → ℕ → ℕ
+startAt ix s t = getD ix (baseOf s + 1 + t) 0
 
 -- n things of w bytes each, the first at p
 unfoldable pub run : {A : Type 0} → (ℕ → A) → ℕ → ℕ → ℕ → List A
@@ -69,6 +82,10 @@ patternAt f p = record { name = word f p; node = word f (p + 2) }
 unfoldable pub pathAt : List ℕ → ℕ → File.FieldPath
 pathAt f p = record { field = word f p; steps = run (long f) 4 (byteAt f (p + 2)) (p + 3) }
 
+-- where a path that starts at p ends
+abbrev pub pastPath : List ℕ → ℕ → ℕ
+pastPath f p = p + 3 + 4 * getD f (p + 2) 0
+
 -- FFFF hex stands for none
 unfoldable pub orNone : ℕ → Option ℕ
 orNone n = elim (eqb n 65535) [ true ↦ none | false ↦ some n ]
@@ -79,6 +96,82 @@ anchorKind b = getD (File.Anchor.Prefix ∷ File.Anchor.Whole ∷ []) b File.Anc
 
 unfoldable pub opKind : ℕ → File.CompareOp
 opKind b = getD (File.CompareOp.Lt ∷ File.CompareOp.Le ∷ File.CompareOp.Gt ∷ File.CompareOp.Ge ∷ []) b File.CompareOp.Lt
+
+-- the code's anchor by its byte, and its predicate where FFFF hex stands for none
+unfoldable pub anchorAt : ℕ → Anchor
+anchorAt b = getD (An.Prefix ∷ An.Whole ∷ []) b An.Prefix
+
+unfoldable pub predicateMaybe : ℕ → MaybePredicate
+predicateMaybe n = elim (eqb n 65535) [ true ↦ Mp.Nothing | false ↦ Mp.Just (record { 0 = n }) ]
+
+-- the view of a name whose record starts at p
+unfoldable pub textView : List ℕ → ℕ → Text
+textView f p = record { at = p + 1; len = byteAt f p }
+
+-- the view of a type whose record starts at p, by its kind
+abbrev pub typeViews : List ℕ → ℕ → List TypeView
+typeViews f p =
+    Tv.Int ∷
+    Tv.Str ∷
+    Tv.Bytes ∷
+    Tv.Fact (record { 0 = word f (p + 1) }) ∷
+    Tv.Record (byteAt f (p + 1)) (p + 2) ∷
+    Tv.Union (byteAt f (p + 1)) (p + 2) ∷
+    []
+
+unfoldable pub typeView : List ℕ → ℕ → TypeView
+typeView f p = getD (typeViews f p) (byteAt f p) Tv.Int
+
+-- the view of a node whose record starts at p, by its kind, and of what follows the kind at q
+abbrev pub nodeViews : List ℕ → ℕ → List NodeView
+nodeViews f q =
+    Nv.Int q ∷
+    Nv.Str (word f q) ∷
+    Nv.Bytes (byteAt f q) (q + 1) ∷
+    Nv.Var (word f q) ∷
+    Nv.Wildcard ∷
+    Nv.Never ∷
+    Nv.Prefix (word f q) ∷
+    Nv.Fuzzy (word f q) (byteAt f (q + 2)) (anchorAt (byteAt f (q + 3))) ∷
+    Nv.Record (byteAt f q) (q + 1) ∷
+    Nv.Access (word f q) (word f (q + 2)) ∷
+    Nv.Value (word f q) ∷
+    Nv.Select (word f q) (word f (q + 2)) ∷
+    Nv.Disjunction ∷
+    Nv.Subquery ∷
+    Nv.Fact (record { 0 = word f q }) (word f (q + 2)) ∷
+    Nv.Arith ∷
+    Nv.Error ∷
+    []
+
+unfoldable pub nodeView : List ℕ → ℕ → NodeView
+nodeView f p = getD (nodeViews f (p + 1)) (byteAt f p) Nv.Error
+
+-- the view of a slot at p, by its kind, and of what follows the kind at q
+abbrev pub slotViews : List ℕ → ℕ → List SlotView
+slotViews f q =
+    Sv.Row (record { 0 = word f q }) (predicateMaybe (word f (q + 2))) ∷
+    Sv.Key (record { 0 = word f q }) (word f (q + 2)) ∷
+    Sv.Derived (record { 0 = word f q }) ∷
+    Sv.Field (record { 0 = word f q }) (q + 2) (word f (pastPath f (q + 2))) ∷
+    Sv.Value (record { 0 = word f q }) (word f (q + 2)) ∷
+    Sv.Const (word f q) ∷
+    []
+
+unfoldable pub slotView : List ℕ → ℕ → SlotView
+slotView f p = getD (slotViews f (p + 1)) (byteAt f p) (Sv.Const 0)
+
+-- the views of a binding and of a fetched entry whose records start at p
+unfoldable pub bindingView : List ℕ → ℕ → BindingView
+bindingView f p = record { name = word f p; slot = slotView f (p + 2) }
+
+unfoldable pub fetchedView : List ℕ → ℕ → FetchedView
+fetchedView f p =
+    record {
+      address = record { 0 = word f p };
+      path = p + 2;
+      register = record { 0 = word f (pastPath f (p + 2)) };
+    }
 
 -- the rules' records for the code's
 abbrev pub fieldOf : FieldTy → File.FieldTy
@@ -196,7 +289,7 @@ NodeInside f Nv.Arith = Unit {0}
 NodeInside f Nv.Error = Unit {0}
 
 unfoldable pub PathInside : List ℕ → ℕ → Type 0
-PathInside f at = at + 3 + 4 * getD f (at + 2) 0 ≤ length f
+PathInside f at = pastPath f at ≤ length f
 
 abbrev pub SlotInside : List ℕ → SlotView → Type 0
 SlotInside f (Sv.Row a p) = Unit {0}

@@ -1,11 +1,20 @@
 // Views of the records of a file that was read. A view carries numbers and positions; what they stand for is the written rules' entry.
 ghost use mathlib.Core.Path.{_≡_};
 ghost use Prim.Native.Nat.{_+_, _*_, _≤_, _<_};
-ghost use lib.ListN.{length, getD};
+ghost use lib.ListN.{length};
 ghost use Rattle.rules.specs.File.{nameAt, typeAt, predicateAt, nodeAt};
-ghost use Rattle.file.specs.Steps.{word, baseOf, limitOf, indexLength};
+ghost use Rattle.file.specs.Steps.{word, sectionCount, limitOf, indexLength};
 ghost use Rattle.file.specs.Tables.{Indexed, tablesOf};
-ghost use Rattle.views.specs.Views.{sizeOf, long, orNone, anchorKind, opKind, anchorOf, opOf, typeOption, predicateOption, fieldAt, alternativeAt, patternAt, fieldOf, alternativeOf, patternOf, predicateOf, bindingAt, hoistedAt, fetchedAt, constraintAt, comparisonAt, levelAt, hoistedOf, constraintOf, comparisonOf, levelOf, PathInside, SeenType, SeenNode, SeenBinding, SeenFetched, SeenText};
+ghost use Rattle.views.specs.Views.{sizeOf, startAt, pastPath, long, orNone, anchorAt, opKind, opOf, typeOption, predicateMaybe, textView, typeView, nodeView, bindingView, fetchedView, fieldAt, alternativeAt, patternAt, fieldOf, alternativeOf, patternOf, predicateOf, bindingAt, hoistedAt, fetchedAt, constraintAt, comparisonAt, levelAt, hoistedOf, constraintOf, comparisonOf, levelOf, PathInside, SeenType, SeenNode, SeenBinding, SeenFetched, SeenText};
+use file::BINDINGS;
+use file::COMPARISONS;
+use file::CONSTRAINTS;
+use file::FETCHED;
+use file::LEVELS;
+use file::NAMES;
+use file::NODES;
+use file::PREDICATES;
+use file::TYPES;
 use file::base;
 use file::wide;
 use file::wide16;
@@ -13,7 +22,7 @@ use file::word_at;
 use paths::Address;
 use paths::PredicateId;
 
-// A type's count of children and where the first of them stands.
+// A type. Record and Union have the count of their children and the position of the first.
 pub enum TypeView {
     Int,
     Str,
@@ -23,11 +32,13 @@ pub enum TypeView {
     Union(usize, usize),
 }
 
+// A field of a Record type.
 pub struct FieldTy {
     pub name: usize,
     pub ty: usize,
 }
 
+// An alternative of a Union type.
 pub struct Alternative {
     pub name: usize,
     pub disc: u32,
@@ -39,6 +50,7 @@ pub enum MaybeType {
     Just(usize),
 }
 
+// A predicate's key type, and its value type if it has one.
 pub struct Predicate {
     pub key: usize,
     pub value: MaybeType,
@@ -49,7 +61,8 @@ pub enum Anchor {
     Whole,
 }
 
-// Int has the place of its eight bytes, Bytes a count and the place of the first, Record a count and the place of its first pair.
+// A node. Int has the position of its eight bytes, Bytes a count and the position of the first, Record a count and the position of its
+// first pair.
 pub enum NodeView {
     Int(usize),
     Str(usize),
@@ -70,11 +83,13 @@ pub enum NodeView {
     Error,
 }
 
+// A pair of a Record node: a field's name and the pattern for it.
 pub struct FieldPattern {
     pub name: usize,
     pub node: usize,
 }
 
+// A name's text: its position and its length.
 pub struct Text {
     pub at: usize,
     pub len: usize,
@@ -85,7 +100,7 @@ pub enum MaybePredicate {
     Just(PredicateId),
 }
 
-// Field has the place of its path between its address and its type.
+// A slot. Field has the position of its path between its address and its type.
 pub enum SlotView {
     Row(Address, MaybePredicate),
     Key(Address, usize),
@@ -100,18 +115,20 @@ pub struct BindingView {
     pub slot: SlotView,
 }
 
+// A hoisted entry: the name that a node was given.
 pub struct Hoisted {
     pub node: usize,
     pub name: usize,
 }
 
-// The place of the path stands between address and register.
+// A fetched entry: the register that holds what stands at a path of a row; `path` is the path's position.
 pub struct FetchedView {
     pub address: Address,
     pub path: usize,
     pub register: Address,
 }
 
+// A constraint: a pattern that a name's value has to meet.
 pub struct Constraint {
     pub name: usize,
     pub node: usize,
@@ -130,6 +147,7 @@ pub struct Comparison {
     pub right: usize,
 }
 
+// A level: the predicate whose facts it seeks, the pattern of their keys, and its register.
 pub struct LevelEntry {
     pub predicate: PredicateId,
     pub node: usize,
@@ -139,7 +157,7 @@ pub struct LevelEntry {
 // How many records section s has.
 pub fn count_of(file: &[u8], index: &[u16], s: usize) -> usize
     requires { ⌜ Indexed (now file) (now index) ⌝ }
-    requires { ⌜ s < 10 ⌝ }
+    requires { ⌜ s < sectionCount ⌝ }
     ensures { λ r. ⌜ r ≡ sizeOf (tablesOf (now (file .entry))) s ⌝ }
 {
     wide16(index[base(s)])
@@ -147,13 +165,13 @@ pub fn count_of(file: &[u8], index: &[u16], s: usize) -> usize
 
 // Where record t of section s starts.
 fn start_of(index: &[u16], s: usize, t: usize) -> usize
-    requires { ⌜ (length (now index) ≡ indexLength) × (s < 10) × (t < limitOf s) ⌝ }
-    ensures { λ r. ⌜ r ≡ getD (now (index .entry)) (baseOf s + 1 + t) 0 ⌝ }
+    requires { ⌜ (length (now index) ≡ indexLength) × (s < sectionCount) × (t < limitOf s) ⌝ }
+    ensures { λ r. ⌜ r ≡ startAt (now (index .entry)) s t ⌝ }
 {
     wide16(index[base(s) + 1 + t])
 }
 
-// The two bytes at p as a register or predicate number has them.
+// The two bytes at p, as register and predicate numbers are kept.
 fn half_at(file: &[u8], p: usize) -> u16
     requires { ⌜ p + 2 ≤ length (now file) ⌝ }
     ensures { λ r. ⌜ r ≡ word (now (file .entry)) p ⌝ }
@@ -161,12 +179,14 @@ fn half_at(file: &[u8], p: usize) -> u16
     word_at(file, p) as u16
 }
 
+// Type t, and where its children stand.
 pub fn type_at(file: &[u8], index: &[u16], t: usize) -> TypeView
     requires { ⌜ Indexed (now file) (now index) ⌝ }
     requires { ⌜ t < length (tablesOf (now file) .types) ⌝ }
-    ensures { λ r. ⌜ SeenType (now (file .entry)) (typeAt (tablesOf (now (file .entry))) t) r ⌝ }
+    ensures shows { λ r. ⌜ SeenType (now (file .entry)) (typeAt (tablesOf (now (file .entry))) t) r ⌝ }
+    ensures view { λ r. ⌜ r ≡ typeView (now (file .entry)) (startAt (now (index .entry)) 1 t) ⌝ }
 {
-    let p = start_of(index, 1, t);
+    let p = start_of(index, TYPES, t);
     match file[p] {
         0 => TypeView::Int,
         1 => TypeView::Str,
@@ -185,7 +205,7 @@ pub fn long_at(file: &[u8], p: usize) -> u32
     (word_at(file, p) as u32) + 65536 * (word_at(file, p + 2) as u32)
 }
 
-// Field k of a Record type whose fields start at at.
+// Field k of a Record type whose fields start at `at`.
 pub fn field_ty_at(file: &[u8], at: usize, k: usize) -> FieldTy
     requires { ⌜ at + 4 * k + 4 ≤ length (now file) ⌝ }
     ensures { λ r. ⌜ fieldOf r ≡ fieldAt (now (file .entry)) (at + 4 * k) ⌝ }
@@ -197,7 +217,7 @@ pub fn field_ty_at(file: &[u8], at: usize, k: usize) -> FieldTy
     }
 }
 
-// Alternative k of a Union type whose alternatives start at at.
+// Alternative k of a Union type whose alternatives start at `at`.
 pub fn alternative_at(file: &[u8], at: usize, k: usize) -> Alternative
     requires { ⌜ at + 8 * k + 8 ≤ length (now file) ⌝ }
     ensures { λ r. ⌜ alternativeOf r ≡ alternativeAt (now (file .entry)) (at + 8 * k) ⌝ }
@@ -210,7 +230,7 @@ pub fn alternative_at(file: &[u8], at: usize, k: usize) -> Alternative
     }
 }
 
-// Pair k of a Record node whose pairs start at at.
+// Pair k of a Record node whose pairs start at `at`.
 pub fn field_pattern_at(file: &[u8], at: usize, k: usize) -> FieldPattern
     requires { ⌜ at + 4 * k + 4 ≤ length (now file) ⌝ }
     ensures { λ r. ⌜ patternOf r ≡ patternAt (now (file .entry)) (at + 4 * k) ⌝ }
@@ -222,18 +242,21 @@ pub fn field_pattern_at(file: &[u8], at: usize, k: usize) -> FieldPattern
     }
 }
 
+// Where the text of name x stands, and its length.
 pub fn name_at(file: &[u8], index: &[u16], x: usize) -> Text
     requires { ⌜ Indexed (now file) (now index) ⌝ }
     requires { ⌜ x < length (tablesOf (now file) .names) ⌝ }
-    ensures { λ r. ⌜ SeenText (now (file .entry)) (nameAt (tablesOf (now (file .entry))) x) r ⌝ }
+    ensures shows { λ r. ⌜ SeenText (now (file .entry)) (nameAt (tablesOf (now (file .entry))) x) r ⌝ }
+    ensures view { λ r. ⌜ r ≡ textView (now (file .entry)) (startAt (now (index .entry)) 0 x) ⌝ }
 {
-    let p = start_of(index, 0, x);
+    let p = start_of(index, NAMES, x);
     Text {
         at: p + 1,
         len: wide(file[p]),
     }
 }
 
+// A type's number, where FFFF hex stands for none.
 fn maybe_type(n: usize) -> MaybeType
     ensures { λ r. ⌜ typeOption r ≡ orNone n ⌝ }
 {
@@ -244,8 +267,9 @@ fn maybe_type(n: usize) -> MaybeType
     }
 }
 
+// A predicate's number, where FFFF hex stands for none.
 fn maybe_predicate(n: u16) -> MaybePredicate
-    ensures { λ r. ⌜ predicateOption r ≡ orNone n ⌝ }
+    ensures { λ r. ⌜ r ≡ predicateMaybe n ⌝ }
 {
     if n == 65535 {
         MaybePredicate::Nothing
@@ -254,22 +278,24 @@ fn maybe_predicate(n: u16) -> MaybePredicate
     }
 }
 
+// The key and value types of predicate p.
 pub fn predicate_at(file: &[u8], index: &[u16], p: PredicateId) -> Predicate
     requires { ⌜ Indexed (now file) (now index) ⌝ }
     requires { ⌜ p .0 < length (tablesOf (now file) .predicates) ⌝ }
     ensures { λ r. ⌜ predicateOf r ≡ predicateAt (tablesOf (now (file .entry))) (p .0) ⌝ }
 {
     let n = wide16(p.0);
-    let at = start_of(index, 2, n);
+    let at = start_of(index, PREDICATES, n);
     Predicate {
         key: word_at(file, at),
         value: maybe_type(word_at(file, at + 2)),
     }
 }
 
+// An anchor by its byte.
 fn anchor_of(b: u8) -> Anchor
     requires { ⌜ b < 2 ⌝ }
-    ensures { λ r. ⌜ anchorOf r ≡ anchorKind b ⌝ }
+    ensures { λ r. ⌜ r ≡ anchorAt b ⌝ }
 {
     if b == 0 {
         Anchor::Prefix
@@ -278,12 +304,14 @@ fn anchor_of(b: u8) -> Anchor
     }
 }
 
+// Node n, and where its bytes or pairs stand.
 pub fn node_at(file: &[u8], index: &[u16], n: usize) -> NodeView
     requires { ⌜ Indexed (now file) (now index) ⌝ }
     requires { ⌜ n < length (tablesOf (now file) .nodes) ⌝ }
-    ensures { λ r. ⌜ SeenNode (now (file .entry)) (nodeAt (tablesOf (now (file .entry))) n) r ⌝ }
+    ensures shows { λ r. ⌜ SeenNode (now (file .entry)) (nodeAt (tablesOf (now (file .entry))) n) r ⌝ }
+    ensures view { λ r. ⌜ r ≡ nodeView (now (file .entry)) (startAt (now (index .entry)) 3 n) ⌝ }
 {
-    let at = start_of(index, 3, n);
+    let at = start_of(index, NODES, n);
     let p = at + 1;
     match file[at] {
         0 => NodeView::Int(p),
@@ -306,20 +334,22 @@ pub fn node_at(file: &[u8], index: &[u16], n: usize) -> NodeView
     }
 }
 
-// Where a path that starts at at ends.
+// Where a path that starts at `at` ends.
 fn past_path(file: &[u8], at: usize) -> usize
     requires { ⌜ PathInside (now file) at ⌝ }
-    ensures { λ r. ⌜ r ≡ at + 3 + 4 * getD (now (file .entry)) (at + 2) 0 ⌝ }
+    ensures { λ r. ⌜ r ≡ pastPath (now (file .entry)) at ⌝ }
 {
     at + 3 + 4 * wide(file[at + 2])
 }
 
+// Binding b of the file: its name and its slot.
 pub fn binding_at(file: &[u8], index: &[u16], b: usize) -> BindingView
     requires { ⌜ Indexed (now file) (now index) ⌝ }
     requires { ⌜ b < length (tablesOf (now file) .bindings) ⌝ }
-    ensures { λ r. ⌜ SeenBinding (now (file .entry)) (bindingAt (tablesOf (now (file .entry))) b) r ⌝ }
+    ensures shows { λ r. ⌜ SeenBinding (now (file .entry)) (bindingAt (tablesOf (now (file .entry))) b) r ⌝ }
+    ensures view { λ r. ⌜ r ≡ bindingView (now (file .entry)) (startAt (now (index .entry)) 4 b) ⌝ }
 {
-    let at = start_of(index, 4, b);
+    let at = start_of(index, BINDINGS, b);
     let name = word_at(file, at);
     let q = at + 2;
     let p = q + 1;
@@ -352,24 +382,27 @@ pub fn binding_at(file: &[u8], index: &[u16], b: usize) -> BindingView
     }
 }
 
+// Hoisted entry k.
 pub fn hoisted_at(file: &[u8], index: &[u16], k: usize) -> Hoisted
     requires { ⌜ Indexed (now file) (now index) ⌝ }
     requires { ⌜ k < length (tablesOf (now file) .hoisted) ⌝ }
     ensures { λ r. ⌜ hoistedOf r ≡ hoistedAt (tablesOf (now (file .entry))) k ⌝ }
 {
-    let p = start_of(index, 5, k);
+    let p = start_of(index, file::HOISTED, k);
     Hoisted {
         node: word_at(file, p),
         name: word_at(file, p + 2),
     }
 }
 
+// Fetched entry k.
 pub fn fetched_at(file: &[u8], index: &[u16], k: usize) -> FetchedView
     requires { ⌜ Indexed (now file) (now index) ⌝ }
     requires { ⌜ k < length (tablesOf (now file) .fetched) ⌝ }
-    ensures { λ r. ⌜ SeenFetched (now (file .entry)) (fetchedAt (tablesOf (now (file .entry))) k) r ⌝ }
+    ensures shows { λ r. ⌜ SeenFetched (now (file .entry)) (fetchedAt (tablesOf (now (file .entry))) k) r ⌝ }
+    ensures view { λ r. ⌜ r ≡ fetchedView (now (file .entry)) (startAt (now (index .entry)) 6 k) ⌝ }
 {
-    let p = start_of(index, 6, k);
+    let p = start_of(index, FETCHED, k);
     let address = Address(half_at(file, p));
     let register = Address(half_at(file, past_path(file, p + 2)));
     FetchedView {
@@ -379,18 +412,20 @@ pub fn fetched_at(file: &[u8], index: &[u16], k: usize) -> FetchedView
     }
 }
 
+// Constraint k.
 pub fn constraint_at(file: &[u8], index: &[u16], k: usize) -> Constraint
     requires { ⌜ Indexed (now file) (now index) ⌝ }
     requires { ⌜ k < length (tablesOf (now file) .constraints) ⌝ }
     ensures { λ r. ⌜ constraintOf r ≡ constraintAt (tablesOf (now (file .entry))) k ⌝ }
 {
-    let p = start_of(index, 7, k);
+    let p = start_of(index, CONSTRAINTS, k);
     Constraint {
         name: word_at(file, p),
         node: word_at(file, p + 2),
     }
 }
 
+// A comparison's op by its byte.
 fn compare_op(b: u8) -> CompareOp
     requires { ⌜ b < 4 ⌝ }
     ensures { λ r. ⌜ opOf r ≡ opKind b ⌝ }
@@ -403,12 +438,13 @@ fn compare_op(b: u8) -> CompareOp
     }
 }
 
+// Comparison k.
 pub fn comparison_at(file: &[u8], index: &[u16], k: usize) -> Comparison
     requires { ⌜ Indexed (now file) (now index) ⌝ }
     requires { ⌜ k < length (tablesOf (now file) .comparisons) ⌝ }
     ensures { λ r. ⌜ comparisonOf r ≡ comparisonAt (tablesOf (now (file .entry))) k ⌝ }
 {
-    let p = start_of(index, 8, k);
+    let p = start_of(index, COMPARISONS, k);
     Comparison {
         op: compare_op(file[p]),
         left: word_at(file, p + 1),
@@ -416,12 +452,13 @@ pub fn comparison_at(file: &[u8], index: &[u16], k: usize) -> Comparison
     }
 }
 
+// Entry k of the list of levels.
 pub fn level_at(file: &[u8], index: &[u16], k: usize) -> LevelEntry
     requires { ⌜ Indexed (now file) (now index) ⌝ }
     requires { ⌜ k < length (tablesOf (now file) .levels) ⌝ }
     ensures { λ r. ⌜ levelOf r ≡ levelAt (tablesOf (now (file .entry))) k ⌝ }
 {
-    let p = start_of(index, 9, k);
+    let p = start_of(index, LEVELS, k);
     let predicate = PredicateId(half_at(file, p));
     let address = Address(half_at(file, p + 4));
     LevelEntry {

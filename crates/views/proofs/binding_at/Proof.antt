@@ -1,11 +1,14 @@
+use Prim.Native.Nat.{_+_}
 use mathlib.Core.Path.{ap, _∙_, ap₂}
 use native.Mathlib.Omega.{arith}
 use denote.Ref.{now}
 use Rattle.file.specs.Steps.{word}
 use Rattle.rules.specs.File.{Slot}
-use Rattle.views.specs.Views.{orNone, bindingAt}
-use Rattle.views.proofs.Slots.{BindingRead, binding-here, seen-binding, first-here, row-here, key-here, derived-here, field-here, value-here, const-here, field-is}
+use Rattle.views.specs.Views.{orNone, predicateMaybe, predicateOption, bindingAt}
+use Rattle.views.proofs.Slots.{BindingRead, binding-here, seen-binding, shown-binding, first-here, row-here, key-here, derived-here, field-here, value-here, const-here, field-is}
 use Rattle.file.specs.Tables.{tablesOf}
+use Rattle.views.proofs.Entries.{predicate-option}
+use Rattle.views.specs.declared.SlotView.the-variants as Sv
 use borrow.Author.Needs.{needs}
 use Rattle.views.proofs.binding_at.Statement.{statement}
 use Rattle.views.proofs.binding_at.Tie as tie
@@ -80,34 +83,48 @@ word-at-requires-5 c κs = first-here _ _ _ (here (c .before .before .before))
 returns : tie.Need-returns
 returns c =
     let d = c .before .before .before .before .before in
-    seen-binding _ _ _ (here d) _ (d .word-at .ensures .0) (ap₂ Slot.Row (c .before .before .before .before .half-at .ensures) (c .maybe-predicate .ensures ∙ ap orNone (c .before .half-at2 .ensures)) ∙ row-here _ _ _ (here d) (omega arith) .1) tt
+    let m = c .maybe-predicate .ensures ∙ ap predicateMaybe (c .before .half-at2 .ensures) in (
+      seen-binding _ _ _ (here d) _ (d .word-at .ensures .0) (ap₂ Slot.Row (c .before .before .before .before .half-at .ensures) (ap predicateOption m ∙ predicate-option _) ∙ row-here _ _ _ (here d) (omega arith) .1) tt,
+      shown-binding _ _ _ 0 _ _ (d .before .start-of .ensures) (omega arith) (d .word-at .ensures .0) (ap₂ (λ a o. Sv.Row (record { 0 = a }) o) (c .before .before .before .before .half-at .ensures) m),
+    )
 
 returns-2 : tie.Need-returns-2
 returns-2 c =
-    let d = c .before .before .before .before in
-    seen-binding _ _ _ (here d) _ (d .word-at .ensures .0) (ap₂ Slot.Key (c .before .before .before .half-at .ensures) (c .word-at2 .ensures .0) ∙ key-here _ _ _ (here d) (omega arith) .1) tt
+    let d = c .before .before .before .before in (
+      seen-binding _ _ _ (here d) _ (d .word-at .ensures .0) (ap₂ Slot.Key (c .before .before .before .half-at .ensures) (c .word-at2 .ensures .0) ∙ key-here _ _ _ (here d) (omega arith) .1) tt,
+      shown-binding _ _ _ 1 _ _ (d .before .start-of .ensures) (omega arith) (d .word-at .ensures .0) (ap₂ (λ a t. Sv.Key (record { 0 = a }) t) (c .before .before .before .half-at .ensures) (c .word-at2 .ensures .0)),
+    )
 
 returns-3 : tie.Need-returns-3
 returns-3 c =
-    let d = c .before .before .before in
-    seen-binding _ _ _ (here d) _ (d .word-at .ensures .0) (ap Slot.Derived (c .before .before .half-at .ensures) ∙ derived-here _ _ _ (here d) (omega arith) .1) tt
+    let d = c .before .before .before in (
+      seen-binding _ _ _ (here d) _ (d .word-at .ensures .0) (ap Slot.Derived (c .before .before .half-at .ensures) ∙ derived-here _ _ _ (here d) (omega arith) .1) tt,
+      shown-binding _ _ _ 2 _ _ (d .before .start-of .ensures) (omega arith) (d .word-at .ensures .0) (ap (λ a. Sv.Derived (record { 0 = a })) (c .before .before .half-at .ensures)),
+    )
 
 returns-4 : tie.Need-returns-4
 returns-4 c =
     let d = c .before .before .before .before .before in
-    seen-binding _ _ _ (here d) _ (d .word-at .ensures .0)
-    (field-is _ _ _ (here d) _ _ (omega arith) (c .before .before .before .before .half-at .ensures) (c .word-at3 .ensures .0 ∙ ap (word (now (d .before .before .before .before .args .file))) (c .before .past-path .ensures)))
-    (field-here _ _ _ (here d) (omega arith) .path)
+    let last = c .word-at3 .ensures .0 ∙ ap (word (now (d .before .before .before .before .args .file))) (c .before .past-path .ensures) in (
+      seen-binding _ _ _ (here d) _ (d .word-at .ensures .0)
+          (field-is _ _ _ (here d) _ _ (omega arith) (c .before .before .before .before .half-at .ensures) last)
+          (field-here _ _ _ (here d) (omega arith) .path),
+      shown-binding _ _ _ 3 _ _ (d .before .start-of .ensures) (omega arith) (d .word-at .ensures .0) (ap₂ (λ a t. Sv.Field (record { 0 = a }) (d .before .start-of .result + 2 + 1 + 2) t) (c .before .before .before .before .half-at .ensures) last),
+    )
 
 returns-5 : tie.Need-returns-5
 returns-5 c =
-    let d = c .before .before .before .before in
-    seen-binding _ _ _ (here d) _ (d .word-at .ensures .0) (ap₂ Slot.Value (c .before .before .before .half-at .ensures) (c .word-at4 .ensures .0) ∙ value-here _ _ _ (here d) (omega arith) .1) tt
+    let d = c .before .before .before .before in (
+      seen-binding _ _ _ (here d) _ (d .word-at .ensures .0) (ap₂ Slot.Value (c .before .before .before .half-at .ensures) (c .word-at4 .ensures .0) ∙ value-here _ _ _ (here d) (omega arith) .1) tt,
+      shown-binding _ _ _ 4 _ _ (d .before .start-of .ensures) (omega arith) (d .word-at .ensures .0) (ap₂ (λ a t. Sv.Value (record { 0 = a }) t) (c .before .before .before .half-at .ensures) (c .word-at4 .ensures .0)),
+    )
 
 returns-6 : tie.Need-returns-6
 returns-6 c =
-    let d = c .before .before .before .before in
-    seen-binding _ _ _ (here d) _ (d .word-at .ensures .0) (ap Slot.Const (c .word-at5 .ensures .0) ∙ const-here _ _ _ (here d) (omega (arith, here d .kinded .known)) .1) tt
+    let d = c .before .before .before .before in (
+      seen-binding _ _ _ (here d) _ (d .word-at .ensures .0) (ap Slot.Const (c .word-at5 .ensures .0) ∙ const-here _ _ _ (here d) (omega (arith, here d .kinded .known)) .1) tt,
+      shown-binding _ _ _ 5 _ _ (d .before .start-of .ensures) (omega (arith, here d .kinded .known)) (d .word-at .ensures .0) (ap Sv.Const (c .word-at5 .ensures .0)),
+    )
 
 pub binding-at-spec : {M : Type 1} → statement M
 binding-at-spec =

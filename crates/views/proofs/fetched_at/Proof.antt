@@ -2,7 +2,7 @@ use mathlib.Core.Path.{ap, _∙_}
 use native.Mathlib.Omega.{arith}
 use denote.Ref.{now}
 use Rattle.file.specs.Steps.{word}
-use Rattle.views.proofs.Slots.{fetched-here, seen-fetched}
+use Rattle.views.proofs.Slots.{fetched-here, seen-fetched, shown-fetched}
 use Rattle.views.proofs.fetched_at.Statement.{statement}
 use Rattle.views.proofs.fetched_at.Tie as tie
 use Rattle.views.proofs.fetched_at.Reads as reads
@@ -30,7 +30,13 @@ add-t8 : tie.Need-add-t8
 add-t8 c = omega (arith, fetched-here _ _ (c .before .before .before .before .before .before .pre .0) _ _ (c .before .before .before .before .before .before .pre .1) (c .before .before .before .start-of .ensures) .first)
 
 returns : tie.Need-returns
-returns c = seen-fetched _ _ _ _ _ (fetched-here _ _ (c .before .before .before .before .before .before .pre .0) _ _ (c .before .before .before .before .before .before .pre .1) (c .before .before .before .start-of .ensures)) (c .before .before .half-at .ensures) (c .half-at2 .ensures ∙ ap (word (now (c .before .before .before .before .before .before .args .file))) (c .before .past-path .ensures))
+returns c =
+    let d = c .before .before .before in
+    let a = d .before .before .before in
+    let last = c .half-at2 .ensures ∙ ap (word (now (a .args .file))) (c .before .past-path .ensures) in (
+      seen-fetched _ _ _ _ _ (fetched-here _ _ (a .pre .0) _ _ (a .pre .1) (d .start-of .ensures)) (c .before .before .half-at .ensures) last,
+      shown-fetched _ _ _ _ _ (d .start-of .ensures) (c .before .before .half-at .ensures) last,
+    )
 
 pub fetched-at-spec : {M : Type 1} → statement M
 fetched-at-spec =

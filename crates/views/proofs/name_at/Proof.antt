@@ -1,6 +1,6 @@
 use mathlib.Core.Path.{refl}
 use native.Mathlib.Omega.{arith}
-use Rattle.views.proofs.Entries.{name-seen}
+use Rattle.views.proofs.Entries.{name-seen, text-shown}
 use borrow.Author.Needs.{needs}
 use Rattle.views.proofs.name_at.Statement.{statement}
 use Rattle.views.proofs.name_at.Tie as tie
@@ -22,7 +22,7 @@ wide-requires : tie.Need-wide-requires
 wide-requires c κs = search needs
 
 returns : tie.Need-returns
-returns c = let a = c .before .before .before .before .before in name-seen _ _ (a .pre .0) _ _ _ (a .pre .1) (c .before .before .start-of .ensures) (c .wide .ensures .0) .1
+returns c = let a = c .before .before .before .before .before in (name-seen _ _ (a .pre .0) _ _ _ (a .pre .1) (c .before .before .start-of .ensures) (c .wide .ensures .0) .1, text-shown _ _ _ _ (c .before .before .start-of .ensures) (c .wide .ensures .0))
 
 pub name-at-spec : {M : Type 1} → statement M
 name-at-spec =

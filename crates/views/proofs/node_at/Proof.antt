@@ -4,6 +4,7 @@ use native.Mathlib.Omega.{arith}
 use Rattle.rules.specs.File.{Node}
 use Rattle.views.proofs.Nodes.{node-here, seen-none, one-room, seen-one, two-room, seen-two, seen-int, bytes-here, patterns-here, seen-bytes, seen-record, fuzzy-here, seen-fuzzy}
 use borrow.Author.Needs.{needs}
+use Rattle.views.specs.declared.NodeView.the-variants as Nv
 use Rattle.views.proofs.node_at.Statement.{statement}
 use Rattle.views.proofs.node_at.Tie as tie
 use Rattle.views.proofs.node_at.Reads as reads
@@ -102,22 +103,22 @@ returns : tie.Need-returns
 returns c = seen-int _ _ (c .before .before .before .before .before .pre .0) _ _ (c .before .before .before .before .before .pre .1) (c .before .before .start-of .ensures) (omega arith)
 
 returns-2 : tie.Need-returns-2
-returns-2 c = seen-one _ _ (c .before .before .before .before .before .before .pre .0) _ _ (c .before .before .before .before .before .before .pre .1) (c .before .before .before .start-of .ensures) 1 _ Node.Str _ refl refl tt (omega arith) (c .word-at .ensures .0)
+returns-2 c = seen-one _ _ (c .before .before .before .before .before .before .pre .0) _ _ (c .before .before .before .before .before .before .pre .1) (c .before .before .before .start-of .ensures) 1 _ Node.Str Nv.Str refl refl tt refl (omega arith) (c .word-at .ensures .0)
 
 returns-3 : tie.Need-returns-3
 returns-3 c = seen-bytes _ _ (c .before .before .before .before .before .before .before .pre .0) _ _ (c .before .before .before .before .before .before .before .pre .1) (c .before .before .before .before .start-of .ensures) _ (omega arith) (c .wide .ensures .0)
 
 returns-4 : tie.Need-returns-4
-returns-4 c = seen-one _ _ (c .before .before .before .before .before .before .pre .0) _ _ (c .before .before .before .before .before .before .pre .1) (c .before .before .before .start-of .ensures) 3 _ Node.Var _ refl refl tt (omega arith) (c .word-at2 .ensures .0)
+returns-4 c = seen-one _ _ (c .before .before .before .before .before .before .pre .0) _ _ (c .before .before .before .before .before .before .pre .1) (c .before .before .before .start-of .ensures) 3 _ Node.Var Nv.Var refl refl tt refl (omega arith) (c .word-at2 .ensures .0)
 
 returns-5 : tie.Need-returns-5
-returns-5 c = seen-none _ _ (c .before .before .before .before .before .pre .0) _ _ (c .before .before .before .before .before .pre .1) (c .before .before .start-of .ensures) 4 _ refl tt (omega arith)
+returns-5 c = seen-none _ _ (c .before .before .before .before .before .pre .0) _ _ (c .before .before .before .before .before .pre .1) (c .before .before .start-of .ensures) 4 _ refl tt refl (omega arith)
 
 returns-6 : tie.Need-returns-6
-returns-6 c = seen-none _ _ (c .before .before .before .before .before .pre .0) _ _ (c .before .before .before .before .before .pre .1) (c .before .before .start-of .ensures) 5 _ refl tt (omega arith)
+returns-6 c = seen-none _ _ (c .before .before .before .before .before .pre .0) _ _ (c .before .before .before .before .before .pre .1) (c .before .before .start-of .ensures) 5 _ refl tt refl (omega arith)
 
 returns-7 : tie.Need-returns-7
-returns-7 c = seen-one _ _ (c .before .before .before .before .before .before .pre .0) _ _ (c .before .before .before .before .before .before .pre .1) (c .before .before .before .start-of .ensures) 6 _ Node.Prefix _ refl refl tt (omega arith) (c .word-at3 .ensures .0)
+returns-7 c = seen-one _ _ (c .before .before .before .before .before .before .pre .0) _ _ (c .before .before .before .before .before .before .pre .1) (c .before .before .before .start-of .ensures) 6 _ Node.Prefix Nv.Prefix refl refl tt refl (omega arith) (c .word-at3 .ensures .0)
 
 returns-8 : tie.Need-returns-8
 returns-8 c = seen-fuzzy _ _ (c .before .before .before .before .before .before .before .before .before .pre .0) _ _ (c .before .before .before .before .before .before .before .before .before .pre .1) (c .before .before .before .before .before .before .start-of .ensures) _ _ _ (omega arith) (c .before .before .before .word-at4 .ensures .0) refl (c .anchor-of .ensures)
@@ -126,28 +127,28 @@ returns-9 : tie.Need-returns-9
 returns-9 c = seen-record _ _ (c .before .before .before .before .before .before .before .pre .0) _ _ (c .before .before .before .before .before .before .before .pre .1) (c .before .before .before .before .start-of .ensures) _ (omega arith) (c .wide2 .ensures .0)
 
 returns-10 : tie.Need-returns-10
-returns-10 c = seen-two _ _ (c .before .before .before .before .before .before .before .pre .0) _ _ (c .before .before .before .before .before .before .before .pre .1) (c .before .before .before .before .start-of .ensures) 9 _ _ Node.Access _ refl refl tt (omega arith) (c .before .word-at5 .ensures .0) (c .word-at6 .ensures .0)
+returns-10 c = seen-two _ _ (c .before .before .before .before .before .before .before .pre .0) _ _ (c .before .before .before .before .before .before .before .pre .1) (c .before .before .before .before .start-of .ensures) 9 _ _ Node.Access Nv.Access refl refl tt refl (omega arith) (c .before .word-at5 .ensures .0) (c .word-at6 .ensures .0)
 
 returns-11 : tie.Need-returns-11
-returns-11 c = seen-one _ _ (c .before .before .before .before .before .before .pre .0) _ _ (c .before .before .before .before .before .before .pre .1) (c .before .before .before .start-of .ensures) 10 _ Node.Value _ refl refl tt (omega arith) (c .word-at7 .ensures .0)
+returns-11 c = seen-one _ _ (c .before .before .before .before .before .before .pre .0) _ _ (c .before .before .before .before .before .before .pre .1) (c .before .before .before .start-of .ensures) 10 _ Node.Value Nv.Value refl refl tt refl (omega arith) (c .word-at7 .ensures .0)
 
 returns-12 : tie.Need-returns-12
-returns-12 c = seen-two _ _ (c .before .before .before .before .before .before .before .pre .0) _ _ (c .before .before .before .before .before .before .before .pre .1) (c .before .before .before .before .start-of .ensures) 11 _ _ Node.Select _ refl refl tt (omega arith) (c .before .word-at8 .ensures .0) (c .word-at9 .ensures .0)
+returns-12 c = seen-two _ _ (c .before .before .before .before .before .before .before .pre .0) _ _ (c .before .before .before .before .before .before .before .pre .1) (c .before .before .before .before .start-of .ensures) 11 _ _ Node.Select Nv.Select refl refl tt refl (omega arith) (c .before .word-at8 .ensures .0) (c .word-at9 .ensures .0)
 
 returns-13 : tie.Need-returns-13
-returns-13 c = seen-none _ _ (c .before .before .before .before .before .pre .0) _ _ (c .before .before .before .before .before .pre .1) (c .before .before .start-of .ensures) 12 _ refl tt (omega arith)
+returns-13 c = seen-none _ _ (c .before .before .before .before .before .pre .0) _ _ (c .before .before .before .before .before .pre .1) (c .before .before .start-of .ensures) 12 _ refl tt refl (omega arith)
 
 returns-14 : tie.Need-returns-14
-returns-14 c = seen-none _ _ (c .before .before .before .before .before .pre .0) _ _ (c .before .before .before .before .before .pre .1) (c .before .before .start-of .ensures) 13 _ refl tt (omega arith)
+returns-14 c = seen-none _ _ (c .before .before .before .before .before .pre .0) _ _ (c .before .before .before .before .before .pre .1) (c .before .before .start-of .ensures) 13 _ refl tt refl (omega arith)
 
 returns-15 : tie.Need-returns-15
-returns-15 c = seen-two _ _ (c .before .before .before .before .before .before .before .pre .0) _ _ (c .before .before .before .before .before .before .before .pre .1) (c .before .before .before .before .start-of .ensures) 14 _ _ Node.Fact _ refl refl tt (omega arith) (c .before .half-at .ensures) (c .word-at10 .ensures .0)
+returns-15 c = seen-two _ _ (c .before .before .before .before .before .before .before .pre .0) _ _ (c .before .before .before .before .before .before .before .pre .1) (c .before .before .before .before .start-of .ensures) 14 _ _ Node.Fact (λ p n. Nv.Fact (record { 0 = p }) n) refl refl tt refl (omega arith) (c .before .half-at .ensures) (c .word-at10 .ensures .0)
 
 returns-16 : tie.Need-returns-16
-returns-16 c = seen-none _ _ (c .before .before .before .before .before .pre .0) _ _ (c .before .before .before .before .before .pre .1) (c .before .before .start-of .ensures) 15 _ refl tt (omega arith)
+returns-16 c = seen-none _ _ (c .before .before .before .before .before .pre .0) _ _ (c .before .before .before .before .before .pre .1) (c .before .before .start-of .ensures) 15 _ refl tt refl (omega arith)
 
 returns-17 : tie.Need-returns-17
-returns-17 c = seen-none _ _ (c .before .before .before .before .before .pre .0) _ _ (c .before .before .before .before .before .pre .1) (c .before .before .start-of .ensures) 16 _ refl tt (last-arm 16 _ (c .match .rest) (node-here _ _ (c .before .before .before .before .before .pre .0) _ _ (c .before .before .before .before .before .pre .1) (c .before .before .start-of .ensures) .known))
+returns-17 c = seen-none _ _ (c .before .before .before .before .before .pre .0) _ _ (c .before .before .before .before .before .pre .1) (c .before .before .start-of .ensures) 16 _ refl tt refl (last-arm 16 _ (c .match .rest) (node-here _ _ (c .before .before .before .before .before .pre .0) _ _ (c .before .before .before .before .before .pre .1) (c .before .before .start-of .ensures) .known))
 
 pub node-at-spec : {M : Type 1} → statement M
 node-at-spec =
