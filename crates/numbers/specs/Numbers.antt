@@ -20,7 +20,10 @@ pub record Words (f : List ℕ) (b w n p : ℕ) : Type 0 where
 
 -- n pairs of a name and a number that stands so many bytes behind it, each below its bound
 unfoldable pub pairsIn : List ℕ → ℕ → ℕ → ℕ → ℕ → ℕ → ℕ → Bool
-pairsIn f w n p names behind bound = both (all (λ c. ltb c names) (run (word f) w n p)) (all (λ c. ltb c bound) (run (word f) w n (p + behind)))
+pairsIn f w n p names behind bound =
+    both
+    (all (λ c. ltb c names) (run (word f) w n p))
+    (all (λ c. ltb c bound) (run (word f) w n (p + behind)))
 
 -- a number of four bytes, or of two
 abbrev pub numberAt : List ℕ → Bool → ℕ → ℕ
@@ -39,16 +42,34 @@ rising x (y ∷ l) = elim (ltb x y) [ true ↦ rising y l | false ↦ false ]
 unfoldable pub recordIn : Tables → ℕ → ℕ → Bool
 recordIn T s t =
     getD
-    (true ∷ typeIn T (typeAt T t) ∷ predicateIn T (predicateAt T t) ∷ nodeIn T (nodeAt T t) ∷ bindingIn T (bindingAt T t) ∷ hoistedIn T (hoistedAt T t) ∷ true ∷
-    constraintIn T (constraintAt T t) ∷ comparisonIn T (comparisonAt T t) ∷ levelIn T (levelAt T t) ∷ [])
+    (true ∷
+    typeIn T (typeAt T t) ∷
+    predicateIn T (predicateAt T t) ∷
+    nodeIn T (nodeAt T t) ∷
+    bindingIn T (bindingAt T t) ∷
+    hoistedIn T (hoistedAt T t) ∷
+    true ∷
+    constraintIn T (constraintAt T t) ∷
+    comparisonIn T (comparisonAt T t) ∷
+    levelIn T (levelAt T t) ∷
+    [])
     s
     true
 
 unfoldable pub sectionIn : Tables → ℕ → Bool
 sectionIn T s =
     getD
-    (true ∷ all (typeIn T) (T .types) ∷ all (predicateIn T) (T .predicates) ∷ all (nodeIn T) (T .nodes) ∷ all (bindingIn T) (T .bindings) ∷
-    all (hoistedIn T) (T .hoisted) ∷ true ∷ all (constraintIn T) (T .constraints) ∷ all (comparisonIn T) (T .comparisons) ∷ all (levelIn T) (T .levels) ∷ [])
+    (true ∷
+    all (typeIn T) (T .types) ∷
+    all (predicateIn T) (T .predicates) ∷
+    all (nodeIn T) (T .nodes) ∷
+    all (bindingIn T) (T .bindings) ∷
+    all (hoistedIn T) (T .hoisted) ∷
+    true ∷
+    all (constraintIn T) (T .constraints) ∷
+    all (comparisonIn T) (T .comparisons) ∷
+    all (levelIn T) (T .levels) ∷
+    [])
     s
     true
 

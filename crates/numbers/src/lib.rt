@@ -6,10 +6,21 @@ ghost use lib.Dec.{ltb};
 ghost use Rattle.rules.specs.Base.{both, all, distinct};
 ghost use Rattle.rules.specs.File.{typeAt, nodeAt, predicateAt, childTypes, childNodes};
 ghost use Rattle.rules.specs.Checks.{typeIn, predicateIn, nodeIn, bindingIn, hoistedIn, constraintIn, comparisonIn, levelIn, numbersIn, childrenLower, typeDistinct, typesDistinct};
-ghost use Rattle.file.specs.Steps.{word};
+ghost use Rattle.file.specs.Steps.{word, sectionCount};
 ghost use Rattle.file.specs.Tables.{Indexed, tablesOf};
 ghost use Rattle.views.specs.Views.{sizeOf, run, bindingAt, hoistedAt, constraintAt, comparisonAt, levelAt};
 ghost use Rattle.numbers.specs.Numbers.{Words, pairsIn, numberAt, among, rising, recordIn, sectionIn, typesLower, nodesLower};
+use file::BINDINGS;
+use file::COMPARISONS;
+use file::CONSTRAINTS;
+use file::HOISTED;
+use file::LEVELS;
+use file::NAME_LIMIT;
+use file::NAMES;
+use file::NODES;
+use file::PREDICATES;
+use file::SECTIONS;
+use file::TYPES;
 use file::wide16;
 use file::word_at;
 use paths::PredicateId;
@@ -29,10 +40,7 @@ use views::node_at;
 use views::predicate_at;
 use views::type_at;
 
-// As many names as a file may have (nameLimit).
-const NAMES: usize = 512;
-
-// Whether each of n two-byte numbers is below the bound; the first stands at p, each next one w bytes on.
+// Whether each of n two-byte numbers is below the bound; the first stands at p, each next one w bytes on. 8 and 9 both ask this.
 pub fn words_below(file: &[u8], w: usize, n: usize, p: usize, bound: usize) -> bool
     requires { ⌜ Words (now file) 2 w n p ⌝ }
     ensures { λ r. ⌜ r ≡ all (λ c. ltb c bound) (run (word (now (file .entry))) w n p) ⌝ }
@@ -49,7 +57,8 @@ pub fn words_below(file: &[u8], w: usize, n: usize, p: usize, bound: usize) -> b
     true
 }
 
-// 8: pairs of a name and another number, as many bytes apart as the stride, the other number so many bytes behind the name.
+// 8: whether n pairs name only numbers below their bounds. The first pair's name stands at p, each next one w bytes on; the other number
+// of a pair stands so many bytes behind its name.
 fn pairs_in(
     file: &[u8],
     w: usize,
@@ -69,29 +78,37 @@ fn pairs_in(
     words_below(file, w, n, p + behind, bound)
 }
 
+// 8: the names, types and predicate that a type has.
 fn type_in(file: &[u8], index: &[u16], t: usize) -> bool
     requires { ⌜ Indexed (now file) (now index) ⌝ }
     requires { ⌜ t < length (tablesOf (now file) .types) ⌝ }
-    ensures { λ r. ⌜ r ≡ typeIn (tablesOf (now (file .entry))) (typeAt (tablesOf (now (file .entry))) t) ⌝ }
+    ensures { λ r. ⌜ (
+        let T = tablesOf (now (file .entry)) in
+        r ≡ typeIn T (typeAt T t)
+        ) ⌝ }
 {
-    let names = count_of(file, index, 0);
-    let types = count_of(file, index, 1);
+    let names = count_of(file, index, NAMES);
+    let types = count_of(file, index, TYPES);
     match type_at(file, index, t) {
         TypeView::Int => true,
         TypeView::Str => true,
         TypeView::Bytes => true,
-        TypeView::Fact(p) => wide16(p.0) < count_of(file, index, 2),
+        TypeView::Fact(p) => wide16(p.0) < count_of(file, index, PREDICATES),
         TypeView::Record(n, at) => pairs_in(file, 4, n, at, names, 2, types),
         TypeView::Union(n, at) => pairs_in(file, 8, n, at, names, 6, types),
     }
 }
 
+// 8: the types of a predicate's key and value.
 fn predicate_in(file: &[u8], index: &[u16], t: usize) -> bool
     requires { ⌜ Indexed (now file) (now index) ⌝ }
     requires { ⌜ t < length (tablesOf (now file) .predicates) ⌝ }
-    ensures { λ r. ⌜ r ≡ predicateIn (tablesOf (now (file .entry))) (predicateAt (tablesOf (now (file .entry))) t) ⌝ }
+    ensures { λ r. ⌜ (
+        let T = tablesOf (now (file .entry)) in
+        r ≡ predicateIn T (predicateAt T t)
+        ) ⌝ }
 {
-    let types = count_of(file, index, 1);
+    let types = count_of(file, index, TYPES);
     let p = predicate_at(file, index, PredicateId(t as u16));
     if p.key >= types {
         return false;
@@ -103,13 +120,17 @@ fn predicate_in(file: &[u8], index: &[u16], t: usize) -> bool
     }
 }
 
+// 8: the names, nodes and predicate that a node has.
 fn node_in(file: &[u8], index: &[u16], n: usize) -> bool
     requires { ⌜ Indexed (now file) (now index) ⌝ }
     requires { ⌜ n < length (tablesOf (now file) .nodes) ⌝ }
-    ensures { λ r. ⌜ r ≡ nodeIn (tablesOf (now (file .entry))) (nodeAt (tablesOf (now (file .entry))) n) ⌝ }
+    ensures { λ r. ⌜ (
+        let T = tablesOf (now (file .entry)) in
+        r ≡ nodeIn T (nodeAt T n)
+        ) ⌝ }
 {
-    let names = count_of(file, index, 0);
-    let nodes = count_of(file, index, 3);
+    let names = count_of(file, index, NAMES);
+    let nodes = count_of(file, index, NODES);
     match node_at(file, index, n) {
         NodeView::Int(_) => true,
         NodeView::Str(x) => x < names,
@@ -125,7 +146,12 @@ fn node_in(file: &[u8], index: &[u16], n: usize) -> bool
         NodeView::Select(x, c) => both_below(x, names, c, nodes),
         NodeView::Disjunction => true,
         NodeView::Subquery => true,
-        NodeView::Fact(p, c) => both_below(wide16(p.0), count_of(file, index, 2), c, nodes),
+        NodeView::Fact(p, c) => both_below(
+            wide16(p.0),
+            count_of(file, index, PREDICATES),
+            c,
+            nodes,
+        ),
         NodeView::Arith => true,
         NodeView::Error => true,
     }
@@ -141,109 +167,130 @@ fn both_below(a: usize, m: usize, b: usize, n: usize) -> bool
     b < n
 }
 
+// 8: the name of a binding, and the number in its slot.
 fn binding_in(file: &[u8], index: &[u16], b: usize) -> bool
     requires { ⌜ Indexed (now file) (now index) ⌝ }
     requires { ⌜ b < length (tablesOf (now file) .bindings) ⌝ }
-    ensures { λ r. ⌜ r ≡ bindingIn (tablesOf (now (file .entry))) (bindingAt (tablesOf (now (file .entry))) b) ⌝ }
+    ensures { λ r. ⌜ (
+        let T = tablesOf (now (file .entry)) in
+        r ≡ bindingIn T (bindingAt T b)
+        ) ⌝ }
 {
-    let types = count_of(file, index, 1);
+    let types = count_of(file, index, TYPES);
     let v = binding_at(file, index, b);
-    if v.name >= count_of(file, index, 0) {
+    if v.name >= count_of(file, index, NAMES) {
         return false;
     }
     let slot = v.slot;
     match slot {
         SlotView::Row(_, p) => match p {
             MaybePredicate::Nothing => true,
-            MaybePredicate::Just(q) => wide16(q.0) < count_of(file, index, 2),
+            MaybePredicate::Just(q) => wide16(q.0) < count_of(file, index, PREDICATES),
         },
         SlotView::Key(_, t) => t < types,
         SlotView::Derived(_) => true,
         SlotView::Field(_, _, t) => t < types,
         SlotView::Value(_, t) => t < types,
-        SlotView::Const(n) => n < count_of(file, index, 3),
+        SlotView::Const(n) => n < count_of(file, index, NODES),
     }
 }
 
+// 8: the node and name of a hoisted entry.
 fn hoisted_in(file: &[u8], index: &[u16], k: usize) -> bool
     requires { ⌜ Indexed (now file) (now index) ⌝ }
     requires { ⌜ k < length (tablesOf (now file) .hoisted) ⌝ }
-    ensures { λ r. ⌜ r ≡ hoistedIn (tablesOf (now (file .entry))) (hoistedAt (tablesOf (now (file .entry))) k) ⌝ }
+    ensures { λ r. ⌜ (
+        let T = tablesOf (now (file .entry)) in
+        r ≡ hoistedIn T (hoistedAt T k)
+        ) ⌝ }
 {
     let h = hoisted_at(file, index, k);
     both_below(
         h.node,
-        count_of(file, index, 3),
+        count_of(file, index, NODES),
         h.name,
-        count_of(file, index, 0),
+        count_of(file, index, NAMES),
     )
 }
 
+// 8: the name and node of a constraint.
 fn constraint_in(file: &[u8], index: &[u16], k: usize) -> bool
     requires { ⌜ Indexed (now file) (now index) ⌝ }
     requires { ⌜ k < length (tablesOf (now file) .constraints) ⌝ }
-    ensures { λ r. ⌜ r ≡ constraintIn (tablesOf (now (file .entry))) (constraintAt (tablesOf (now (file .entry))) k) ⌝ }
+    ensures { λ r. ⌜ (
+        let T = tablesOf (now (file .entry)) in
+        r ≡ constraintIn T (constraintAt T k)
+        ) ⌝ }
 {
     let c = constraint_at(file, index, k);
     both_below(
         c.name,
-        count_of(file, index, 0),
+        count_of(file, index, NAMES),
         c.node,
-        count_of(file, index, 3),
+        count_of(file, index, NODES),
     )
 }
 
+// 8: the two nodes of a comparison.
 fn comparison_in(file: &[u8], index: &[u16], k: usize) -> bool
     requires { ⌜ Indexed (now file) (now index) ⌝ }
     requires { ⌜ k < length (tablesOf (now file) .comparisons) ⌝ }
-    ensures { λ r. ⌜ r ≡ comparisonIn (tablesOf (now (file .entry))) (comparisonAt (tablesOf (now (file .entry))) k) ⌝ }
+    ensures { λ r. ⌜ (
+        let T = tablesOf (now (file .entry)) in
+        r ≡ comparisonIn T (comparisonAt T k)
+        ) ⌝ }
 {
     let c = comparison_at(file, index, k);
     both_below(
         c.left,
-        count_of(file, index, 3),
+        count_of(file, index, NODES),
         c.right,
-        count_of(file, index, 3),
+        count_of(file, index, NODES),
     )
 }
 
+// 8: the predicate and node of a level.
 fn level_in(file: &[u8], index: &[u16], k: usize) -> bool
     requires { ⌜ Indexed (now file) (now index) ⌝ }
     requires { ⌜ k < length (tablesOf (now file) .levels) ⌝ }
-    ensures { λ r. ⌜ r ≡ levelIn (tablesOf (now (file .entry))) (levelAt (tablesOf (now (file .entry))) k) ⌝ }
+    ensures { λ r. ⌜ (
+        let T = tablesOf (now (file .entry)) in
+        r ≡ levelIn T (levelAt T k)
+        ) ⌝ }
 {
     let l = level_at(file, index, k);
     let p = l.predicate;
     both_below(
         wide16(p.0),
-        count_of(file, index, 2),
+        count_of(file, index, PREDICATES),
         l.node,
-        count_of(file, index, 3),
+        count_of(file, index, NODES),
     )
 }
 
-// A record of section s names only numbers that are below their sections' counts.
+// 8: record t of section s. Names and fetched entries name no number that is looked at.
 fn record_in(file: &[u8], index: &[u16], s: usize, t: usize) -> bool
     requires { ⌜ Indexed (now file) (now index) ⌝ }
-    requires { ⌜ (s < 10) × (t < sizeOf (tablesOf (now file)) s) ⌝ }
+    requires { ⌜ (s < sectionCount) × (t < sizeOf (tablesOf (now file)) s) ⌝ }
     ensures { λ r. ⌜ r ≡ recordIn (tablesOf (now (file .entry))) s t ⌝ }
 {
     match s {
-        1 => type_in(file, index, t),
-        2 => predicate_in(file, index, t),
-        3 => node_in(file, index, t),
-        4 => binding_in(file, index, t),
-        5 => hoisted_in(file, index, t),
-        7 => constraint_in(file, index, t),
-        8 => comparison_in(file, index, t),
-        9 => level_in(file, index, t),
+        TYPES => type_in(file, index, t),
+        PREDICATES => predicate_in(file, index, t),
+        NODES => node_in(file, index, t),
+        BINDINGS => binding_in(file, index, t),
+        HOISTED => hoisted_in(file, index, t),
+        CONSTRAINTS => constraint_in(file, index, t),
+        COMPARISONS => comparison_in(file, index, t),
+        LEVELS => level_in(file, index, t),
         _ => true,
     }
 }
 
+// 8: all records of section s.
 fn records_in(file: &[u8], index: &[u16], s: usize) -> bool
     requires { ⌜ Indexed (now file) (now index) ⌝ }
-    requires { ⌜ s < 10 ⌝ }
+    requires { ⌜ s < sectionCount ⌝ }
     ensures { λ r. ⌜ r ≡ sectionIn (tablesOf (now (file .entry))) s ⌝ }
 {
     let n = count_of(file, index, s);
@@ -257,13 +304,13 @@ fn records_in(file: &[u8], index: &[u16], s: usize) -> bool
     true
 }
 
-// 8: numbers at or past their section's count.
+// 8: whether every number is below its section's count.
 pub fn numbers_in(file: &[u8], index: &[u16]) -> bool
     requires { ⌜ Indexed (now file) (now index) ⌝ }
     ensures { λ r. ⌜ r ≡ numbersIn (tablesOf (now (file .entry))) ⌝ }
 {
     let mut s = 0;
-    while s < 10 {
+    while s < SECTIONS {
         if !records_in(file, index, s) {
             return false;
         }
@@ -272,6 +319,7 @@ pub fn numbers_in(file: &[u8], index: &[u16]) -> bool
     true
 }
 
+// 9: the children of type t.
 fn type_lower(file: &[u8], index: &[u16], t: usize) -> bool
     requires { ⌜ Indexed (now file) (now index) ⌝ }
     requires { ⌜ t < length (tablesOf (now file) .types) ⌝ }
@@ -287,11 +335,12 @@ fn type_lower(file: &[u8], index: &[u16], t: usize) -> bool
     }
 }
 
+// 9: the children of all types.
 fn types_lower(file: &[u8], index: &[u16]) -> bool
     requires { ⌜ Indexed (now file) (now index) ⌝ }
     ensures { λ r. ⌜ r ≡ typesLower (tablesOf (now (file .entry))) ⌝ }
 {
-    let n = count_of(file, index, 1);
+    let n = count_of(file, index, TYPES);
     let mut t = 0;
     while t < n {
         if !type_lower(file, index, t) {
@@ -302,6 +351,7 @@ fn types_lower(file: &[u8], index: &[u16]) -> bool
     true
 }
 
+// 9: the children of node n.
 fn node_lower(file: &[u8], index: &[u16], n: usize) -> bool
     requires { ⌜ Indexed (now file) (now index) ⌝ }
     requires { ⌜ n < length (tablesOf (now file) .nodes) ⌝ }
@@ -328,11 +378,12 @@ fn node_lower(file: &[u8], index: &[u16], n: usize) -> bool
     }
 }
 
+// 9: the children of all nodes.
 fn nodes_lower(file: &[u8], index: &[u16]) -> bool
     requires { ⌜ Indexed (now file) (now index) ⌝ }
     ensures { λ r. ⌜ r ≡ nodesLower (tablesOf (now (file .entry))) ⌝ }
 {
-    let n = count_of(file, index, 3);
+    let n = count_of(file, index, NODES);
     let mut t = 0;
     while t < n {
         if !node_lower(file, index, t) {
@@ -343,7 +394,7 @@ fn nodes_lower(file: &[u8], index: &[u16]) -> bool
     true
 }
 
-// 9: a child that is not lower than its parent.
+// 9: whether every child is lower than its parent.
 pub fn children_lower(file: &[u8], index: &[u16]) -> bool
     requires { ⌜ Indexed (now file) (now index) ⌝ }
     ensures { λ r. ⌜ r ≡ childrenLower (tablesOf (now (file .entry))) ⌝ }
@@ -354,7 +405,7 @@ pub fn children_lower(file: &[u8], index: &[u16]) -> bool
     nodes_lower(file, index)
 }
 
-// A two-byte number, or a four-byte one.
+// The number at p: four bytes if it is long, as a disc is, else two, as a name is.
 fn number_at(file: &[u8], long: bool, p: usize) -> u32
     requires { ⌜ p + 4 ≤ length (now file) ⌝ }
     ensures { λ r. ⌜ r ≡ numberAt (now (file .entry)) long p ⌝ }
@@ -426,17 +477,18 @@ fn all_distinct(file: &[u8], long: bool, w: usize, n: usize, p: usize) -> bool
     true
 }
 
-// Whether n names differ: each is marked where it is first met. A number that has no mark belongs to no name; then each is compared with each.
+// Whether n names differ: each is marked where it is first met. A number past the marks belongs to no name; then each is compared with
+// each.
 fn names_distinct(file: &[u8], w: usize, n: usize, p: usize) -> bool
     requires { ⌜ Words (now file) 4 w n p ⌝ }
     ensures { λ r. ⌜ r ≡ distinct (run (word (now (file .entry))) w n p) ⌝ }
 {
-    let mut marks = [0u8; NAMES];
+    let mut marks = [0u8; NAME_LIMIT];
     let mut left = n;
     let mut q = p;
     while left > 0 {
         let x = word_at(file, q);
-        if x >= NAMES {
+        if x >= NAME_LIMIT {
             return all_distinct(file, false, w, n, p);
         }
         if marks[x] != 0 {
@@ -449,6 +501,7 @@ fn names_distinct(file: &[u8], w: usize, n: usize, p: usize) -> bool
     true
 }
 
+// 10: the names of type t, and its discs if it is a Union.
 fn type_distinct(file: &[u8], index: &[u16], t: usize) -> bool
     requires { ⌜ Indexed (now file) (now index) ⌝ }
     requires { ⌜ t < length (tablesOf (now file) .types) ⌝ }
@@ -469,12 +522,12 @@ fn type_distinct(file: &[u8], index: &[u16], t: usize) -> bool
     }
 }
 
-// 10: a type that repeats a name, or a Union a disc.
+// 10: whether no type repeats a name, and no Union a disc.
 pub fn types_distinct(file: &[u8], index: &[u16]) -> bool
     requires { ⌜ Indexed (now file) (now index) ⌝ }
     ensures { λ r. ⌜ r ≡ typesDistinct (tablesOf (now (file .entry))) ⌝ }
 {
-    let n = count_of(file, index, 1);
+    let n = count_of(file, index, TYPES);
     let mut t = 0;
     while t < n {
         if !type_distinct(file, index, t) {

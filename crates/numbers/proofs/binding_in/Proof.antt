@@ -23,7 +23,7 @@ count-of-requires-2 : tie.Need-count-of-requires-2
 count-of-requires-2 c κs = search needs
 
 returns : tie.Need-returns
-returns c = binding-no _ _ _ _ (c .before .before .before .binding-at .ensures) (omega (arith, c .before .before .count-of2 .ensures))
+returns c = binding-no _ _ _ _ (c .before .before .before .binding-at .ensures .0) (omega (arith, c .before .before .count-of2 .ensures))
 
 enum-known-slot : tie.Need-enum-known-slot
 enum-known-slot c = search needs
@@ -60,31 +60,31 @@ count-of-requires-4 c κs = search needs
 
 returns-2 : tie.Need-returns-2
 unfolding noneOr
-returns-2 c = binding-yes _ _ _ _ (c .before .before .before .before .before .before .before .before .binding-at .ensures) _ (omega (arith, c .before .before .before .before .before .before .before .count-of2 .ensures)) (row-in _ _ _ _ _ _ _ (c .before .before .before .before .before .before .before .before .binding-at .ensures) (c .before .before .before .slot .given .1) (c .enum-told .given .1))
+returns-2 c = binding-yes _ _ _ _ (c .before .before .before .before .before .before .before .before .binding-at .ensures .0) _ (omega (arith, c .before .before .before .before .before .before .before .count-of2 .ensures)) (row-in _ _ _ _ _ _ _ (c .before .before .before .before .before .before .before .before .binding-at .ensures .0) (c .before .before .before .slot .given .1) (c .enum-told .given .1))
 
 returns-3 : tie.Need-returns-3
 unfolding noneOr isPredicate
-returns-3 c = binding-yes _ _ _ _ (c .before .before .before .before .before .before .before .before .before .before .before .binding-at .ensures) _ (omega (arith, c .before .before .before .before .before .before .before .before .before .before .count-of2 .ensures)) (ap₂ ltb (c .before .wide16 .ensures) (c .count-of3 .ensures) ∙ row-in _ _ _ _ _ _ _ (c .before .before .before .before .before .before .before .before .before .before .before .binding-at .ensures) (c .before .before .before .before .before .before .slot .given .1) (c .before .before .before .p .given .1))
+returns-3 c = binding-yes _ _ _ _ (c .before .before .before .before .before .before .before .before .before .before .before .binding-at .ensures .0) _ (omega (arith, c .before .before .before .before .before .before .before .before .before .before .count-of2 .ensures)) (ap₂ ltb (c .before .wide16 .ensures) (c .count-of3 .ensures) ∙ row-in _ _ _ _ _ _ _ (c .before .before .before .before .before .before .before .before .before .before .before .binding-at .ensures .0) (c .before .before .before .before .before .before .slot .given .1) (c .before .before .before .p .given .1))
 
 returns-4 : tie.Need-returns-4
 unfolding slotIn isType
-returns-4 c = binding-yes _ _ _ _ (c .before .before .before .before .before .before .binding-at .ensures) _ (omega (arith, c .before .before .before .before .before .count-of2 .ensures)) (ap (ltb _) (c .before .before .before .before .before .before .before .count-of .ensures) ∙ by-slot (slotIn _) (c .before .before .before .before .before .before .binding-at .ensures) (c .before .slot2 .given .1))
+returns-4 c = binding-yes _ _ _ _ (c .before .before .before .before .before .before .binding-at .ensures .0) _ (omega (arith, c .before .before .before .before .before .count-of2 .ensures)) (ap (ltb _) (c .before .before .before .before .before .before .before .count-of .ensures) ∙ by-slot (slotIn _) (c .before .before .before .before .before .before .binding-at .ensures .0) (c .before .slot2 .given .1))
 
 returns-5 : tie.Need-returns-5
 unfolding slotIn
-returns-5 c = binding-yes _ _ _ _ (c .before .before .before .before .before .binding-at .ensures) _ (omega (arith, c .before .before .before .before .count-of2 .ensures)) (by-slot (slotIn _) (c .before .before .before .before .before .binding-at .ensures) (c .enum-told2 .given .1))
+returns-5 c = binding-yes _ _ _ _ (c .before .before .before .before .before .binding-at .ensures .0) _ (omega (arith, c .before .before .before .before .count-of2 .ensures)) (by-slot (slotIn _) (c .before .before .before .before .before .binding-at .ensures .0) (c .enum-told2 .given .1))
 
 returns-6 : tie.Need-returns-6
 unfolding slotIn isType
-returns-6 c = binding-yes _ _ _ _ (c .before .before .before .before .before .before .binding-at .ensures) _ (omega (arith, c .before .before .before .before .before .count-of2 .ensures)) (ap (ltb _) (c .before .before .before .before .before .before .before .count-of .ensures) ∙ by-slot (slotIn _) (c .before .before .before .before .before .before .binding-at .ensures) (c .before .slot3 .given .1))
+returns-6 c = binding-yes _ _ _ _ (c .before .before .before .before .before .before .binding-at .ensures .0) _ (omega (arith, c .before .before .before .before .before .count-of2 .ensures)) (ap (ltb _) (c .before .before .before .before .before .before .before .count-of .ensures) ∙ by-slot (slotIn _) (c .before .before .before .before .before .before .binding-at .ensures .0) (c .before .slot3 .given .1))
 
 returns-7 : tie.Need-returns-7
 unfolding slotIn isType
-returns-7 c = binding-yes _ _ _ _ (c .before .before .before .before .before .before .binding-at .ensures) _ (omega (arith, c .before .before .before .before .before .count-of2 .ensures)) (ap (ltb _) (c .before .before .before .before .before .before .before .count-of .ensures) ∙ by-slot (slotIn _) (c .before .before .before .before .before .before .binding-at .ensures) (c .before .slot4 .given .1))
+returns-7 c = binding-yes _ _ _ _ (c .before .before .before .before .before .before .binding-at .ensures .0) _ (omega (arith, c .before .before .before .before .before .count-of2 .ensures)) (ap (ltb _) (c .before .before .before .before .before .before .before .count-of .ensures) ∙ by-slot (slotIn _) (c .before .before .before .before .before .before .binding-at .ensures .0) (c .before .slot4 .given .1))
 
 returns-8 : tie.Need-returns-8
 unfolding slotIn isNode
-returns-8 c = binding-yes _ _ _ _ (c .before .before .before .before .before .before .before .binding-at .ensures) _ (omega (arith, c .before .before .before .before .before .before .count-of2 .ensures)) (ap (ltb _) (c .count-of4 .ensures) ∙ by-slot (slotIn _) (c .before .before .before .before .before .before .before .binding-at .ensures) (c .before .before .slot5 .given .1))
+returns-8 c = binding-yes _ _ _ _ (c .before .before .before .before .before .before .before .binding-at .ensures .0) _ (omega (arith, c .before .before .before .before .before .before .count-of2 .ensures)) (ap (ltb _) (c .count-of4 .ensures) ∙ by-slot (slotIn _) (c .before .before .before .before .before .before .before .binding-at .ensures .0) (c .before .before .slot5 .given .1))
 
 pub binding-in-spec : {M : Type 1} → statement M
 binding-in-spec =

@@ -53,7 +53,7 @@ enum-known-m c = search needs
 
 pairs-in-requires : tie.Need-pairs-in-requires
 pairs-in-requires c κs =
-    let i = node-as (c .before .before .before .node-at .ensures) (c .before .m .given .1) .inside in
+    let i = node-as (c .before .before .before .node-at .ensures .0) (c .before .m .given .1) .inside in
     (words-4-first _ (c .before .before .before .before .before .before .before .before .pre .0 .small) _ _ 2 i (omega arith), words-4 _ (c .before .before .before .before .before .before .before .before .pre .0 .small) _ _ 2 2 i (omega arith))
 
 enum-known-x-5 : tie.Need-enum-known-x-5
@@ -97,70 +97,70 @@ enum-told-8 c = search needs
 
 returns : tie.Need-returns
 unfolding nodeIn
-returns c = by-node (nodeIn _) (c .before .before .node-at .ensures) (c .enum-told .given .1)
+returns c = by-node (nodeIn _) (c .before .before .node-at .ensures .0) (c .enum-told .given .1)
 
 returns-2 : tie.Need-returns-2
 unfolding nodeIn isName
-returns-2 c = ap (ltb _) (c .before .before .before .before .before .count-of .ensures) ∙ by-node (nodeIn _) (c .before .before .before .node-at .ensures) (c .before .x .given .1)
+returns-2 c = ap (ltb _) (c .before .before .before .before .before .count-of .ensures) ∙ by-node (nodeIn _) (c .before .before .before .node-at .ensures .0) (c .before .x .given .1)
 
 returns-3 : tie.Need-returns-3
 unfolding nodeIn
-returns-3 c = by-node (nodeIn _) (c .before .before .node-at .ensures) (c .enum-told2 .given .1)
+returns-3 c = by-node (nodeIn _) (c .before .before .node-at .ensures .0) (c .enum-told2 .given .1)
 
 returns-4 : tie.Need-returns-4
 unfolding nodeIn isName
-returns-4 c = ap (ltb _) (c .before .before .before .before .before .count-of .ensures) ∙ by-node (nodeIn _) (c .before .before .before .node-at .ensures) (c .before .x2 .given .1)
+returns-4 c = ap (ltb _) (c .before .before .before .before .before .count-of .ensures) ∙ by-node (nodeIn _) (c .before .before .before .node-at .ensures .0) (c .before .x2 .given .1)
 
 returns-5 : tie.Need-returns-5
 unfolding nodeIn
-returns-5 c = by-node (nodeIn _) (c .before .before .node-at .ensures) (c .enum-told3 .given .1)
+returns-5 c = by-node (nodeIn _) (c .before .before .node-at .ensures .0) (c .enum-told3 .given .1)
 
 returns-6 : tie.Need-returns-6
 unfolding nodeIn
-returns-6 c = by-node (nodeIn _) (c .before .before .node-at .ensures) (c .enum-told4 .given .1)
+returns-6 c = by-node (nodeIn _) (c .before .before .node-at .ensures .0) (c .enum-told4 .given .1)
 
 returns-7 : tie.Need-returns-7
 unfolding nodeIn isName
-returns-7 c = ap (ltb _) (c .before .before .before .before .before .count-of .ensures) ∙ by-node (nodeIn _) (c .before .before .before .node-at .ensures) (c .before .x3 .given .1)
+returns-7 c = ap (ltb _) (c .before .before .before .before .before .count-of .ensures) ∙ by-node (nodeIn _) (c .before .before .before .node-at .ensures .0) (c .before .x3 .given .1)
 
 returns-8 : tie.Need-returns-8
 unfolding nodeIn isName
-returns-8 c = ap (ltb _) (c .before .before .before .before .before .count-of .ensures) ∙ by-node (nodeIn _) (c .before .before .before .node-at .ensures) (c .before .x4 .given .1)
+returns-8 c = ap (ltb _) (c .before .before .before .before .before .count-of .ensures) ∙ by-node (nodeIn _) (c .before .before .before .node-at .ensures .0) (c .before .x4 .given .1)
 
 returns-9 : tie.Need-returns-9
-returns-9 c = c .pairs-in .ensures ∙ pairs-as _ _ _ _ _ (c .before .before .before .before .before .before .count-of .ensures) (c .before .before .before .before .before .count-of2 .ensures) ∙ patterns-in _ _ _ _ ∙ by-node (nodeIn _) (c .before .before .before .before .node-at .ensures) (c .before .before .m .given .1)
+returns-9 c = c .pairs-in .ensures ∙ pairs-as _ _ _ _ _ (c .before .before .before .before .before .before .count-of .ensures) (c .before .before .before .before .before .count-of2 .ensures) ∙ patterns-in _ _ _ _ ∙ by-node (nodeIn _) (c .before .before .before .before .node-at .ensures .0) (c .before .before .m .given .1)
 
 returns-10 : tie.Need-returns-10
 unfolding nodeIn isName isNode
-returns-10 c = c .both-below .ensures ∙ below-as refl (c .before .before .before .before .before .before .count-of .ensures) refl (c .before .before .before .before .before .count-of2 .ensures) ∙ by-node (nodeIn _) (c .before .before .before .before .node-at .ensures) (c .before .before .x5 .given .1)
+returns-10 c = c .both-below .ensures ∙ below-as refl (c .before .before .before .before .before .before .count-of .ensures) refl (c .before .before .before .before .before .count-of2 .ensures) ∙ by-node (nodeIn _) (c .before .before .before .before .node-at .ensures .0) (c .before .before .x5 .given .1)
 
 returns-11 : tie.Need-returns-11
 unfolding nodeIn isNode
-returns-11 c = ap (ltb _) (c .before .before .before .before .count-of2 .ensures) ∙ by-node (nodeIn _) (c .before .before .before .node-at .ensures) (c .before .c .given .1)
+returns-11 c = ap (ltb _) (c .before .before .before .before .count-of2 .ensures) ∙ by-node (nodeIn _) (c .before .before .before .node-at .ensures .0) (c .before .c .given .1)
 
 returns-12 : tie.Need-returns-12
 unfolding nodeIn isName isNode
-returns-12 c = c .both-below2 .ensures ∙ below-as refl (c .before .before .before .before .before .before .count-of .ensures) refl (c .before .before .before .before .before .count-of2 .ensures) ∙ by-node (nodeIn _) (c .before .before .before .before .node-at .ensures) (c .before .before .x6 .given .1)
+returns-12 c = c .both-below2 .ensures ∙ below-as refl (c .before .before .before .before .before .before .count-of .ensures) refl (c .before .before .before .before .before .count-of2 .ensures) ∙ by-node (nodeIn _) (c .before .before .before .before .node-at .ensures .0) (c .before .before .x6 .given .1)
 
 returns-13 : tie.Need-returns-13
 unfolding nodeIn
-returns-13 c = by-node (nodeIn _) (c .before .before .node-at .ensures) (c .enum-told5 .given .1)
+returns-13 c = by-node (nodeIn _) (c .before .before .node-at .ensures .0) (c .enum-told5 .given .1)
 
 returns-14 : tie.Need-returns-14
 unfolding nodeIn
-returns-14 c = by-node (nodeIn _) (c .before .before .node-at .ensures) (c .enum-told6 .given .1)
+returns-14 c = by-node (nodeIn _) (c .before .before .node-at .ensures .0) (c .enum-told6 .given .1)
 
 returns-15 : tie.Need-returns-15
 unfolding nodeIn isPredicate isNode
-returns-15 c = c .both-below3 .ensures ∙ below-as (c .before .before .wide16 .ensures) (c .before .count-of3 .ensures) refl (c .before .before .before .before .before .before .before .count-of2 .ensures) ∙ by-node (nodeIn _) (c .before .before .before .before .before .before .node-at .ensures) (c .before .before .before .before .p .given .1)
+returns-15 c = c .both-below3 .ensures ∙ below-as (c .before .before .wide16 .ensures) (c .before .count-of3 .ensures) refl (c .before .before .before .before .before .before .before .count-of2 .ensures) ∙ by-node (nodeIn _) (c .before .before .before .before .before .before .node-at .ensures .0) (c .before .before .before .before .p .given .1)
 
 returns-16 : tie.Need-returns-16
 unfolding nodeIn
-returns-16 c = by-node (nodeIn _) (c .before .before .node-at .ensures) (c .enum-told7 .given .1)
+returns-16 c = by-node (nodeIn _) (c .before .before .node-at .ensures .0) (c .enum-told7 .given .1)
 
 returns-17 : tie.Need-returns-17
 unfolding nodeIn
-returns-17 c = by-node (nodeIn _) (c .before .before .node-at .ensures) (c .enum-told8 .given .1)
+returns-17 c = by-node (nodeIn _) (c .before .before .node-at .ensures .0) (c .enum-told8 .given .1)
 
 pub node-in-spec : {M : Type 1} → statement M
 node-in-spec =

@@ -46,7 +46,7 @@ enum-known-n c = search needs
 
 pairs-in-requires : tie.Need-pairs-in-requires
 pairs-in-requires c κs =
-    let i = type-as (c .before .before .before .type-at .ensures) (c .before .n .given .1) .inside in
+    let i = type-as (c .before .before .before .type-at .ensures .0) (c .before .n .given .1) .inside in
     (words-4-first _ (c .before .before .before .before .before .before .before .before .pre .0 .small) _ _ 2 i (omega arith), words-4 _ (c .before .before .before .before .before .before .before .before .pre .0 .small) _ _ 2 2 i (omega arith))
 
 enum-known-n-2 : tie.Need-enum-known-n-2
@@ -54,30 +54,30 @@ enum-known-n-2 c = search needs
 
 pairs-in-requires-2 : tie.Need-pairs-in-requires-2
 pairs-in-requires-2 c κs =
-    let i = type-as (c .before .before .before .type-at .ensures) (c .before .n2 .given .1) .inside in
+    let i = type-as (c .before .before .before .type-at .ensures .0) (c .before .n2 .given .1) .inside in
     (words-8-first _ (c .before .before .before .before .before .before .before .before .pre .0 .small) _ _ 2 i (omega arith), words-8 _ (c .before .before .before .before .before .before .before .before .pre .0 .small) _ _ 2 6 i (omega arith))
 
 returns : tie.Need-returns
 unfolding typeIn
-returns c = by-type (typeIn _) (c .before .before .type-at .ensures) (c .enum-told .given .1)
+returns c = by-type (typeIn _) (c .before .before .type-at .ensures .0) (c .enum-told .given .1)
 
 returns-2 : tie.Need-returns-2
 unfolding typeIn
-returns-2 c = by-type (typeIn _) (c .before .before .type-at .ensures) (c .enum-told2 .given .1)
+returns-2 c = by-type (typeIn _) (c .before .before .type-at .ensures .0) (c .enum-told2 .given .1)
 
 returns-3 : tie.Need-returns-3
 unfolding typeIn
-returns-3 c = by-type (typeIn _) (c .before .before .type-at .ensures) (c .enum-told3 .given .1)
+returns-3 c = by-type (typeIn _) (c .before .before .type-at .ensures .0) (c .enum-told3 .given .1)
 
 returns-4 : tie.Need-returns-4
 unfolding typeIn isPredicate
-returns-4 c = ap₂ ltb (c .before .wide16 .ensures) (c .count-of3 .ensures) ∙ by-type (typeIn _) (c .before .before .before .before .before .type-at .ensures) (c .before .before .before .p .given .1)
+returns-4 c = ap₂ ltb (c .before .wide16 .ensures) (c .count-of3 .ensures) ∙ by-type (typeIn _) (c .before .before .before .before .before .type-at .ensures .0) (c .before .before .before .p .given .1)
 
 returns-5 : tie.Need-returns-5
-returns-5 c = c .pairs-in .ensures ∙ pairs-as _ _ _ _ _ (c .before .before .before .before .before .before .count-of .ensures) (c .before .before .before .before .before .count-of2 .ensures) ∙ fields-in _ _ _ _ ∙ by-type (typeIn _) (c .before .before .before .before .type-at .ensures) (c .before .before .n .given .1)
+returns-5 c = c .pairs-in .ensures ∙ pairs-as _ _ _ _ _ (c .before .before .before .before .before .before .count-of .ensures) (c .before .before .before .before .before .count-of2 .ensures) ∙ fields-in _ _ _ _ ∙ by-type (typeIn _) (c .before .before .before .before .type-at .ensures .0) (c .before .before .n .given .1)
 
 returns-6 : tie.Need-returns-6
-returns-6 c = c .pairs-in2 .ensures ∙ pairs-as _ _ _ _ _ (c .before .before .before .before .before .before .count-of .ensures) (c .before .before .before .before .before .count-of2 .ensures) ∙ alternatives-in _ _ _ _ ∙ by-type (typeIn _) (c .before .before .before .before .type-at .ensures) (c .before .before .n2 .given .1)
+returns-6 c = c .pairs-in2 .ensures ∙ pairs-as _ _ _ _ _ (c .before .before .before .before .before .before .count-of .ensures) (c .before .before .before .before .before .count-of2 .ensures) ∙ alternatives-in _ _ _ _ ∙ by-type (typeIn _) (c .before .before .before .before .type-at .ensures .0) (c .before .before .n2 .given .1)
 
 pub type-in-spec : {M : Type 1} → statement M
 type-in-spec =

@@ -40,43 +40,43 @@ enum-known-n : tie.Need-enum-known-n
 enum-known-n c = search needs
 
 add-words-below : tie.Need-add-words-below
-add-words-below c = let i = type-as (c .before .before .before .type-at .ensures) (c .before .n .given .1) .inside in omega (arith, i, c .before .before .before .before .before .before .pre .0 .small)
+add-words-below c = let i = type-as (c .before .before .before .type-at .ensures .0) (c .before .n .given .1) .inside in omega (arith, i, c .before .before .before .before .before .before .pre .0 .small)
 
 words-below-requires : tie.Need-words-below-requires
-words-below-requires c κs = let i = type-as (c .before .before .before .type-at .ensures) (c .before .n .given .1) .inside in words-4 _ (c .before .before .before .before .before .before .pre .0 .small) _ _ 2 2 i (omega arith)
+words-below-requires c κs = let i = type-as (c .before .before .before .type-at .ensures .0) (c .before .n .given .1) .inside in words-4 _ (c .before .before .before .before .before .before .pre .0 .small) _ _ 2 2 i (omega arith)
 
 enum-known-n-2 : tie.Need-enum-known-n-2
 enum-known-n-2 c = search needs
 
 add-words-below-2 : tie.Need-add-words-below-2
-add-words-below-2 c = let i = type-as (c .before .before .before .type-at .ensures) (c .before .n2 .given .1) .inside in omega (arith, i, c .before .before .before .before .before .before .pre .0 .small)
+add-words-below-2 c = let i = type-as (c .before .before .before .type-at .ensures .0) (c .before .n2 .given .1) .inside in omega (arith, i, c .before .before .before .before .before .before .pre .0 .small)
 
 words-below-requires-2 : tie.Need-words-below-requires-2
-words-below-requires-2 c κs = let i = type-as (c .before .before .before .type-at .ensures) (c .before .n2 .given .1) .inside in words-8 _ (c .before .before .before .before .before .before .pre .0 .small) _ _ 2 6 i (omega arith)
+words-below-requires-2 c κs = let i = type-as (c .before .before .before .type-at .ensures .0) (c .before .n2 .given .1) .inside in words-8 _ (c .before .before .before .before .before .before .pre .0 .small) _ _ 2 6 i (omega arith)
 
 returns : tie.Need-returns
 unfolding lower childTypes all
-returns c = by-type (lower _) (c .before .before .type-at .ensures) (c .enum-told .given .1)
+returns c = by-type (lower _) (c .before .before .type-at .ensures .0) (c .enum-told .given .1)
 
 returns-2 : tie.Need-returns-2
 unfolding lower childTypes all
-returns-2 c = by-type (lower _) (c .before .before .type-at .ensures) (c .enum-told2 .given .1)
+returns-2 c = by-type (lower _) (c .before .before .type-at .ensures .0) (c .enum-told2 .given .1)
 
 returns-3 : tie.Need-returns-3
 unfolding lower childTypes all
-returns-3 c = by-type (lower _) (c .before .before .type-at .ensures) (c .enum-told3 .given .1)
+returns-3 c = by-type (lower _) (c .before .before .type-at .ensures .0) (c .enum-told3 .given .1)
 
 returns-4 : tie.Need-returns-4
 unfolding lower childTypes all
-returns-4 c = by-type (lower _) (c .before .before .type-at .ensures) (c .enum-told4 .given .1)
+returns-4 c = by-type (lower _) (c .before .before .type-at .ensures .0) (c .enum-told4 .given .1)
 
 returns-5 : tie.Need-returns-5
 unfolding lower
-returns-5 c = c .words-below .ensures ∙ ap (all (λ k. ltb k (c .before .before .before .before .before .before .before .args .t))) (record-children _ _ _) ∙ by-type (lower _) (c .before .before .before .before .type-at .ensures) (c .before .before .n .given .1)
+returns-5 c = c .words-below .ensures ∙ ap (all (λ k. ltb k (c .before .before .before .before .before .before .before .args .t))) (record-children _ _ _) ∙ by-type (lower _) (c .before .before .before .before .type-at .ensures .0) (c .before .before .n .given .1)
 
 returns-6 : tie.Need-returns-6
 unfolding lower
-returns-6 c = c .words-below2 .ensures ∙ ap (all (λ k. ltb k (c .before .before .before .before .before .before .before .args .t))) (union-children _ _ _) ∙ by-type (lower _) (c .before .before .before .before .type-at .ensures) (c .before .before .n2 .given .1)
+returns-6 c = c .words-below2 .ensures ∙ ap (all (λ k. ltb k (c .before .before .before .before .before .before .before .args .t))) (union-children _ _ _) ∙ by-type (lower _) (c .before .before .before .before .type-at .ensures .0) (c .before .before .n2 .given .1)
 
 pub type-lower-spec : {M : Type 1} → statement M
 type-lower-spec =
