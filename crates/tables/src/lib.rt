@@ -11,6 +11,7 @@ ghost use Rattle.ready.specs.Ready.{Ready};
 ghost use Rattle.tables.specs.Tables.{constBound, foundOption, alternativeOption, SeenRun, SeenSlot};
 use file::CONSTANTS;
 use file::LAST_BINDINGS;
+use file::NAMES;
 use file::wide16;
 use views::Alternative;
 use views::NodeView;
@@ -23,12 +24,13 @@ use views::field_pattern_at;
 use views::node_at;
 use views::type_at;
 
+// The number that a search found.
 pub enum Found {
     Nothing,
     At(usize),
 }
 
-// A count and where the first stands.
+// Fields, alternatives or pairs: how many there are, and where the first stands.
 pub enum Run {
     Nothing,
     Of(usize, usize),
@@ -44,6 +46,7 @@ pub enum MaybeSlot {
     Just(SlotView),
 }
 
+// Whether node n is constant: the checks left that in the index.
 pub fn is_constant(file: &[u8], index: &[u16], n: usize) -> bool
     requires { ⌜ Ready (now file) (now index) ⌝ }
     requires { ⌜ n < length (tablesOf (now file) .nodes) ⌝ }
@@ -55,7 +58,7 @@ pub fn is_constant(file: &[u8], index: &[u16], n: usize) -> bool
     true
 }
 
-// A Var's name.
+// The name of a node that is a Var.
 pub fn var_name(file: &[u8], index: &[u16], n: usize) -> Found
     requires { ⌜ Indexed (now file) (now index) ⌝ }
     requires { ⌜ n < length (tablesOf (now file) .nodes) ⌝ }
@@ -68,11 +71,14 @@ pub fn var_name(file: &[u8], index: &[u16], n: usize) -> Found
     }
 }
 
-// A Record type's fields.
+// The fields of a type that is a Record.
 pub fn record_ty(file: &[u8], index: &[u16], t: usize) -> Run
     requires { ⌜ Indexed (now file) (now index) ⌝ }
     requires { ⌜ t < length (tablesOf (now file) .types) ⌝ }
-    ensures { λ r. ⌜ SeenRun (now (file .entry)) (fieldAt (now (file .entry))) 4 (recordTy (typeAt (tablesOf (now (file .entry))) t)) r ⌝ }
+    ensures { λ r. ⌜ (
+        let f = now (file .entry) in
+        SeenRun f (fieldAt f) 4 (recordTy (typeAt (tablesOf f) t)) r
+        ) ⌝ }
 {
     if let TypeView::Record(n, at) = type_at(file, index, t) {
         Run::Of(n, at)
@@ -81,11 +87,14 @@ pub fn record_ty(file: &[u8], index: &[u16], t: usize) -> Run
     }
 }
 
-// A Union type's alternatives.
+// The alternatives of a type that is a Union.
 pub fn union_ty(file: &[u8], index: &[u16], t: usize) -> Run
     requires { ⌜ Indexed (now file) (now index) ⌝ }
     requires { ⌜ t < length (tablesOf (now file) .types) ⌝ }
-    ensures { λ r. ⌜ SeenRun (now (file .entry)) (alternativeAt (now (file .entry))) 8 (unionTy (typeAt (tablesOf (now (file .entry))) t)) r ⌝ }
+    ensures { λ r. ⌜ (
+        let f = now (file .entry) in
+        SeenRun f (alternativeAt f) 8 (unionTy (typeAt (tablesOf f) t)) r
+        ) ⌝ }
 {
     if let TypeView::Union(n, at) = type_at(file, index, t) {
         Run::Of(n, at)
@@ -94,7 +103,7 @@ pub fn union_ty(file: &[u8], index: &[u16], t: usize) -> Run
     }
 }
 
-// The node that a Record of n pairs gives for a name: its first.
+// The node that a Record of n pairs gives for a name: that of the first pair of the name.
 pub fn field_pattern(file: &[u8], at: usize, n: usize, name: usize) -> Found
     requires { ⌜ at + 4 * n ≤ length (now file) ⌝ }
     ensures { λ r. ⌜ foundOption r ≡ fieldPattern (run (patternAt (now (file .entry))) 4 n at) name ⌝ }
@@ -110,7 +119,7 @@ pub fn field_pattern(file: &[u8], at: usize, n: usize, name: usize) -> Found
     Found::Nothing
 }
 
-// A Union type's alternative of that name.
+// The alternative of that name among the n of a Union type.
 pub fn alternative_of(file: &[u8], at: usize, n: usize, name: usize) -> MaybeAlternative
     requires { ⌜ at + 8 * n ≤ length (now file) ⌝ }
     ensures { λ r. ⌜ alternativeOption r ≡ Constant.alternativeOf (run (alternativeAt (now (file .entry))) 8 n at) name ⌝ }
@@ -131,7 +140,7 @@ pub fn lookup(file: &[u8], index: &[u16], name: usize) -> MaybeSlot
     requires { ⌜ Ready (now file) (now index) ⌝ }
     ensures { λ r. ⌜ SeenSlot (now (file .entry)) (Constant.lookup (tablesOf (now (file .entry)) .bindings) name) r ⌝ }
 {
-    if name >= count_of(file, index, 0) {
+    if name >= count_of(file, index, NAMES) {
         return MaybeSlot::Nothing;
     }
     let k = wide16(index[LAST_BINDINGS + name]);

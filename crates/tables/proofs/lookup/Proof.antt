@@ -51,7 +51,7 @@ returns-3 : tie.Need-returns-3
 returns-3 c =
     let e = c .before in
     let s = c .before .before .before .before in
-    last-slot _ _ _ _ (c .binding-at .ensures) (last-some _ _ _ (e .before .wide16 .ensures ∙ c .before .before .before .before .before .before .before .before .pre .last-bindings _ (omega (arith, c .before .before .before .before .before .count-of .ensures, s .if1 .left))) (e .if2 .left) .1)
+    last-slot _ _ _ _ (c .binding-at .ensures .0) (last-some _ _ _ (e .before .wide16 .ensures ∙ c .before .before .before .before .before .before .before .before .pre .last-bindings _ (omega (arith, c .before .before .before .before .before .count-of .ensures, s .if1 .left))) (e .if2 .left) .1)
 
 pub lookup-spec : {M : Type 1} → statement M
 lookup-spec =

@@ -10,10 +10,10 @@ enum-known-x : tie.Need-enum-known-x
 enum-known-x c = search needs
 
 returns : tie.Need-returns
-returns c = var-is _ _ _ (c .before .before .before .node-at .ensures) _ (c .before .x .given .1)
+returns c = var-is _ _ _ (c .before .before .before .node-at .ensures .0) _ (c .before .x .given .1)
 
 returns-2 : tie.Need-returns-2
-returns-2 c = var-not _ _ _ (c .before .node-at .ensures) (c .match .keys2)
+returns-2 c = var-not _ _ _ (c .before .node-at .ensures .0) (c .match .keys2)
 
 pub var-name-spec : {M : Type 1} → statement M
 var-name-spec = tie.close (tie.spec node-at-requires enum-known-x returns returns-2)
