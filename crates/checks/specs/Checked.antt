@@ -18,6 +18,7 @@ use Rattle.file.specs.Tables.{Indexed, tablesOf, lastBinding}
 use Rattle.checks.specs.declared.Verdict.{Verdict}
 use Rattle.checks.specs.declared.Verdict.the-variants as V′
 
+-- how the index says that a node is constant
 abbrev pub bitOf : Bool → ℕ
 bitOf true = 1
 bitOf false = 0
@@ -61,6 +62,7 @@ pub record Filled (f ix : List ℕ) : Type 0 where
   pub constant-at : (n : ℕ) → n < length (tablesOf f .nodes) → getD ix (constantsBase + n) 0 ≡ bitOf (isConstant (tablesOf f) n)
   pub last-at : (x : ℕ) → x < length (tablesOf f .names) → getD ix (lastBindingsBase + x) 0 ≡ lastBinding (tablesOf f) x
 
+-- the same, with what 8 and 9 found
 pub record Numbered (f ix : List ℕ) : Type 0 where
   pub filled : Filled f ix
   pub numbers : numbersIn (tablesOf f) ≡ true
@@ -77,8 +79,15 @@ pub record Checked (f ix : List ℕ) : Type 0 where
 
 -- the first of the checks 10 to 14 that fails
 abbrev pub laterChecks : List Check
-laterChecks = check 10 typesDistinct ∷ check 11 typesShallow ∷ check 12 childrenOnce ∷ check 13 constsConstant ∷ check 14 pathsFit ∷ []
+laterChecks =
+    check 10 typesDistinct ∷
+    check 11 typesShallow ∷
+    check 12 childrenOnce ∷
+    check 13 constsConstant ∷
+    check 14 pathsFit ∷
+    []
 
+-- the code's verdict for the rules' fault
 abbrev pub verdictOf : Option ℕ → Verdict
 verdictOf none = V′.Accepted
 verdictOf (some n) = V′.Refused n

@@ -8,18 +8,25 @@ ghost use lib.ListN.{length, getD, drop, replicate};
 ghost use lib.Seq.{sets};
 ghost use lib.Dec.{ltb};
 ghost use Rattle.rules.specs.Base.{all, concatMap};
-ghost use Rattle.rules.specs.Limits.{fileLimit};
+ghost use Rattle.rules.specs.Limits.{fileLimit, nameLimit, typeLimit, nodeLimit};
 ghost use Rattle.rules.specs.File.{typeAt, nodeAt, childNodes, deepest, depthOf, depths, depth, constantOf, isConstant};
 ghost use Rattle.rules.specs.Checks.{numbersIn, childrenLower, typesShallow, childrenOnce, slotConstant, constsConstant, slotFits, pathsFit};
-ghost use Rattle.file.specs.Steps.{word, depthsBase, constantsBase, lastBindingsBase, indexLength};
+ghost use Rattle.file.specs.Steps.{wordLimit, word, depthsBase, constantsBase, lastBindingsBase, indexLength};
 ghost use Rattle.file.specs.Tables.{Indexed, tablesOf};
 ghost use Rattle.views.specs.Views.{run, bindingAt};
 ghost use Rattle.numbers.specs.Numbers.{Words};
 ghost use Rattle.checks.specs.Checked.{bitOf, flagsAt, flagsOf, once, marked, Filled, Numbered, Checked, slotsFit, fetchedFit, lastBindings, laterFault, allFault, checkedIndex, fileVerdict, fileIndex};
+use file::BINDINGS;
 use file::CONSTANTS;
+use file::DEPTH_LIMIT;
 use file::DEPTHS;
+use file::FETCHED;
 use file::LAST_BINDINGS;
+use file::NAMES;
+use file::NODE_LIMIT;
+use file::NODES;
 use file::Step;
+use file::TYPES;
 use file::base;
 use file::read;
 use file::wide;
@@ -38,6 +45,7 @@ use views::fetched_at;
 use views::node_at;
 use views::type_at;
 
+// Whether a file is accepted, or the number of its refusal.
 pub enum Verdict {
     Accepted,
     Refused(u8),
@@ -45,10 +53,14 @@ pub enum Verdict {
 
 // The greatest of the depths of n child types, whose numbers stand from p on, w bytes apart.
 fn deepest_of(file: &[u8], index: &[u16], t: usize, w: usize, n: usize, p: usize) -> usize
-    requires { ⌜ (length (now index) ≡ indexLength) × (t ≤ 512) ⌝ }
+    requires { ⌜ (length (now index) ≡ indexLength) × (t ≤ typeLimit) ⌝ }
     requires { ⌜ Words (now file) 2 w n p ⌝ }
     requires { ⌜ all (λ c. ltb c t) (run (word (now file)) w n p) ≡ true ⌝ }
-    ensures { λ r. ⌜ (r ≡ deepest (drop depthsBase (now (index .entry))) (run (word (now (file .entry))) w n p)) × (r < 65536) ⌝ }
+    ensures gives { λ r. ⌜ (
+        let below = drop depthsBase (now (index .entry)) in
+        r ≡ deepest below (run (word (now (file .entry))) w n p)
+        ) ⌝ }
+    ensures bounded { λ r. ⌜ r < wordLimit ⌝ }
 {
     let mut left = n;
     let mut q = p;
@@ -62,6 +74,7 @@ fn deepest_of(file: &[u8], index: &[u16], t: usize, w: usize, n: usize, p: usize
     most
 }
 
+// The larger of two depths.
 fn larger(a: usize, b: usize) -> usize
     ensures { λ r. ⌜ r ≡ max a b ⌝ }
 {
@@ -73,7 +86,10 @@ fn type_depth(file: &[u8], index: &[u16], t: usize) -> usize
     requires { ⌜ Indexed (now file) (now index) ⌝ }
     requires { ⌜ t < length (tablesOf (now file) .types) ⌝ }
     requires { ⌜ childrenLower (tablesOf (now file)) ≡ true ⌝ }
-    ensures { λ r. ⌜ r ≡ depthOf (drop depthsBase (now (index .entry))) (typeAt (tablesOf (now (file .entry))) t) ⌝ }
+    ensures { λ r. ⌜ (
+        let below = drop depthsBase (now (index .entry)) in
+        r ≡ depthOf below (typeAt (tablesOf (now (file .entry))) t)
+        ) ⌝ }
 {
     match type_at(file, index, t) {
         TypeView::Int => 1,
@@ -89,9 +105,12 @@ fn type_depth(file: &[u8], index: &[u16], t: usize) -> usize
 fn fill_depths(file: &[u8], index: &mut [u16])
     requires { ⌜ Indexed (now file) (now index) ⌝ }
     requires { ⌜ childrenLower (tablesOf (now file)) ≡ true ⌝ }
-    ensures { λ r. ⌜ now (index .exit) ≡ sets (now (index .entry)) depthsBase (depths (tablesOf (now (file .entry)))) ⌝ }
+    ensures { λ r. ⌜ (
+        let T = tablesOf (now (file .entry)) in
+        now (index .exit) ≡ sets (now (index .entry)) depthsBase (depths T)
+        ) ⌝ }
 {
-    let n = count_of(file, &index[..], 1);
+    let n = count_of(file, &index[..], TYPES);
     let mut t = 0;
     while t < n {
         let d = type_depth(file, &index[..], t);
@@ -102,10 +121,13 @@ fn fill_depths(file: &[u8], index: &mut [u16])
 
 // Whether each of n child nodes is constant; their numbers stand from p on, four bytes apart.
 fn all_constant(file: &[u8], index: &[u16], m: usize, n: usize, p: usize) -> bool
-    requires { ⌜ (length (now index) ≡ indexLength) × (m ≤ 2048) ⌝ }
+    requires { ⌜ (length (now index) ≡ indexLength) × (m ≤ nodeLimit) ⌝ }
     requires { ⌜ Words (now file) 2 4 n p ⌝ }
     requires { ⌜ all (λ c. ltb c m) (run (word (now file)) 4 n p) ≡ true ⌝ }
-    ensures { λ r. ⌜ r ≡ all (λ c. getD (flagsAt (now (index .entry))) c false) (run (word (now (file .entry))) 4 n p) ⌝ }
+    ensures { λ r. ⌜ (
+        let flags = flagsAt (now (index .entry)) in
+        r ≡ all (λ c. getD flags c false) (run (word (now (file .entry))) 4 n p)
+        ) ⌝ }
 {
     let mut left = n;
     let mut q = p;
@@ -124,7 +146,10 @@ fn node_constant(file: &[u8], index: &[u16], n: usize) -> bool
     requires { ⌜ Indexed (now file) (now index) ⌝ }
     requires { ⌜ n < length (tablesOf (now file) .nodes) ⌝ }
     requires { ⌜ childrenLower (tablesOf (now file)) ≡ true ⌝ }
-    ensures { λ r. ⌜ r ≡ constantOf (flagsAt (now (index .entry))) (nodeAt (tablesOf (now (file .entry))) n) ⌝ }
+    ensures { λ r. ⌜ (
+        let flags = flagsAt (now (index .entry)) in
+        r ≡ constantOf flags (nodeAt (tablesOf (now (file .entry))) n)
+        ) ⌝ }
 {
     match node_at(file, index, n) {
         NodeView::Int(_) => true,
@@ -147,6 +172,7 @@ fn node_constant(file: &[u8], index: &[u16], n: usize) -> bool
     }
 }
 
+// How the index says that a node is constant.
 fn bit(b: bool) -> u16
     ensures { λ r. ⌜ r ≡ bitOf b ⌝ }
 {
@@ -157,9 +183,12 @@ fn bit(b: bool) -> u16
 fn fill_constants(file: &[u8], index: &mut [u16])
     requires { ⌜ Indexed (now file) (now index) ⌝ }
     requires { ⌜ childrenLower (tablesOf (now file)) ≡ true ⌝ }
-    ensures { λ r. ⌜ now (index .exit) ≡ sets (now (index .entry)) constantsBase (flagsOf (tablesOf (now (file .entry)))) ⌝ }
+    ensures { λ r. ⌜ (
+        let T = tablesOf (now (file .entry)) in
+        now (index .exit) ≡ sets (now (index .entry)) constantsBase (flagsOf T)
+        ) ⌝ }
 {
-    let m = count_of(file, &index[..], 3);
+    let m = count_of(file, &index[..], NODES);
     let mut n = 0;
     while n < m {
         let b = bit(node_constant(file, &index[..], n));
@@ -174,12 +203,12 @@ fn binding_name(file: &[u8], index: &[u16], k: usize) -> usize
     requires { ⌜ k < length (tablesOf (now file) .bindings) ⌝ }
     ensures { λ r. ⌜ r ≡ bindingAt (tablesOf (now (file .entry))) k .name ⌝ }
 {
-    word_at(file, wide16(index[base(4) + 1 + k]))
+    word_at(file, wide16(index[base(BINDINGS) + 1 + k]))
 }
 
-// Zero for each of n names: no binding of it so far.
+// Zero for each of n names: it has no binding so far.
 fn clear_last_bindings(index: &mut [u16], n: usize)
-    requires { ⌜ (length (now index) ≡ indexLength) × (n ≤ 512) ⌝ }
+    requires { ⌜ (length (now index) ≡ indexLength) × (n ≤ nameLimit) ⌝ }
     ensures { λ _. ⌜ now (index .exit) ≡ sets (now (index .entry)) lastBindingsBase (replicate n 0) ⌝ }
 {
     let mut x = 0;
@@ -189,14 +218,14 @@ fn clear_last_bindings(index: &mut [u16], n: usize)
     }
 }
 
-// The last bindings of all names, into their area: a later one of the name takes the place of an earlier.
+// The last bindings of all names, into their area: a later binding of a name is written over an earlier one.
 fn fill_last_bindings(file: &[u8], index: &mut [u16])
     requires { ⌜ Indexed (now file) (now index) ⌝ }
     requires { ⌜ numbersIn (tablesOf (now file)) ≡ true ⌝ }
     ensures { λ _. ⌜ now (index .exit) ≡ lastBindings (tablesOf (now (file .entry))) (now (index .entry)) ⌝ }
 {
-    let names = count_of(file, &index[..], 0);
-    let n = count_of(file, &index[..], 4);
+    let names = count_of(file, &index[..], NAMES);
+    let n = count_of(file, &index[..], BINDINGS);
     clear_last_bindings(index, names);
     let mut k = 0;
     while k < n {
@@ -206,6 +235,7 @@ fn fill_last_bindings(file: &[u8], index: &mut [u16])
     }
 }
 
+// The depth of type t, which stands in the filled index.
 pub fn depth_of(file: &[u8], index: &[u16], t: usize) -> usize
     requires { ⌜ Filled (now file) (now index) ⌝ }
     requires { ⌜ t < length (tablesOf (now file) .types) ⌝ }
@@ -214,6 +244,7 @@ pub fn depth_of(file: &[u8], index: &[u16], t: usize) -> usize
     wide16(index[DEPTHS + t])
 }
 
+// Whether node n is constant, which stands in the filled index.
 pub fn is_constant(file: &[u8], index: &[u16], n: usize) -> bool
     requires { ⌜ Filled (now file) (now index) ⌝ }
     requires { ⌜ n < length (tablesOf (now file) .nodes) ⌝ }
@@ -222,15 +253,15 @@ pub fn is_constant(file: &[u8], index: &[u16], n: usize) -> bool
     index[CONSTANTS + n] == 1
 }
 
-// 11: a type deeper than 16.
+// 11: whether no type is deeper than 16.
 fn types_shallow(file: &[u8], index: &[u16]) -> bool
     requires { ⌜ Filled (now file) (now index) ⌝ }
     ensures { λ r. ⌜ r ≡ typesShallow (tablesOf (now (file .entry))) ⌝ }
 {
-    let n = count_of(file, index, 1);
+    let n = count_of(file, index, TYPES);
     let mut t = 0;
     while t < n {
-        if depth_of(file, index, t) > 16 {
+        if depth_of(file, index, t) > DEPTH_LIMIT {
             return false;
         }
         t += 1;
@@ -238,11 +269,14 @@ fn types_shallow(file: &[u8], index: &[u16]) -> bool
     true
 }
 
-// 13: a Const binding of a node that isn't constant.
+// 13: whether binding b, if it is a Const, is of a constant node.
 fn binding_constant(file: &[u8], index: &[u16], b: usize) -> bool
     requires { ⌜ Numbered (now file) (now index) ⌝ }
     requires { ⌜ b < length (tablesOf (now file) .bindings) ⌝ }
-    ensures { λ r. ⌜ r ≡ slotConstant (tablesOf (now (file .entry))) (bindingAt (tablesOf (now (file .entry))) b .slot) ⌝ }
+    ensures { λ r. ⌜ (
+        let T = tablesOf (now (file .entry)) in
+        r ≡ slotConstant T (bindingAt T b .slot)
+        ) ⌝ }
 {
     let v = binding_at(file, index, b);
     let slot = v.slot;
@@ -256,11 +290,12 @@ fn binding_constant(file: &[u8], index: &[u16], b: usize) -> bool
     }
 }
 
+// 13: whether every Const binding is of a constant node.
 fn consts_constant(file: &[u8], index: &[u16]) -> bool
     requires { ⌜ Numbered (now file) (now index) ⌝ }
     ensures { λ r. ⌜ r ≡ constsConstant (tablesOf (now (file .entry))) ⌝ }
 {
-    let n = count_of(file, index, 4);
+    let n = count_of(file, index, BINDINGS);
     let mut b = 0;
     while b < n {
         if !binding_constant(file, index, b) {
@@ -271,11 +306,14 @@ fn consts_constant(file: &[u8], index: &[u16]) -> bool
     true
 }
 
-// 14: a Field binding with steps + depth of its type above 16, or a fetched path above 15 steps.
+// 14: whether binding b, if it is a Field, has steps + depth of its type of at most 16.
 fn binding_fits(file: &[u8], index: &[u16], b: usize) -> bool
     requires { ⌜ Numbered (now file) (now index) ⌝ }
     requires { ⌜ b < length (tablesOf (now file) .bindings) ⌝ }
-    ensures { λ r. ⌜ r ≡ slotFits (tablesOf (now (file .entry))) (bindingAt (tablesOf (now (file .entry))) b .slot) ⌝ }
+    ensures { λ r. ⌜ (
+        let T = tablesOf (now (file .entry)) in
+        r ≡ slotFits T (bindingAt T b .slot)
+        ) ⌝ }
 {
     let v = binding_at(file, index, b);
     let slot = v.slot;
@@ -283,17 +321,18 @@ fn binding_fits(file: &[u8], index: &[u16], b: usize) -> bool
         SlotView::Row(_, _) => true,
         SlotView::Key(_, _) => true,
         SlotView::Derived(_) => true,
-        SlotView::Field(_, at, t) => wide(file[at + 2]) + depth_of(file, index, t) <= 16,
+        SlotView::Field(_, at, t) => wide(file[at + 2]) + depth_of(file, index, t) <= DEPTH_LIMIT,
         SlotView::Value(_, _) => true,
         SlotView::Const(_) => true,
     }
 }
 
+// 14: all bindings.
 fn slots_fit(file: &[u8], index: &[u16]) -> bool
     requires { ⌜ Numbered (now file) (now index) ⌝ }
     ensures { λ r. ⌜ r ≡ slotsFit (tablesOf (now (file .entry))) ⌝ }
 {
-    let n = count_of(file, index, 4);
+    let n = count_of(file, index, BINDINGS);
     let mut b = 0;
     while b < n {
         if !binding_fits(file, index, b) {
@@ -304,11 +343,12 @@ fn slots_fit(file: &[u8], index: &[u16]) -> bool
     true
 }
 
+// 14: whether every fetched path has at most fifteen steps.
 fn fetched_fit(file: &[u8], index: &[u16]) -> bool
     requires { ⌜ Indexed (now file) (now index) ⌝ }
     ensures { λ r. ⌜ r ≡ fetchedFit (tablesOf (now (file .entry))) ⌝ }
 {
-    let n = count_of(file, index, 6);
+    let n = count_of(file, index, FETCHED);
     let mut k = 0;
     while k < n {
         let v = fetched_at(file, index, k);
@@ -321,6 +361,7 @@ fn fetched_fit(file: &[u8], index: &[u16]) -> bool
     true
 }
 
+// 14: whether every path has room for the steps below it.
 fn paths_fit(file: &[u8], index: &[u16]) -> bool
     requires { ⌜ Numbered (now file) (now index) ⌝ }
     ensures { λ r. ⌜ r ≡ pathsFit (tablesOf (now (file .entry))) ⌝ }
@@ -331,11 +372,11 @@ fn paths_fit(file: &[u8], index: &[u16]) -> bool
     fetched_fit(file, index)
 }
 
-// 12: marks a child; false where it is marked already.
+// 12: marks child c; false if it is marked already.
 fn mark(marks: &mut [u8], c: usize) -> bool
     requires { ⌜ c < length (now marks) ⌝ }
-    ensures { λ r. ⌜ r ≡ once (now (marks .entry)) (c ∷ []) ⌝ }
-    ensures { λ r. ⌜ now (marks .exit) ≡ marked (now (marks .entry)) (c ∷ []) ⌝ }
+    ensures gives { λ r. ⌜ r ≡ once (now (marks .entry)) (c ∷ []) ⌝ }
+    ensures leaves { λ r. ⌜ now (marks .exit) ≡ marked (now (marks .entry)) (c ∷ []) ⌝ }
 {
     if marks[c] != 0 {
         return false;
@@ -344,12 +385,12 @@ fn mark(marks: &mut [u8], c: usize) -> bool
     true
 }
 
-// Marks n children, whose numbers stand from p on, four bytes apart, up to one that is marked already.
+// 12: marks n children, whose numbers stand from p on, four bytes apart; false at the first that is marked already.
 fn mark_run(file: &[u8], marks: &mut [u8], n: usize, p: usize) -> bool
     requires { ⌜ Words (now file) 2 4 n p ⌝ }
     requires { ⌜ all (λ c. ltb c (length (now marks))) (run (word (now file)) 4 n p) ≡ true ⌝ }
-    ensures { λ r. ⌜ r ≡ once (now (marks .entry)) (run (word (now (file .entry))) 4 n p) ⌝ }
-    ensures { λ r. ⌜ now (marks .exit) ≡ marked (now (marks .entry)) (run (word (now (file .entry))) 4 n p) ⌝ }
+    ensures gives { λ r. ⌜ r ≡ once (now (marks .entry)) (run (word (now (file .entry))) 4 n p) ⌝ }
+    ensures leaves { λ r. ⌜ now (marks .exit) ≡ marked (now (marks .entry)) (run (word (now (file .entry))) 4 n p) ⌝ }
 {
     let mut left = n;
     let mut q = p;
@@ -364,13 +405,19 @@ fn mark_run(file: &[u8], marks: &mut [u8], n: usize, p: usize) -> bool
     true
 }
 
-// Marks the children of node n.
+// 12: marks the children of node n; false at the first that is marked already.
 fn mark_children(file: &[u8], index: &[u16], marks: &mut [u8], n: usize) -> bool
     requires { ⌜ Indexed (now file) (now index) ⌝ }
     requires { ⌜ n < length (tablesOf (now file) .nodes) ⌝ }
     requires { ⌜ all (λ c. ltb c (length (now marks))) (childNodes (nodeAt (tablesOf (now file)) n)) ≡ true ⌝ }
-    ensures { λ r. ⌜ r ≡ once (now (marks .entry)) (childNodes (nodeAt (tablesOf (now (file .entry))) n)) ⌝ }
-    ensures { λ r. ⌜ now (marks .exit) ≡ marked (now (marks .entry)) (childNodes (nodeAt (tablesOf (now (file .entry))) n)) ⌝ }
+    ensures gives { λ r. ⌜ (
+        let T = tablesOf (now (file .entry)) in
+        r ≡ once (now (marks .entry)) (childNodes (nodeAt T n))
+        ) ⌝ }
+    ensures leaves { λ r. ⌜ (
+        let T = tablesOf (now (file .entry)) in
+        now (marks .exit) ≡ marked (now (marks .entry)) (childNodes (nodeAt T n))
+        ) ⌝ }
 {
     match node_at(file, index, n) {
         NodeView::Int(_) => true,
@@ -393,15 +440,21 @@ fn mark_children(file: &[u8], index: &[u16], marks: &mut [u8], n: usize) -> bool
     }
 }
 
-// Marks the children of all nodes.
+// 12: marks the children of all nodes; false at the first that is marked already.
 fn mark_nodes(file: &[u8], index: &[u16], marks: &mut [u8]) -> bool
     requires { ⌜ Indexed (now file) (now index) ⌝ }
     requires { ⌜ childrenLower (tablesOf (now file)) ≡ true ⌝ }
-    requires { ⌜ length (now marks) ≡ 2048 ⌝ }
-    ensures { λ r. ⌜ r ≡ once (now (marks .entry)) (concatMap childNodes (tablesOf (now (file .entry)) .nodes)) ⌝ }
-    ensures { λ r. ⌜ now (marks .exit) ≡ marked (now (marks .entry)) (concatMap childNodes (tablesOf (now (file .entry)) .nodes)) ⌝ }
+    requires { ⌜ length (now marks) ≡ nodeLimit ⌝ }
+    ensures gives { λ r. ⌜ (
+        let T = tablesOf (now (file .entry)) in
+        r ≡ once (now (marks .entry)) (concatMap childNodes (T .nodes))
+        ) ⌝ }
+    ensures leaves { λ r. ⌜ (
+        let T = tablesOf (now (file .entry)) in
+        now (marks .exit) ≡ marked (now (marks .entry)) (concatMap childNodes (T .nodes))
+        ) ⌝ }
 {
-    let m = count_of(file, index, 3);
+    let m = count_of(file, index, NODES);
     let mut n = 0;
     while n < m {
         if !mark_children(file, index, marks, n) {
@@ -412,17 +465,17 @@ fn mark_nodes(file: &[u8], index: &[u16], marks: &mut [u8]) -> bool
     true
 }
 
-// 12: a node that is a child more than once.
+// 12: whether no node is a child more than once.
 fn children_once(file: &[u8], index: &[u16]) -> bool
     requires { ⌜ Indexed (now file) (now index) ⌝ }
     requires { ⌜ childrenLower (tablesOf (now file)) ≡ true ⌝ }
     ensures { λ r. ⌜ r ≡ childrenOnce (tablesOf (now (file .entry))) ⌝ }
 {
-    let mut marks = [0u8; 2048];
+    let mut marks = [0u8; NODE_LIMIT];
     mark_nodes(file, index, &mut marks)
 }
 
-// The checks from 10 on, on the filled index.
+// The checks from 10 on, which need the filled index.
 fn later_checks(file: &[u8], index: &[u16]) -> Verdict
     requires { ⌜ Numbered (now file) (now index) ⌝ }
     ensures { λ r. ⌜ r ≡ laterFault (tablesOf (now (file .entry))) ⌝ }
@@ -445,12 +498,12 @@ fn later_checks(file: &[u8], index: &[u16]) -> Verdict
     Verdict::Accepted
 }
 
-// All checks over a file that was read.
+// All checks over a file that was read: 8 over the whole file, then 9, and so on.
 pub fn check(file: &[u8], index: &mut [u16]) -> Verdict
     requires { ⌜ Indexed (now file) (now index) ⌝ }
-    ensures { λ r. ⌜ r ≡ allFault (tablesOf (now (file .entry))) ⌝ }
-    ensures { λ r. ⌜ now (index .exit) ≡ checkedIndex (tablesOf (now (file .entry))) (now (index .entry)) ⌝ }
-    ensures { λ r. ⌜ (r ≡ Verdict.Accepted → Checked (now (file .entry)) (now (index .exit))) ⌝ }
+    ensures gives { λ r. ⌜ r ≡ allFault (tablesOf (now (file .entry))) ⌝ }
+    ensures leaves { λ r. ⌜ now (index .exit) ≡ checkedIndex (tablesOf (now (file .entry))) (now (index .entry)) ⌝ }
+    ensures finds { λ r. ⌜ (r ≡ Verdict.Accepted → Checked (now (file .entry)) (now (index .exit))) ⌝ }
 {
     if !numbers_in(file, &index[..]) {
         return Verdict::Refused(8);
@@ -467,9 +520,9 @@ pub fn check(file: &[u8], index: &mut [u16]) -> Verdict
 // Reads and checks a file. On acceptance the index finds every record, and holds depths, constancy and last bindings.
 pub fn verify(file: &[u8], index: &mut [u16]) -> Verdict
     requires { ⌜ (length (now file) ≤ fileLimit) × (length (now index) ≡ indexLength) ⌝ }
-    ensures { λ r. ⌜ r ≡ fileVerdict (now (file .entry)) ⌝ }
-    ensures { λ r. ⌜ now (index .exit) ≡ fileIndex (now (file .entry)) (now (index .entry)) ⌝ }
-    ensures { λ r. ⌜ (r ≡ Verdict.Accepted → Checked (now (file .entry)) (now (index .exit))) ⌝ }
+    ensures gives { λ r. ⌜ r ≡ fileVerdict (now (file .entry)) ⌝ }
+    ensures leaves { λ r. ⌜ now (index .exit) ≡ fileIndex (now (file .entry)) (now (index .entry)) ⌝ }
+    ensures finds { λ r. ⌜ (r ≡ Verdict.Accepted → Checked (now (file .entry)) (now (index .exit))) ⌝ }
 {
     match read(file, index) {
         Step::Next(_) => check(file, index),

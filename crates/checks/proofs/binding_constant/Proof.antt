@@ -33,31 +33,31 @@ enum-known-slot : tie.Need-enum-known-slot
 enum-known-slot c = search needs
 
 is-constant-requires : tie.Need-is-constant-requires
-is-constant-requires c κs = let a = c .before .before .before .before .before .before in (a .pre .0 .filled, const-node _ _ _ _ (c .before .before .before .binding-at .ensures) _ (c .before .slot .given .1) (slot-in _ (a .pre .0 .numbers) _ (a .pre .1)))
+is-constant-requires c κs = let a = c .before .before .before .before .before .before in (a .pre .0 .filled, const-node _ _ _ _ (c .before .before .before .binding-at .ensures .0) _ (c .before .slot .given .1) (slot-in _ (a .pre .0 .numbers) _ (a .pre .1)))
 
 returns : tie.Need-returns
 unfolding slotConstant
-returns c = by-slot (slotConstant _) (c .before .before .binding-at .ensures) (c .enum-told .given .1)
+returns c = by-slot (slotConstant _) (c .before .before .binding-at .ensures .0) (c .enum-told .given .1)
 
 returns-2 : tie.Need-returns-2
 unfolding slotConstant
-returns-2 c = by-slot (slotConstant _) (c .before .before .binding-at .ensures) (c .enum-told2 .given .1)
+returns-2 c = by-slot (slotConstant _) (c .before .before .binding-at .ensures .0) (c .enum-told2 .given .1)
 
 returns-3 : tie.Need-returns-3
 unfolding slotConstant
-returns-3 c = by-slot (slotConstant _) (c .before .before .binding-at .ensures) (c .enum-told3 .given .1)
+returns-3 c = by-slot (slotConstant _) (c .before .before .binding-at .ensures .0) (c .enum-told3 .given .1)
 
 returns-4 : tie.Need-returns-4
 unfolding slotConstant
-returns-4 c = by-slot (slotConstant _) (c .before .before .binding-at .ensures) (c .enum-told4 .given .1)
+returns-4 c = by-slot (slotConstant _) (c .before .before .binding-at .ensures .0) (c .enum-told4 .given .1)
 
 returns-5 : tie.Need-returns-5
 unfolding slotConstant
-returns-5 c = by-slot (slotConstant _) (c .before .before .binding-at .ensures) (c .enum-told5 .given .1)
+returns-5 c = by-slot (slotConstant _) (c .before .before .binding-at .ensures .0) (c .enum-told5 .given .1)
 
 returns-6 : tie.Need-returns-6
 unfolding slotConstant
-returns-6 c = c .is-constant .ensures ∙ by-slot (slotConstant _) (c .before .before .before .before .binding-at .ensures) (c .before .before .slot .given .1)
+returns-6 c = c .is-constant .ensures ∙ by-slot (slotConstant _) (c .before .before .before .before .binding-at .ensures .0) (c .before .before .slot .given .1)
 
 pub binding-constant-spec : {M : Type 1} → statement M
 binding-constant-spec =

@@ -32,22 +32,22 @@ enum-known-slot c = search needs
 
 add-wide : tie.Need-add-wide
 unfolding PathInside
-add-wide c = let i = slot-inside (tablesOf (now (c .before .before .before .before .before .before .args .file))) _ _ _ (c .before .before .before .binding-at .ensures) _ (c .before .slot .given .1) in omega (arith, i, c .before .before .before .before .before .before .pre .0 .filled .indexed .small)
+add-wide c = let i = slot-inside (tablesOf (now (c .before .before .before .before .before .before .args .file))) _ _ _ (c .before .before .before .binding-at .ensures .0) _ (c .before .slot .given .1) in omega (arith, i, c .before .before .before .before .before .before .pre .0 .filled .indexed .small)
 
 shared-slice-read-wide : tie.Need-shared-slice-read-wide
 unfolding PathInside
-shared-slice-read-wide c = let i = slot-inside (tablesOf (now (c .before .before .before .before .before .before .before .args .file))) _ _ _ (c .before .before .before .before .binding-at .ensures) _ (c .before .before .slot .given .1) in omega (arith, i)
+shared-slice-read-wide c = let i = slot-inside (tablesOf (now (c .before .before .before .before .before .before .before .args .file))) _ _ _ (c .before .before .before .before .binding-at .ensures .0) _ (c .before .before .slot .given .1) in omega (arith, i)
 
 wide-requires : tie.Need-wide-requires
 wide-requires c κs = search needs
 
 depth-of-requires : tie.Need-depth-of-requires
-depth-of-requires c κs = let a = c .before .before .before .before .before .before .before .before in (a .pre .0 .filled, field-type _ _ _ _ (c .before .before .before .before .before .binding-at .ensures) _ _ _ (c .before .before .before .slot .given .1) (slot-in _ (a .pre .0 .numbers) _ (a .pre .1)))
+depth-of-requires c κs = let a = c .before .before .before .before .before .before .before .before in (a .pre .0 .filled, field-type _ _ _ _ (c .before .before .before .before .before .binding-at .ensures .0) _ _ _ (c .before .before .before .slot .given .1) (slot-in _ (a .pre .0 .numbers) _ (a .pre .1)))
 
 add-result : tie.Need-add-result
 add-result c =
     let a = c .before .before .before .before .before .before .before .before .before in
-    omega (arith, c .before .wide .ensures .1, depth-few _ _ (a .pre .0 .filled .indexed) _ _ (field-type _ _ _ _ (c .before .before .before .before .before .before .binding-at .ensures) _ _ _ (c .before .before .before .before .slot .given .1) (slot-in _ (a .pre .0 .numbers) _ (a .pre .1))) (c .depth-of .ensures))
+    omega (arith, c .before .wide .ensures .1, depth-few _ _ (a .pre .0 .filled .indexed) _ _ (field-type _ _ _ _ (c .before .before .before .before .before .before .binding-at .ensures .0) _ _ _ (c .before .before .before .before .slot .given .1) (slot-in _ (a .pre .0 .numbers) _ (a .pre .1))) (c .depth-of .ensures))
 
 enum-told-4 : tie.Need-enum-told-4
 enum-told-4 c = search needs
@@ -57,26 +57,26 @@ enum-told-5 c = search needs
 
 returns : tie.Need-returns
 unfolding slotFits
-returns c = by-slot (slotFits _) (c .before .before .binding-at .ensures) (c .enum-told .given .1)
+returns c = by-slot (slotFits _) (c .before .before .binding-at .ensures .0) (c .enum-told .given .1)
 
 returns-2 : tie.Need-returns-2
 unfolding slotFits
-returns-2 c = by-slot (slotFits _) (c .before .before .binding-at .ensures) (c .enum-told2 .given .1)
+returns-2 c = by-slot (slotFits _) (c .before .before .binding-at .ensures .0) (c .enum-told2 .given .1)
 
 returns-3 : tie.Need-returns-3
 unfolding slotFits
-returns-3 c = by-slot (slotFits _) (c .before .before .binding-at .ensures) (c .enum-told3 .given .1)
+returns-3 c = by-slot (slotFits _) (c .before .before .binding-at .ensures .0) (c .enum-told3 .given .1)
 
 returns-4 : tie.Need-returns-4
-returns-4 c = fits-field _ _ _ _ (c .before .before .before .before .before .before .binding-at .ensures) _ _ _ _ _ (c .before .before .before .before .slot .given .1) (c .before .wide .ensures .0) (c .depth-of .ensures)
+returns-4 c = fits-field _ _ _ _ (c .before .before .before .before .before .before .binding-at .ensures .0) _ _ _ _ _ (c .before .before .before .before .slot .given .1) (c .before .wide .ensures .0) (c .depth-of .ensures)
 
 returns-5 : tie.Need-returns-5
 unfolding slotFits
-returns-5 c = by-slot (slotFits _) (c .before .before .binding-at .ensures) (c .enum-told4 .given .1)
+returns-5 c = by-slot (slotFits _) (c .before .before .binding-at .ensures .0) (c .enum-told4 .given .1)
 
 returns-6 : tie.Need-returns-6
 unfolding slotFits
-returns-6 c = by-slot (slotFits _) (c .before .before .binding-at .ensures) (c .enum-told5 .given .1)
+returns-6 c = by-slot (slotFits _) (c .before .before .binding-at .ensures .0) (c .enum-told5 .given .1)
 
 pub binding-fits-spec : {M : Type 1} → statement M
 binding-fits-spec =

@@ -36,17 +36,17 @@ fetched-at-requires c κs = (c .before .before .before .before .before .pre, ome
 
 add-wide : tie.Need-add-wide Inv-loop μ-loop
 unfolding PathInside
-add-wide c = let i = c .fetched-at .ensures .inside in omega (arith, i, c .before .before .before .before .before .before .pre .small)
+add-wide c = let i = c .fetched-at .ensures .0 .inside in omega (arith, i, c .before .before .before .before .before .before .pre .small)
 
 shared-slice-read-wide : tie.Need-shared-slice-read-wide Inv-loop μ-loop
 unfolding PathInside
-shared-slice-read-wide c = let i = c .before .fetched-at .ensures .inside in omega (arith, i)
+shared-slice-read-wide c = let i = c .before .fetched-at .ensures .0 .inside in omega (arith, i)
 
 wide-requires : tie.Need-wide-requires Inv-loop μ-loop
 wide-requires c κs = search needs
 
 returns : tie.Need-returns Inv-loop μ-loop
-returns c = sym (c .before .before .before .before .before .loop .inv .0 ∙ every-no _ _ _ (omega arith) (steps-high _ _ _ (fetched-steps _ _ _ (c .before .before .before .fetched-at .ensures) ∙ sym (c .before .wide .ensures .0)) (c .if1 .taken)))
+returns c = sym (c .before .before .before .before .before .loop .inv .0 ∙ every-no _ _ _ (omega arith) (steps-high _ _ _ (fetched-steps _ _ _ (c .before .before .before .fetched-at .ensures .0) ∙ sym (c .before .wide .ensures .0)) (c .if1 .taken)))
 
 add-k : tie.Need-add-k Inv-loop μ-loop
 add-k c = search needs
@@ -55,7 +55,7 @@ loop-less : tie.Need-loop-less Inv-loop μ-loop
 loop-less c = omega arith
 
 loop-again : tie.Need-loop-again Inv-loop μ-loop
-loop-again c = (c .before .before .before .before .before .loop .inv .0 ∙ every-yes _ _ _ _ (omega arith) (steps-low _ _ _ (fetched-steps _ _ _ (c .before .before .before .fetched-at .ensures) ∙ sym (c .before .wide .ensures .0)) (c .if1 .left)), omega arith, c .before .before .before .before .before .loop .inv .2)
+loop-again c = (c .before .before .before .before .before .loop .inv .0 ∙ every-yes _ _ _ _ (omega arith) (steps-low _ _ _ (fetched-steps _ _ _ (c .before .before .before .fetched-at .ensures .0) ∙ sym (c .before .wide .ensures .0)) (c .if1 .left)), omega arith, c .before .before .before .before .before .loop .inv .2)
 
 returns-2 : tie.Need-returns-2 Inv-loop μ-loop
 returns-2 c = sym (c .before .loop .inv .0 ∙ every-none _ _ _ (omega arith))

@@ -45,12 +45,12 @@ enum-known-m : tie.Need-enum-known-m
 enum-known-m c = search needs
 
 add-all-constant : tie.Need-add-all-constant
-add-all-constant c = let i = node-as (c .before .before .before .node-at .ensures) (c .before .m .given .1) .inside in omega (arith, i, c .before .before .before .before .before .before .pre .0 .small)
+add-all-constant c = let i = node-as (c .before .before .before .node-at .ensures .0) (c .before .m .given .1) .inside in omega (arith, i, c .before .before .before .before .before .before .pre .0 .small)
 
 all-constant-requires : tie.Need-all-constant-requires
 all-constant-requires c κs =
     let a = c .before .before .before .before .before .before in
-    let s = c .before .before .before .node-at .ensures in
+    let s = c .before .before .before .node-at .ensures .0 in
     let e = c .before .m .given .1 in
     ((a .pre .0 .long, omega (arith, nodes-few _ _ (a .pre .0), a .pre .1 .0)), (words-4 _ (a .pre .0 .small) _ _ 2 2 (node-as s e .inside) (omega arith), lower-run _ _ _ (patterns-are _ _ _ s _ _ e) (node-lower _ (a .pre .1 .1) _ (a .pre .1 .0))))
 
@@ -80,70 +80,70 @@ enum-told-16 c = search needs
 
 returns : tie.Need-returns
 unfolding constantOf
-returns c = by-node (constantOf _) (c .before .before .node-at .ensures) (c .enum-told .given .1)
+returns c = by-node (constantOf _) (c .before .before .node-at .ensures .0) (c .enum-told .given .1)
 
 returns-2 : tie.Need-returns-2
 unfolding constantOf
-returns-2 c = by-node (constantOf _) (c .before .before .node-at .ensures) (c .enum-told2 .given .1)
+returns-2 c = by-node (constantOf _) (c .before .before .node-at .ensures .0) (c .enum-told2 .given .1)
 
 returns-3 : tie.Need-returns-3
 unfolding constantOf
-returns-3 c = by-node (constantOf _) (c .before .before .node-at .ensures) (c .enum-told3 .given .1)
+returns-3 c = by-node (constantOf _) (c .before .before .node-at .ensures .0) (c .enum-told3 .given .1)
 
 returns-4 : tie.Need-returns-4
 unfolding constantOf
-returns-4 c = by-node (constantOf _) (c .before .before .node-at .ensures) (c .enum-told4 .given .1)
+returns-4 c = by-node (constantOf _) (c .before .before .node-at .ensures .0) (c .enum-told4 .given .1)
 
 returns-5 : tie.Need-returns-5
 unfolding constantOf
-returns-5 c = by-node (constantOf _) (c .before .before .node-at .ensures) (c .enum-told5 .given .1)
+returns-5 c = by-node (constantOf _) (c .before .before .node-at .ensures .0) (c .enum-told5 .given .1)
 
 returns-6 : tie.Need-returns-6
 unfolding constantOf
-returns-6 c = by-node (constantOf _) (c .before .before .node-at .ensures) (c .enum-told6 .given .1)
+returns-6 c = by-node (constantOf _) (c .before .before .node-at .ensures .0) (c .enum-told6 .given .1)
 
 returns-7 : tie.Need-returns-7
 unfolding constantOf
-returns-7 c = by-node (constantOf _) (c .before .before .node-at .ensures) (c .enum-told7 .given .1)
+returns-7 c = by-node (constantOf _) (c .before .before .node-at .ensures .0) (c .enum-told7 .given .1)
 
 returns-8 : tie.Need-returns-8
 unfolding constantOf
-returns-8 c = by-node (constantOf _) (c .before .before .node-at .ensures) (c .enum-told8 .given .1)
+returns-8 c = by-node (constantOf _) (c .before .before .node-at .ensures .0) (c .enum-told8 .given .1)
 
 returns-9 : tie.Need-returns-9
-returns-9 c = c .all-constant .ensures ∙ constant-record _ _ _ (c .before .before .before .before .node-at .ensures) _ _ (c .before .before .m .given .1) _
+returns-9 c = c .all-constant .ensures ∙ constant-record _ _ _ (c .before .before .before .before .node-at .ensures .0) _ _ (c .before .before .m .given .1) _
 
 returns-10 : tie.Need-returns-10
 unfolding constantOf
-returns-10 c = by-node (constantOf _) (c .before .before .node-at .ensures) (c .enum-told9 .given .1)
+returns-10 c = by-node (constantOf _) (c .before .before .node-at .ensures .0) (c .enum-told9 .given .1)
 
 returns-11 : tie.Need-returns-11
 unfolding constantOf
-returns-11 c = by-node (constantOf _) (c .before .before .node-at .ensures) (c .enum-told10 .given .1)
+returns-11 c = by-node (constantOf _) (c .before .before .node-at .ensures .0) (c .enum-told10 .given .1)
 
 returns-12 : tie.Need-returns-12
 unfolding constantOf
-returns-12 c = by-node (constantOf _) (c .before .before .node-at .ensures) (c .enum-told11 .given .1)
+returns-12 c = by-node (constantOf _) (c .before .before .node-at .ensures .0) (c .enum-told11 .given .1)
 
 returns-13 : tie.Need-returns-13
 unfolding constantOf
-returns-13 c = by-node (constantOf _) (c .before .before .node-at .ensures) (c .enum-told12 .given .1)
+returns-13 c = by-node (constantOf _) (c .before .before .node-at .ensures .0) (c .enum-told12 .given .1)
 
 returns-14 : tie.Need-returns-14
 unfolding constantOf
-returns-14 c = by-node (constantOf _) (c .before .before .node-at .ensures) (c .enum-told13 .given .1)
+returns-14 c = by-node (constantOf _) (c .before .before .node-at .ensures .0) (c .enum-told13 .given .1)
 
 returns-15 : tie.Need-returns-15
 unfolding constantOf
-returns-15 c = by-node (constantOf _) (c .before .before .node-at .ensures) (c .enum-told14 .given .1)
+returns-15 c = by-node (constantOf _) (c .before .before .node-at .ensures .0) (c .enum-told14 .given .1)
 
 returns-16 : tie.Need-returns-16
 unfolding constantOf
-returns-16 c = by-node (constantOf _) (c .before .before .node-at .ensures) (c .enum-told15 .given .1)
+returns-16 c = by-node (constantOf _) (c .before .before .node-at .ensures .0) (c .enum-told15 .given .1)
 
 returns-17 : tie.Need-returns-17
 unfolding constantOf
-returns-17 c = by-node (constantOf _) (c .before .before .node-at .ensures) (c .enum-told16 .given .1)
+returns-17 c = by-node (constantOf _) (c .before .before .node-at .ensures .0) (c .enum-told16 .given .1)
 
 pub node-constant-spec : {M : Type 1} → statement M
 node-constant-spec =

@@ -32,12 +32,12 @@ enum-known-n : tie.Need-enum-known-n
 enum-known-n c = search needs
 
 add-deepest-of : tie.Need-add-deepest-of
-add-deepest-of c = let i = type-as (c .before .before .before .type-at .ensures) (c .before .n .given .1) .inside in omega (arith, i, c .before .before .before .before .before .before .pre .0 .small)
+add-deepest-of c = let i = type-as (c .before .before .before .type-at .ensures .0) (c .before .n .given .1) .inside in omega (arith, i, c .before .before .before .before .before .before .pre .0 .small)
 
 deepest-of-requires : tie.Need-deepest-of-requires
 deepest-of-requires c κs =
     let a = c .before .before .before .before .before .before in
-    let s = c .before .before .before .type-at .ensures in
+    let s = c .before .before .before .type-at .ensures .0 in
     let e = c .before .n .given .1 in
     ((a .pre .0 .long, omega (arith, types-few _ _ (a .pre .0), a .pre .1 .0)), (words-4 _ (a .pre .0 .small) _ _ 2 2 (type-as s e .inside) (omega arith), lower-run _ _ _ (fields-are _ _ _ s _ _ e) (type-lower _ (a .pre .1 .1) _ (a .pre .1 .0))))
 
@@ -48,12 +48,12 @@ enum-known-n-2 : tie.Need-enum-known-n-2
 enum-known-n-2 c = search needs
 
 add-deepest-of-2 : tie.Need-add-deepest-of-2
-add-deepest-of-2 c = let i = type-as (c .before .before .before .type-at .ensures) (c .before .n2 .given .1) .inside in omega (arith, i, c .before .before .before .before .before .before .pre .0 .small)
+add-deepest-of-2 c = let i = type-as (c .before .before .before .type-at .ensures .0) (c .before .n2 .given .1) .inside in omega (arith, i, c .before .before .before .before .before .before .pre .0 .small)
 
 deepest-of-requires-2 : tie.Need-deepest-of-requires-2
 deepest-of-requires-2 c κs =
     let a = c .before .before .before .before .before .before in
-    let s = c .before .before .before .type-at .ensures in
+    let s = c .before .before .before .type-at .ensures .0 in
     let e = c .before .n2 .given .1 in
     ((a .pre .0 .long, omega (arith, types-few _ _ (a .pre .0), a .pre .1 .0)), (words-8 _ (a .pre .0 .small) _ _ 2 6 (type-as s e .inside) (omega arith), lower-run _ _ _ (alternatives-are _ _ _ s _ _ e) (type-lower _ (a .pre .1 .1) _ (a .pre .1 .0))))
 
@@ -62,25 +62,25 @@ add-result-2 c = omega (arith, c .deepest-of2 .ensures .1)
 
 returns : tie.Need-returns
 unfolding depthOf childTypes deepest
-returns c = by-type (depthOf _) (c .before .before .type-at .ensures) (c .enum-told .given .1)
+returns c = by-type (depthOf _) (c .before .before .type-at .ensures .0) (c .enum-told .given .1)
 
 returns-2 : tie.Need-returns-2
 unfolding depthOf childTypes deepest
-returns-2 c = by-type (depthOf _) (c .before .before .type-at .ensures) (c .enum-told2 .given .1)
+returns-2 c = by-type (depthOf _) (c .before .before .type-at .ensures .0) (c .enum-told2 .given .1)
 
 returns-3 : tie.Need-returns-3
 unfolding depthOf childTypes deepest
-returns-3 c = by-type (depthOf _) (c .before .before .type-at .ensures) (c .enum-told3 .given .1)
+returns-3 c = by-type (depthOf _) (c .before .before .type-at .ensures .0) (c .enum-told3 .given .1)
 
 returns-4 : tie.Need-returns-4
 unfolding depthOf childTypes deepest
-returns-4 c = by-type (depthOf _) (c .before .before .type-at .ensures) (c .enum-told4 .given .1)
+returns-4 c = by-type (depthOf _) (c .before .before .type-at .ensures .0) (c .enum-told4 .given .1)
 
 returns-5 : tie.Need-returns-5
-returns-5 c = depth-is _ _ _ _ (c .deepest-of .ensures .0) (fields-are _ _ _ (c .before .before .before .before .type-at .ensures) _ _ (c .before .before .n .given .1))
+returns-5 c = depth-is _ _ _ _ (c .deepest-of .ensures .0) (fields-are _ _ _ (c .before .before .before .before .type-at .ensures .0) _ _ (c .before .before .n .given .1))
 
 returns-6 : tie.Need-returns-6
-returns-6 c = depth-is _ _ _ _ (c .deepest-of2 .ensures .0) (alternatives-are _ _ _ (c .before .before .before .before .type-at .ensures) _ _ (c .before .before .n2 .given .1))
+returns-6 c = depth-is _ _ _ _ (c .deepest-of2 .ensures .0) (alternatives-are _ _ _ (c .before .before .before .before .type-at .ensures .0) _ _ (c .before .before .n2 .given .1))
 
 pub type-depth-spec : {M : Type 1} → statement M
 type-depth-spec =
