@@ -17,7 +17,7 @@ use Rattle.constant.specs.declared.Const.the-variants as Co
 use Rattle.constant.specs.declared.Size.{Size}
 use Rattle.constant.specs.declared.Size.the-variants as Si
 
--- Above every length that a plan can hold, so that a capped sum says all that matters.
+-- above every length that a plan can hold, so that a sum that stops here says all that matters
 abbrev pub cap : ℕ
 cap = 65536
 
@@ -26,10 +26,12 @@ unfoldable pub sizeWith : ℕ → Option (List ℕ) → Size
 sizeWith k none = Si.Nothing
 sizeWith k (some bytes) = Si.Of (min cap (k + length bytes))
 
+-- what was measured stops at the cap
 abbrev pub Small : Size → Type 0
 Small Si.Nothing = Unit {0}
 Small (Si.Of n) = n ≤ cap
 
+-- the code's anchor for the rules'
 abbrev pub anchorView : File.Anchor → Anchor
 anchorView File.Anchor.Prefix = An.Prefix
 anchorView File.Anchor.Whole = An.Whole
@@ -64,6 +66,7 @@ abbrev pub viewOf : Tables → ℕ → ℕ → Option Rules.Const → Const
 viewOf T n t none = Co.Nothing
 viewOf T n t (some c) = viewSome T n t c
 
+-- the constant of node n at type t, as the code has it
 unfoldable pub constView : Tables → ℕ → ℕ → Const
 constView T n t = viewOf T n t (Rules.constant T n t)
 

@@ -1,8 +1,10 @@
-// The constant that a pattern is at a type. It carries positions and the length of its bytes, which are produced only where they are wanted.
+// The constant that a pattern is at a type. It carries positions and the length of its bytes; the bytes themselves are written only where
+// they are wanted.
 ghost use mathlib.Core.Path.{_≡_};
 ghost use Prim.Native.Nat.{_+_, _*_, _≤_, _<_, min};
 ghost use mathlib.Core.List.{[], _∷_};
 ghost use lib.ListN.{length};
+ghost use Rattle.rules.specs.Limits.{fileLimit};
 ghost use Rattle.rules.specs.File.{nameAt, typeAt};
 ghost use Rattle.rules.specs.Constant as Rules;
 ghost use Rattle.rules.specs.Constant.{escape, encodePrefix, constantFields, constantRecord};
@@ -40,10 +42,12 @@ pub enum Size {
     Of(usize),
 }
 
+// Longer than any plan: what is as long or longer counts as this long, so that no sum of lengths overflows.
 pub const CAP: usize = 65536;
 
+// The sum of two lengths, which stops at CAP.
 pub fn capped(a: usize, b: usize) -> usize
-    requires { ⌜ (a ≤ 131072) × (b ≤ 131072) ⌝ }
+    requires { ⌜ (a ≤ 2 * cap) × (b ≤ 2 * cap) ⌝ }
     ensures { λ r. ⌜ r ≡ min cap (a + b) ⌝ }
 {
     let n = a + b;
@@ -53,7 +57,7 @@ pub fn capped(a: usize, b: usize) -> usize
     n
 }
 
-// How many bytes a byte takes.
+// How many bytes a byte of a text takes: a zero byte is escaped.
 fn width(b: u8) -> usize
     ensures { λ r. ⌜ r ≡ length (escape (b ∷ [])) ⌝ }
 {
@@ -82,10 +86,11 @@ pub fn is_plain(file: &[u8], at: usize, n: usize) -> bool
     0 < least_byte(file, at, n)
 }
 
-// What escaped_len gives, counted byte by byte.
+// What escaped_len gives, counted byte by byte: for the few texts that have a zero byte.
 fn count_escaped(file: &[u8], at: usize, n: usize) -> usize
-    requires { ⌜ (at + n ≤ length (now file)) × (n ≤ 32768) ⌝ }
-    ensures { λ r. ⌜ (r ≡ length (escape (run (byteAt (now (file .entry))) 1 n at))) × (r ≤ 2 * n) ⌝ }
+    requires { ⌜ (at + n ≤ length (now file)) × (n ≤ fileLimit) ⌝ }
+    ensures gives { λ r. ⌜ r ≡ length (escape (run (byteAt (now (file .entry))) 1 n at)) ⌝ }
+    ensures bounded { λ r. ⌜ r ≤ 2 * n ⌝ }
 {
     let mut len: usize = 0;
     let mut i: usize = 0;
@@ -98,8 +103,9 @@ fn count_escaped(file: &[u8], at: usize, n: usize) -> usize
 
 // How many bytes the n bytes from at on take, a zero byte taking two. Nearly every text is plain and takes its own length.
 pub fn escaped_len(file: &[u8], at: usize, n: usize) -> usize
-    requires { ⌜ (at + n ≤ length (now file)) × (n ≤ 32768) ⌝ }
-    ensures { λ r. ⌜ (r ≡ length (escape (run (byteAt (now (file .entry))) 1 n at))) × (r ≤ 2 * n) ⌝ }
+    requires { ⌜ (at + n ≤ length (now file)) × (n ≤ fileLimit) ⌝ }
+    ensures gives { λ r. ⌜ r ≡ length (escape (run (byteAt (now (file .entry))) 1 n at)) ⌝ }
+    ensures bounded { λ r. ⌜ r ≤ 2 * n ⌝ }
 {
     if is_plain(file, at, n) {
         return n;
@@ -111,12 +117,14 @@ pub fn escaped_len(file: &[u8], at: usize, n: usize) -> usize
 pub fn prefix_len(file: &[u8], index: &[u16], name: usize) -> usize
     requires { ⌜ Indexed (now file) (now index) ⌝ }
     requires { ⌜ name < length (tablesOf (now file) .names) ⌝ }
-    ensures { λ r. ⌜ (r ≡ length (encodePrefix (nameAt (tablesOf (now (file .entry))) name))) × (r ≤ 65537) ⌝ }
+    ensures gives { λ r. ⌜ r ≡ length (encodePrefix (nameAt (tablesOf (now (file .entry))) name)) ⌝ }
+    ensures bounded { λ r. ⌜ r ≤ cap + 1 ⌝ }
 {
     let t = name_at(file, index, name);
     1 + escaped_len(file, t.at, t.len)
 }
 
+// A constant that fits type Int alone.
 fn at_int(file: &[u8], index: &[u16], ty: usize, c: Const) -> Const
     requires { ⌜ Indexed (now file) (now index) ⌝ }
     requires { ⌜ ty < length (tablesOf (now file) .types) ⌝ }
@@ -129,6 +137,7 @@ fn at_int(file: &[u8], index: &[u16], ty: usize, c: Const) -> Const
     }
 }
 
+// A constant that fits type Str alone.
 fn at_str(file: &[u8], index: &[u16], ty: usize, c: Const) -> Const
     requires { ⌜ Indexed (now file) (now index) ⌝ }
     requires { ⌜ ty < length (tablesOf (now file) .types) ⌝ }
@@ -141,6 +150,7 @@ fn at_str(file: &[u8], index: &[u16], ty: usize, c: Const) -> Const
     }
 }
 
+// A constant that fits type Bytes alone.
 fn at_bytes(file: &[u8], index: &[u16], ty: usize, c: Const) -> Const
     requires { ⌜ Indexed (now file) (now index) ⌝ }
     requires { ⌜ ty < length (tablesOf (now file) .types) ⌝ }
@@ -153,7 +163,7 @@ fn at_bytes(file: &[u8], index: &[u16], ty: usize, c: Const) -> Const
     }
 }
 
-// Prefix or Fuzzy within a record or union gives none.
+// The length of a constant's bytes. Prefix or Fuzzy within a record or union gives none.
 fn bytes_only(c: Const) -> Size
     ensures { λ r. ⌜ r ≡ sizeOf c ⌝ }
 {
@@ -165,7 +175,7 @@ fn bytes_only(c: Const) -> Size
     }
 }
 
-// A constant of k bytes around what was measured.
+// A constant of k bytes around what was measured: a record's or union's first and last bytes.
 fn wrap(node: usize, ty: usize, k: usize, s: Size) -> Const
     requires { ⌜ k ≤ 16 ⌝ }
     requires { ⌜ Small s ⌝ }
@@ -190,7 +200,11 @@ fn constant_field(
     requires { ⌜ Ready (now file) (now index) ⌝ }
     requires { ⌜ Patterns (now file) (tablesOf (now file)) node n at ⌝ }
     requires { ⌜ ty < length (tablesOf (now file) .types) ⌝ }
-    ensures { λ r. ⌜ r ≡ sizeWith 0 (fieldBytes (Rules.constant (tablesOf (now (file .entry)))) (run (patternAt (now (file .entry))) 4 n at) name ty) ⌝ }
+    ensures { λ r. ⌜ (
+        let f = now (file .entry) in
+        let patterns = run (patternAt f) 4 n at in
+        r ≡ sizeWith 0 (fieldBytes (Rules.constant (tablesOf f)) patterns name ty)
+        ) ⌝ }
 {
     let Found::At(p) = field_pattern(file, at, n, name) else {
         return Size::Nothing;
@@ -198,7 +212,7 @@ fn constant_field(
     bytes_only(constant(file, index, p, ty))
 }
 
-// The k fields of a Record type, in its order. The encoding is positional, so a missing one leaves none.
+// The k fields of a Record type, in its order. The encoding goes by position, so one field without bytes leaves none.
 fn constant_fields(
     file: &[u8],
     index: &[u16],
@@ -211,7 +225,12 @@ fn constant_fields(
     requires { ⌜ Ready (now file) (now index) ⌝ }
     requires { ⌜ Patterns (now file) (tablesOf (now file)) node n at ⌝ }
     requires { ⌜ Fields (now file) (tablesOf (now file)) k from ⌝ }
-    ensures { λ r. ⌜ r ≡ sizeWith 0 (constantFields (Rules.constant (tablesOf (now (file .entry)))) (run (patternAt (now (file .entry))) 4 n at) (run (fieldAt (now (file .entry))) 4 k from)) ⌝ }
+    ensures { λ r. ⌜ (
+        let f = now (file .entry) in
+        let patterns = run (patternAt f) 4 n at in
+        let fields = run (fieldAt f) 4 k from in
+        r ≡ sizeWith 0 (constantFields (Rules.constant (tablesOf f)) patterns fields)
+        ) ⌝ }
 {
     let mut total: usize = 0;
     let mut i: usize = 0;
@@ -239,7 +258,12 @@ fn constant_union(
     requires { ⌜ Ready (now file) (now index) ⌝ }
     requires { ⌜ Patterns (now file) (tablesOf (now file)) node n at ⌝ }
     requires { ⌜ Alternatives (now file) (tablesOf (now file)) k from ⌝ }
-    ensures { λ r. ⌜ r ≡ sizeWith 0 (payloadBytes (Rules.constant (tablesOf (now (file .entry)))) (run (patternAt (now (file .entry))) 4 n at) (run (alternativeAt (now (file .entry))) 8 k from)) ⌝ }
+    ensures { λ r. ⌜ (
+        let f = now (file .entry) in
+        let patterns = run (patternAt f) 4 n at in
+        let alternatives = run (alternativeAt f) 8 k from in
+        r ≡ sizeWith 0 (payloadBytes (Rules.constant (tablesOf f)) patterns alternatives)
+        ) ⌝ }
 {
     if n != 1 {
         return Size::Nothing;
@@ -251,12 +275,17 @@ fn constant_union(
     bytes_only(constant(file, index, p.node, a.ty))
 }
 
-// A Record's n pairs at a type.
+// A Record's n pairs at a type: a record, a union, or no constant.
 fn constant_record(file: &[u8], index: &[u16], node: usize, ty: usize, n: usize, at: usize) -> Const
     requires { ⌜ Ready (now file) (now index) ⌝ }
     requires { ⌜ Patterns (now file) (tablesOf (now file)) node n at ⌝ }
     requires { ⌜ ty < length (tablesOf (now file) .types) ⌝ }
-    ensures { λ r. ⌜ r ≡ viewOf (tablesOf (now (file .entry))) node ty (constantRecord (Rules.constant (tablesOf (now (file .entry)))) (run (patternAt (now (file .entry))) 4 n at) (typeAt (tablesOf (now (file .entry))) ty)) ⌝ }
+    ensures { λ r. ⌜ (
+        let f = now (file .entry) in
+        let T = tablesOf f in
+        let patterns = run (patternAt f) 4 n at in
+        r ≡ viewOf T node ty (constantRecord (Rules.constant T) patterns (typeAt T ty))
+        ) ⌝ }
 {
     match type_at(file, index, ty) {
         TypeView::Record(k, from) => wrap(
@@ -275,7 +304,7 @@ fn constant_record(file: &[u8], index: &[u16], node: usize, ty: usize, n: usize,
     }
 }
 
-// The bytes that a pattern determines at a type, if it determines all of them: their place and their length.
+// The bytes that a pattern determines at a type, if it determines all of them: where they come from, and how many they are.
 pub fn constant(file: &[u8], index: &[u16], node: usize, ty: usize) -> Const
     requires { ⌜ Ready (now file) (now index) ⌝ }
     requires { ⌜ node < length (tablesOf (now file) .nodes) ⌝ }

@@ -14,7 +14,7 @@ add-result : tie.Need-add-result
 add-result c = search needs
 
 returns : tie.Need-returns
-returns c = (prefix-length _ _ _ _ (c .before .name-at .ensures) (c .escaped-len .ensures .0), omega (arith, c .escaped-len .ensures .1, c .before .name-at .ensures .inside, c .before .before .before .before .pre .0 .small))
+returns c = (prefix-length _ _ _ _ (c .before .name-at .ensures .0) (c .escaped-len .ensures .0), omega (arith, c .escaped-len .ensures .1, c .before .name-at .ensures .0 .inside, c .before .before .before .before .pre .0 .small))
 
 pub prefix-len-spec : {M : Type 1} → statement M
 prefix-len-spec = tie.close (tie.spec name-at-requires escaped-len-requires add-result returns)
