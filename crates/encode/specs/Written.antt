@@ -10,6 +10,7 @@ use Rattle.rules.specs.Constant as Rules
 use Rattle.rules.specs.Constant.{bytesOnly, constantRecord}
 use Rattle.records.specs.Records.{put, reach}
 
+-- the bytes, or none
 unfoldable pub orEmpty : Option (List ℕ) → List ℕ
 orEmpty none = []
 orEmpty (some bytes) = bytes

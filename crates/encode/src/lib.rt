@@ -1,7 +1,9 @@
-// The bytes of a constant, written at a place of a lent buffer; the place after them is handed back. What lies past the buffer's end is lost.
+// The bytes of a constant, written at a position of a lent buffer; the position after them is handed back. What lies past the buffer's
+// end is not written.
 ghost use Prim.Native.Nat.{_+_, _*_, _≤_, _<_};
 ghost use mathlib.Core.List.{[], _∷_};
 ghost use lib.ListN.{length};
+ghost use Rattle.rules.specs.Limits.{fileLimit};
 ghost use Rattle.rules.specs.File.{Ty, nameAt, typeAt};
 ghost use Rattle.rules.specs.Constant as Rules;
 ghost use Rattle.rules.specs.Constant.{escape, encodeInt, encodePrefix, encodeStr, encodeBytes, constantFields};
@@ -9,7 +11,7 @@ ghost use Rattle.file.specs.Tables.{Indexed, tablesOf};
 ghost use Rattle.views.specs.Views.{run, byteAt, fieldAt, alternativeAt, patternAt};
 ghost use Rattle.records.specs.Records.{reach};
 ghost use Rattle.ready.specs.Ready.{Ready};
-ghost use Rattle.constant.specs.Sizes.{fieldBytes, Patterns, Fields, Alternatives};
+ghost use Rattle.constant.specs.Sizes.{cap, fieldBytes, Patterns, Fields, Alternatives};
 ghost use Rattle.encode.specs.Written.{orEmpty, bytesOf, recordBytes, Here, Wrote, down};
 use constant::is_plain;
 use file::wide;
@@ -28,7 +30,7 @@ use views::name_at;
 use views::node_at;
 use views::type_at;
 
-// A byte; a zero byte is followed by FF.
+// Writes a byte of a text; a zero byte is followed by FF.
 fn put_escaped(buf: &mut [u8], at: usize, b: u8) -> usize
     requires { ⌜ at ≤ 3 * reach ⌝ }
     ensures { λ r. ⌜ Wrote (escape (b ∷ [])) at (now (buf .entry)) r (now (buf .exit)) ⌝ }
@@ -41,10 +43,13 @@ fn put_escaped(buf: &mut [u8], at: usize, b: u8) -> usize
     at + 1
 }
 
-// What put_text writes, byte by byte.
+// What put_text writes, byte by byte: for the few texts that have a zero byte, or no room.
 fn put_escapes(file: &[u8], buf: &mut [u8], at: usize, from: usize, n: usize) -> usize
-    requires { ⌜ (from + n ≤ length (now file)) × (n ≤ 32768) × (at ≤ 2 * reach) ⌝ }
-    ensures { λ r. ⌜ Wrote (escape (run (byteAt (now (file .entry))) 1 n from)) at (now (buf .entry)) r (now (buf .exit)) ⌝ }
+    requires { ⌜ (from + n ≤ length (now file)) × (n ≤ fileLimit) × (at ≤ 2 * reach) ⌝ }
+    ensures { λ r. ⌜ (
+        let text = run (byteAt (now (file .entry))) 1 n from in
+        Wrote (escape text) at (now (buf .entry)) r (now (buf .exit))
+        ) ⌝ }
 {
     let mut p = at;
     let mut i: usize = 0;
@@ -55,10 +60,13 @@ fn put_escapes(file: &[u8], buf: &mut [u8], at: usize, from: usize, n: usize) ->
     p
 }
 
-// n bytes of the file from a place on, as they are. There is room for them, so the loop tests nothing and becomes one copy.
+// Writes n bytes of the file as they are. There is room for them, so the loop tests nothing and becomes one copy.
 fn put_plain(file: &[u8], buf: &mut [u8], at: usize, from: usize, n: usize) -> usize
     requires { ⌜ (from + n ≤ length (now file)) × (at + n ≤ length (now buf)) ⌝ }
-    ensures { λ r. ⌜ Wrote (run (byteAt (now (file .entry))) 1 n from) at (now (buf .entry)) r (now (buf .exit)) ⌝ }
+    ensures { λ r. ⌜ (
+        let text = run (byteAt (now (file .entry))) 1 n from in
+        Wrote text at (now (buf .entry)) r (now (buf .exit))
+        ) ⌝ }
 {
     let mut i: usize = 0;
     while i < n {
@@ -68,10 +76,13 @@ fn put_plain(file: &[u8], buf: &mut [u8], at: usize, from: usize, n: usize) -> u
     at + n
 }
 
-// n bytes of the file from a place on, escaped. Nearly every text is plain: then it is copied.
+// Writes n bytes of the file escaped. Nearly every text is plain: then it is copied.
 fn put_text(file: &[u8], buf: &mut [u8], at: usize, from: usize, n: usize) -> usize
-    requires { ⌜ (from + n ≤ length (now file)) × (n ≤ 32768) × (at ≤ 2 * reach) ⌝ }
-    ensures { λ r. ⌜ Wrote (escape (run (byteAt (now (file .entry))) 1 n from)) at (now (buf .entry)) r (now (buf .exit)) ⌝ }
+    requires { ⌜ (from + n ≤ length (now file)) × (n ≤ fileLimit) × (at ≤ 2 * reach) ⌝ }
+    ensures { λ r. ⌜ (
+        let text = run (byteAt (now (file .entry))) 1 n from in
+        Wrote (escape text) at (now (buf .entry)) r (now (buf .exit))
+        ) ⌝ }
 {
     if at + n <= buf.len() {
         if is_plain(file, from, n) {
@@ -81,7 +92,7 @@ fn put_text(file: &[u8], buf: &mut [u8], at: usize, from: usize, n: usize) -> us
     put_escapes(file, buf, at, from, n)
 }
 
-// n bytes of the file from a place on, the last of them first.
+// Writes n bytes of the file, the last of them first.
 fn put_down(file: &[u8], buf: &mut [u8], at: usize, from: usize, n: usize) -> usize
     requires { ⌜ (from + n ≤ length (now file)) × (n ≤ 8) × (at ≤ 2 * reach) ⌝ }
     ensures { λ r. ⌜ Wrote (down (byteAt (now (file .entry))) n from) at (now (buf .entry)) r (now (buf .exit)) ⌝ }
@@ -96,10 +107,13 @@ fn put_down(file: &[u8], buf: &mut [u8], at: usize, from: usize, n: usize) -> us
     p
 }
 
-// 02, then eight bytes big-endian with the sign bit flipped.
+// Writes an Int: 02, then eight bytes big-endian with the sign bit flipped.
 pub fn put_i64(file: &[u8], buf: &mut [u8], at: usize, from: usize) -> usize
     requires { ⌜ (from + 8 ≤ length (now file)) × (at ≤ reach) ⌝ }
-    ensures { λ r. ⌜ Wrote (encodeInt (run (byteAt (now (file .entry))) 1 8 from)) at (now (buf .entry)) r (now (buf .exit)) ⌝ }
+    ensures { λ r. ⌜ (
+        let bytes = run (byteAt (now (file .entry))) 1 8 from in
+        Wrote (encodeInt bytes) at (now (buf .entry)) r (now (buf .exit))
+        ) ⌝ }
 {
     put8(buf, at, 2);
     let high = (wide(file[from + 7]) + 128) % 256;
@@ -107,31 +121,42 @@ pub fn put_i64(file: &[u8], buf: &mut [u8], at: usize, from: usize) -> usize
     put_down(file, buf, at + 2, from, 7)
 }
 
-// A Prefix is the Str without its 00.
+// Writes a Prefix, which is the Str without its 00.
 pub fn put_prefix(file: &[u8], index: &[u16], buf: &mut [u8], at: usize, name: usize) -> usize
     requires { ⌜ Indexed (now file) (now index) ⌝ }
     requires { ⌜ (name < length (tablesOf (now file) .names)) × (at ≤ reach) ⌝ }
-    ensures { λ r. ⌜ Wrote (encodePrefix (nameAt (tablesOf (now (file .entry))) name)) at (now (buf .entry)) r (now (buf .exit)) ⌝ }
-    ensures { λ r. ⌜ r ≤ at + 65537 ⌝ }
+    ensures writes { λ r. ⌜ (
+        let text = nameAt (tablesOf (now (file .entry))) name in
+        Wrote (encodePrefix text) at (now (buf .entry)) r (now (buf .exit))
+        ) ⌝ }
+    ensures bounded { λ r. ⌜ r ≤ at + cap + 1 ⌝ }
 {
     put8(buf, at, 3);
     let t = name_at(file, index, name);
     put_text(file, buf, at + 1, t.at, t.len)
 }
 
+// Writes a Str: 03, the text escaped, 00.
 pub fn put_str(file: &[u8], index: &[u16], buf: &mut [u8], at: usize, name: usize) -> usize
     requires { ⌜ Indexed (now file) (now index) ⌝ }
     requires { ⌜ (name < length (tablesOf (now file) .names)) × (at ≤ reach) ⌝ }
-    ensures { λ r. ⌜ Wrote (encodeStr (nameAt (tablesOf (now (file .entry))) name)) at (now (buf .entry)) r (now (buf .exit)) ⌝ }
+    ensures { λ r. ⌜ (
+        let text = nameAt (tablesOf (now (file .entry))) name in
+        Wrote (encodeStr text) at (now (buf .entry)) r (now (buf .exit))
+        ) ⌝ }
 {
     let p = put_prefix(file, index, buf, at, name);
     put8(buf, p, 0);
     p + 1
 }
 
+// Writes Bytes: 04, the bytes escaped, 00.
 pub fn put_bytes(file: &[u8], buf: &mut [u8], at: usize, from: usize, n: usize) -> usize
-    requires { ⌜ (from + n ≤ length (now file)) × (n ≤ 32768) × (at ≤ reach) ⌝ }
-    ensures { λ r. ⌜ Wrote (encodeBytes (run (byteAt (now (file .entry))) 1 n from)) at (now (buf .entry)) r (now (buf .exit)) ⌝ }
+    requires { ⌜ (from + n ≤ length (now file)) × (n ≤ fileLimit) × (at ≤ reach) ⌝ }
+    ensures { λ r. ⌜ (
+        let bytes = run (byteAt (now (file .entry))) 1 n from in
+        Wrote (encodeBytes bytes) at (now (buf .entry)) r (now (buf .exit))
+        ) ⌝ }
 {
     put8(buf, at, 4);
     let p = put_text(file, buf, at + 1, from, n);
@@ -139,7 +164,7 @@ pub fn put_bytes(file: &[u8], buf: &mut [u8], at: usize, from: usize, n: usize) 
     p + 1
 }
 
-// A field: the first of a Record's n pairs that has its name.
+// Writes a field: the first of a Record's n pairs that has its name.
 fn put_field(
     file: &[u8],
     index: &[u16],
@@ -154,8 +179,17 @@ fn put_field(
     requires { ⌜ Ready (now file) (now index) ⌝ }
     requires { ⌜ Patterns (now file) (tablesOf (now file)) node n pairs ⌝ }
     requires { ⌜ ty < length (tablesOf (now file) .types) ⌝ }
-    requires { ⌜ Here (fieldBytes (Rules.constant (tablesOf (now file))) (run (patternAt (now file)) 4 n pairs) name ty) at ⌝ }
-    ensures { λ r. ⌜ Wrote (orEmpty (fieldBytes (Rules.constant (tablesOf (now (file .entry)))) (run (patternAt (now (file .entry))) 4 n pairs) name ty)) at (now (buf .entry)) r (now (buf .exit)) ⌝ }
+    requires { ⌜ (
+        let f = now file in
+        let patterns = run (patternAt f) 4 n pairs in
+        Here (fieldBytes (Rules.constant (tablesOf f)) patterns name ty) at
+        ) ⌝ }
+    ensures { λ r. ⌜ (
+        let f = now (file .entry) in
+        let patterns = run (patternAt f) 4 n pairs in
+        let bytes = fieldBytes (Rules.constant (tablesOf f)) patterns name ty in
+        Wrote (orEmpty bytes) at (now (buf .entry)) r (now (buf .exit))
+        ) ⌝ }
 {
     let Found::At(p) = field_pattern(file, pairs, n, name) else {
         return at;
@@ -163,7 +197,7 @@ fn put_field(
     put_constant(file, index, buf, at, p, ty)
 }
 
-// The k fields of a Record type, in its order.
+// Writes the k fields of a Record type, in its order.
 fn put_fields(
     file: &[u8],
     index: &[u16],
@@ -178,8 +212,19 @@ fn put_fields(
     requires { ⌜ Ready (now file) (now index) ⌝ }
     requires { ⌜ Patterns (now file) (tablesOf (now file)) node n pairs ⌝ }
     requires { ⌜ Fields (now file) (tablesOf (now file)) k from ⌝ }
-    requires { ⌜ Here (constantFields (Rules.constant (tablesOf (now file))) (run (patternAt (now file)) 4 n pairs) (run (fieldAt (now file)) 4 k from)) at ⌝ }
-    ensures { λ r. ⌜ Wrote (orEmpty (constantFields (Rules.constant (tablesOf (now (file .entry)))) (run (patternAt (now (file .entry))) 4 n pairs) (run (fieldAt (now (file .entry))) 4 k from))) at (now (buf .entry)) r (now (buf .exit)) ⌝ }
+    requires { ⌜ (
+        let f = now file in
+        let patterns = run (patternAt f) 4 n pairs in
+        let fields = run (fieldAt f) 4 k from in
+        Here (constantFields (Rules.constant (tablesOf f)) patterns fields) at
+        ) ⌝ }
+    ensures { λ r. ⌜ (
+        let f = now (file .entry) in
+        let patterns = run (patternAt f) 4 n pairs in
+        let fields = run (fieldAt f) 4 k from in
+        let bytes = constantFields (Rules.constant (tablesOf f)) patterns fields in
+        Wrote (orEmpty bytes) at (now (buf .entry)) r (now (buf .exit))
+        ) ⌝ }
 {
     let mut p = at;
     let mut i: usize = 0;
@@ -191,7 +236,7 @@ fn put_fields(
     p
 }
 
-// 05, the disc big-endian, the payload, 00. A union value is one pair, which names one of the k alternatives.
+// Writes a union: 05, the disc big-endian, the payload, 00. Its value is one pair, which names one of the k alternatives.
 fn put_union(
     file: &[u8],
     index: &[u16],
@@ -206,8 +251,19 @@ fn put_union(
     requires { ⌜ Ready (now file) (now index) ⌝ }
     requires { ⌜ Patterns (now file) (tablesOf (now file)) node n pairs ⌝ }
     requires { ⌜ Alternatives (now file) (tablesOf (now file)) k from ⌝ }
-    requires { ⌜ Here (recordBytes (Rules.constant (tablesOf (now file))) (run (patternAt (now file)) 4 n pairs) (Ty.Union (run (alternativeAt (now file)) 8 k from))) at ⌝ }
-    ensures { λ r. ⌜ Wrote (orEmpty (recordBytes (Rules.constant (tablesOf (now (file .entry)))) (run (patternAt (now (file .entry))) 4 n pairs) (Ty.Union (run (alternativeAt (now (file .entry))) 8 k from)))) at (now (buf .entry)) r (now (buf .exit)) ⌝ }
+    requires { ⌜ (
+        let f = now file in
+        let patterns = run (patternAt f) 4 n pairs in
+        let alternatives = run (alternativeAt f) 8 k from in
+        Here (recordBytes (Rules.constant (tablesOf f)) patterns (Ty.Union alternatives)) at
+        ) ⌝ }
+    ensures { λ r. ⌜ (
+        let f = now (file .entry) in
+        let patterns = run (patternAt f) 4 n pairs in
+        let alternatives = run (alternativeAt f) 8 k from in
+        let bytes = recordBytes (Rules.constant (tablesOf f)) patterns (Ty.Union alternatives) in
+        Wrote (orEmpty bytes) at (now (buf .entry)) r (now (buf .exit))
+        ) ⌝ }
 {
     let p = field_pattern_at(file, pairs, 0);
     let MaybeAlternative::Just(a) = alternative_of(file, from, k, p.name) else {
@@ -219,7 +275,7 @@ fn put_union(
     q + 1
 }
 
-// A Record's n pairs at a type: 06, the fields, 00; or a union.
+// Writes a Record's n pairs at a type: 06, the fields, 00; or a union.
 fn put_record(
     file: &[u8],
     index: &[u16],
@@ -233,8 +289,19 @@ fn put_record(
     requires { ⌜ Ready (now file) (now index) ⌝ }
     requires { ⌜ Patterns (now file) (tablesOf (now file)) node n pairs ⌝ }
     requires { ⌜ ty < length (tablesOf (now file) .types) ⌝ }
-    requires { ⌜ Here (recordBytes (Rules.constant (tablesOf (now file))) (run (patternAt (now file)) 4 n pairs) (typeAt (tablesOf (now file)) ty)) at ⌝ }
-    ensures { λ r. ⌜ Wrote (orEmpty (recordBytes (Rules.constant (tablesOf (now (file .entry)))) (run (patternAt (now (file .entry))) 4 n pairs) (typeAt (tablesOf (now (file .entry))) ty))) at (now (buf .entry)) r (now (buf .exit)) ⌝ }
+    requires { ⌜ (
+        let f = now file in
+        let patterns = run (patternAt f) 4 n pairs in
+        let T = tablesOf f in
+        Here (recordBytes (Rules.constant T) patterns (typeAt T ty)) at
+        ) ⌝ }
+    ensures { λ r. ⌜ (
+        let f = now (file .entry) in
+        let patterns = run (patternAt f) 4 n pairs in
+        let T = tablesOf f in
+        let bytes = recordBytes (Rules.constant T) patterns (typeAt T ty) in
+        Wrote (orEmpty bytes) at (now (buf .entry)) r (now (buf .exit))
+        ) ⌝ }
 {
     match type_at(file, index, ty) {
         TypeView::Record(k, from) => {
@@ -248,7 +315,7 @@ fn put_record(
     }
 }
 
-// The bytes of a node at a type, where its constant is bytes.
+// Writes the bytes of a node at a type; its constant is bytes.
 pub fn put_constant(
     file: &[u8],
     index: &[u16],
@@ -261,7 +328,10 @@ pub fn put_constant(
     requires { ⌜ node < length (tablesOf (now file) .nodes) ⌝ }
     requires { ⌜ ty < length (tablesOf (now file) .types) ⌝ }
     requires { ⌜ Here (bytesOf (tablesOf (now file)) node ty) at ⌝ }
-    ensures { λ r. ⌜ Wrote (orEmpty (bytesOf (tablesOf (now (file .entry))) node ty)) at (now (buf .entry)) r (now (buf .exit)) ⌝ }
+    ensures { λ r. ⌜ (
+        let bytes = bytesOf (tablesOf (now (file .entry))) node ty in
+        Wrote (orEmpty bytes) at (now (buf .entry)) r (now (buf .exit))
+        ) ⌝ }
 {
     let m = folded(file, index, node);
     match node_at(file, index, m) {

@@ -21,7 +21,7 @@ same-length : tie.Need-same-length
 same-length c = search needs
 
 returns : tie.Need-returns
-returns c = (wrote-prefix _ _ _ _ _ _ _ _ (c .before .before .before .before .name-at .ensures) (c .before .before .before .before .before .before .before .put8 .ensures) (c .before .before .put-text .ensures), (let l : c .before .before .before .before .name-at .result .len ≤ 32768 = omega (arith, c .before .before .before .before .name-at .ensures .inside, c .before .before .before .before .before .before .before .before .before .before .before .before .pre .0 .small) in omega (arith, text-far _ _ _ _ _ _ _ l (c .before .before .put-text .ensures))))
+returns c = (wrote-prefix _ _ _ _ _ _ _ _ (c .before .before .before .before .name-at .ensures .0) (c .before .before .before .before .before .before .before .put8 .ensures) (c .before .before .put-text .ensures), (let l : c .before .before .before .before .name-at .result .len ≤ 32768 = omega (arith, c .before .before .before .before .name-at .ensures .0 .inside, c .before .before .before .before .before .before .before .before .before .before .before .before .pre .0 .small) in omega (arith, text-far _ _ _ _ _ _ _ l (c .before .before .put-text .ensures))))
 
 pub put-prefix-spec : {M : Type 1} → statement M
 put-prefix-spec =
