@@ -10,6 +10,7 @@ use Rattle.rules.specs.File.{Tables, Binding}
 use Rattle.rules.specs.Read.{Read, Reader, name, type, predicate, node, binding, hoisted, fetched, constraint, comparison, level}
 use Rattle.rules.specs.Read.Read.{got, refused}
 use Rattle.rules.specs.Read as Read
+use Rattle.file.specs.Sections as Sections
 use Rattle.file.specs.Steps.{readAt, baseOf, limitOf, indexLength}
 
 abbrev pub noTables : Tables
@@ -51,16 +52,16 @@ pub record Indexed (f ix : List ℕ) : Type 0 where
   pub small : length f ≤ fileLimit
   pub long : length ix ≡ indexLength
   pub accepted : Read.file f ≡ got (tablesOf f) []
-  pub names : Section f ix 0 name (tablesOf f .names)
-  pub types : Section f ix 1 type (tablesOf f .types)
-  pub predicates : Section f ix 2 predicate (tablesOf f .predicates)
-  pub nodes : Section f ix 3 node (tablesOf f .nodes)
-  pub bindings : Section f ix 4 binding (tablesOf f .bindings)
-  pub hoisted : Section f ix 5 hoisted (tablesOf f .hoisted)
-  pub fetched : Section f ix 6 fetched (tablesOf f .fetched)
-  pub constraints : Section f ix 7 constraint (tablesOf f .constraints)
-  pub comparisons : Section f ix 8 comparison (tablesOf f .comparisons)
-  pub levels : Section f ix 9 level (tablesOf f .levels)
+  pub names : Section f ix Sections.names name (tablesOf f .names)
+  pub types : Section f ix Sections.types type (tablesOf f .types)
+  pub predicates : Section f ix Sections.predicates predicate (tablesOf f .predicates)
+  pub nodes : Section f ix Sections.nodes node (tablesOf f .nodes)
+  pub bindings : Section f ix Sections.bindings binding (tablesOf f .bindings)
+  pub hoisted : Section f ix Sections.hoisted hoisted (tablesOf f .hoisted)
+  pub fetched : Section f ix Sections.fetched fetched (tablesOf f .fetched)
+  pub constraints : Section f ix Sections.constraints constraint (tablesOf f .constraints)
+  pub comparisons : Section f ix Sections.comparisons comparison (tablesOf f .comparisons)
+  pub levels : Section f ix Sections.levels level (tablesOf f .levels)
 
 -- the number + 1 of the last of these bindings that has name x, the first of them having number k; what was found before if none has it
 unfoldable pub lastFrom : ℕ → ℕ → List Binding → ℕ → ℕ

@@ -3,6 +3,7 @@ ghost use mathlib.Core.Path.{_≡_};
 ghost use Prim.Native.Nat.{_+_, _*_, _≤_, _<_};
 ghost use lib.ListN.{length};
 ghost use Rattle.rules.specs.File.{nameAt, typeAt, predicateAt, nodeAt};
+ghost use Rattle.file.specs.Sections as Sections;
 ghost use Rattle.file.specs.Steps.{word, sectionCount, limitOf, indexLength};
 ghost use Rattle.file.specs.Tables.{Indexed, tablesOf};
 ghost use Rattle.views.specs.Views.{sizeOf, startAt, pastPath, long, orNone, anchorAt, opKind, opOf, typeOption, predicateMaybe, textView, typeView, nodeView, bindingView, fetchedView, fieldAt, alternativeAt, patternAt, fieldOf, alternativeOf, patternOf, predicateOf, bindingAt, hoistedAt, fetchedAt, constraintAt, comparisonAt, levelAt, hoistedOf, constraintOf, comparisonOf, levelOf, PathInside, SeenType, SeenNode, SeenBinding, SeenFetched, SeenText};
@@ -45,6 +46,7 @@ pub struct Alternative {
     pub ty: usize,
 }
 
+// A type, if there is one.
 pub enum MaybeType {
     Nothing,
     Just(usize),
@@ -56,6 +58,7 @@ pub struct Predicate {
     pub value: MaybeType,
 }
 
+// Where a fuzzy text has to stand: at the beginning, or as the whole.
 pub enum Anchor {
     Prefix,
     Whole,
@@ -95,6 +98,7 @@ pub struct Text {
     pub len: usize,
 }
 
+// A predicate, if there is one.
 pub enum MaybePredicate {
     Nothing,
     Just(PredicateId),
@@ -110,6 +114,7 @@ pub enum SlotView {
     Const(usize),
 }
 
+// A binding of the file: a name and where its value lives.
 pub struct BindingView {
     pub name: usize,
     pub slot: SlotView,
@@ -141,6 +146,7 @@ pub enum CompareOp {
     Ge,
 }
 
+// A comparison of two nodes.
 pub struct Comparison {
     pub op: CompareOp,
     pub left: usize,
@@ -184,7 +190,7 @@ pub fn type_at(file: &[u8], index: &[u16], t: usize) -> TypeView
     requires { ⌜ Indexed (now file) (now index) ⌝ }
     requires { ⌜ t < length (tablesOf (now file) .types) ⌝ }
     ensures shows { λ r. ⌜ SeenType (now (file .entry)) (typeAt (tablesOf (now (file .entry))) t) r ⌝ }
-    ensures view { λ r. ⌜ r ≡ typeView (now (file .entry)) (startAt (now (index .entry)) 1 t) ⌝ }
+    ensures view { λ r. ⌜ r ≡ typeView (now (file .entry)) (startAt (now (index .entry)) Sections.types t) ⌝ }
 {
     let p = start_of(index, TYPES, t);
     match file[p] {
@@ -247,7 +253,7 @@ pub fn name_at(file: &[u8], index: &[u16], x: usize) -> Text
     requires { ⌜ Indexed (now file) (now index) ⌝ }
     requires { ⌜ x < length (tablesOf (now file) .names) ⌝ }
     ensures shows { λ r. ⌜ SeenText (now (file .entry)) (nameAt (tablesOf (now (file .entry))) x) r ⌝ }
-    ensures view { λ r. ⌜ r ≡ textView (now (file .entry)) (startAt (now (index .entry)) 0 x) ⌝ }
+    ensures view { λ r. ⌜ r ≡ textView (now (file .entry)) (startAt (now (index .entry)) Sections.names x) ⌝ }
 {
     let p = start_of(index, NAMES, x);
     Text {
@@ -309,7 +315,7 @@ pub fn node_at(file: &[u8], index: &[u16], n: usize) -> NodeView
     requires { ⌜ Indexed (now file) (now index) ⌝ }
     requires { ⌜ n < length (tablesOf (now file) .nodes) ⌝ }
     ensures shows { λ r. ⌜ SeenNode (now (file .entry)) (nodeAt (tablesOf (now (file .entry))) n) r ⌝ }
-    ensures view { λ r. ⌜ r ≡ nodeView (now (file .entry)) (startAt (now (index .entry)) 3 n) ⌝ }
+    ensures view { λ r. ⌜ r ≡ nodeView (now (file .entry)) (startAt (now (index .entry)) Sections.nodes n) ⌝ }
 {
     let at = start_of(index, NODES, n);
     let p = at + 1;
@@ -347,7 +353,7 @@ pub fn binding_at(file: &[u8], index: &[u16], b: usize) -> BindingView
     requires { ⌜ Indexed (now file) (now index) ⌝ }
     requires { ⌜ b < length (tablesOf (now file) .bindings) ⌝ }
     ensures shows { λ r. ⌜ SeenBinding (now (file .entry)) (bindingAt (tablesOf (now (file .entry))) b) r ⌝ }
-    ensures view { λ r. ⌜ r ≡ bindingView (now (file .entry)) (startAt (now (index .entry)) 4 b) ⌝ }
+    ensures view { λ r. ⌜ r ≡ bindingView (now (file .entry)) (startAt (now (index .entry)) Sections.bindings b) ⌝ }
 {
     let at = start_of(index, BINDINGS, b);
     let name = word_at(file, at);
@@ -400,7 +406,7 @@ pub fn fetched_at(file: &[u8], index: &[u16], k: usize) -> FetchedView
     requires { ⌜ Indexed (now file) (now index) ⌝ }
     requires { ⌜ k < length (tablesOf (now file) .fetched) ⌝ }
     ensures shows { λ r. ⌜ SeenFetched (now (file .entry)) (fetchedAt (tablesOf (now (file .entry))) k) r ⌝ }
-    ensures view { λ r. ⌜ r ≡ fetchedView (now (file .entry)) (startAt (now (index .entry)) 6 k) ⌝ }
+    ensures view { λ r. ⌜ r ≡ fetchedView (now (file .entry)) (startAt (now (index .entry)) Sections.fetched k) ⌝ }
 {
     let p = start_of(index, FETCHED, k);
     let address = Address(half_at(file, p));
