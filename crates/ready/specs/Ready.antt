@@ -1,5 +1,5 @@
--- What the code behind the checks requires: a file that was read and passed every check, with an index that holds its depths, its constancy and
--- its names' last bindings.
+-- What the code behind the checks requires: a file that was read and passed every check, with an index that holds the depth of each type,
+-- the constancy of each node and the last binding of each name.
 use Prim.Native.Nat.{ℕ, _+_, _<_}
 use mathlib.Core.Path.{_≡_}
 use mathlib.Core.Bool.{Bool, true, false}
@@ -17,6 +17,7 @@ abbrev pub flag : Bool → ℕ
 flag true = 1
 flag false = 0
 
+-- f is an accepted file, and ix its filled index
 pub record Ready (f ix : List ℕ) : Type 0 where
   pub indexed : Indexed f ix
   pub accepted : fault checks (tablesOf f) ≡ none
