@@ -25,12 +25,12 @@ fetched-at-requires : tie.Need-fetched-at-requires Inv-loop μ-loop
 fetched-at-requires c κs = (c .before .before .before .before .before .pre .0, omega arith)
 
 fetches-requires : tie.Need-fetches-requires Inv-loop μ-loop
-fetches-requires c κs = (c .fetched-at .ensures .inside, c .before .before .before .before .before .before .pre .1)
+fetches-requires c κs = (c .fetched-at .ensures .0 .inside, c .before .before .before .before .before .before .pre .1)
 
 returns : tie.Need-returns Inv-loop μ-loop
 returns c =
     let l = c .before .before .before .before .before in
-    sym (l .loop .inv .2 ∙ fetched-here _ _ _ _ _ (c .before .before .before .fetched-at .ensures .is) (omega arith) (sym (c .before .before .fetches .ensures) ∙ c .before .if1 .taken))
+    sym (l .loop .inv .2 ∙ fetched-here _ _ _ _ _ (c .before .before .before .fetched-at .ensures .0 .is) (omega arith) (sym (c .before .before .fetches .ensures) ∙ c .before .if1 .taken))
 
 add-i : tie.Need-add-i Inv-loop μ-loop
 add-i c = omega arith
@@ -41,7 +41,7 @@ loop-less c = omega arith
 loop-again : tie.Need-loop-again Inv-loop μ-loop
 loop-again c =
     let l = c .before .before .before .before in
-    (l .loop .inv .0, omega arith, l .loop .inv .2 ∙ fetched-more _ _ _ _ _ (c .before .before .fetched-at .ensures .is) (omega arith) (sym (c .before .fetches .ensures) ∙ c .if1 .left))
+    (l .loop .inv .0, omega arith, l .loop .inv .2 ∙ fetched-more _ _ _ _ _ (c .before .before .fetched-at .ensures .0 .is) (omega arith) (sym (c .before .fetches .ensures) ∙ c .if1 .left))
 
 returns-2 : tie.Need-returns-2 Inv-loop μ-loop
 returns-2 c = sym (c .before .loop .inv .2 ∙ fetched-end _ _ _ _ (omega arith))

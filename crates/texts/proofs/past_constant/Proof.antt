@@ -25,10 +25,10 @@ enum-told : tie.Need-enum-told
 enum-told c = search needs
 
 returns-2 : tie.Need-returns-2
-returns-2 c = past-int _ _ _ _ _ _ (c .before .before .before .before .before .before .before .before .pre .1 .1) (c .before .before .before .folded .ensures) (c .before .before .node-at .ensures) _ (c .enum-told .given .1) _ (c .before .before .before .before .before .count-of .ensures) (c .before .before .before .before .if1 .left)
+returns-2 c = past-int _ _ _ _ _ _ (c .before .before .before .before .before .before .before .before .pre .1 .1) (c .before .before .before .folded .ensures) (c .before .before .node-at .ensures .0) _ (c .enum-told .given .1) _ (c .before .before .before .before .before .count-of .ensures) (c .before .before .before .before .if1 .left)
 
 returns-3 : tie.Need-returns-3
-returns-3 c = past-other _ _ _ _ _ _ (c .before .before .before .before .before .before .before .pre .1 .1) (c .before .before .folded .ensures) (c .before .node-at .ensures) (c .match .keys2)
+returns-3 c = past-other _ _ _ _ _ _ (c .before .before .before .before .before .before .before .pre .1 .1) (c .before .before .folded .ensures) (c .before .node-at .ensures .0) (c .match .keys2)
 
 pub past-constant-spec : {M : Type 1} → statement M
 past-constant-spec =

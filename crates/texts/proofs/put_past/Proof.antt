@@ -20,16 +20,16 @@ enum-known-p : tie.Need-enum-known-p
 enum-known-p c = search needs
 
 put-i64-requires : tie.Need-put-i64-requires
-put-i64-requires c κs = (int-inside _ _ _ _ (c .before .before .before .before .node-at .ensures) (c .before .before .p .given .1), omega (arith, c .before .before .before .before .before .before .before .before .before .pre .1 .1 .1 .room))
+put-i64-requires c κs = (int-inside _ _ _ _ (c .before .before .before .before .node-at .ensures .0) (c .before .before .p .given .1), omega (arith, c .before .before .before .before .before .before .before .before .before .pre .1 .1 .1 .room))
 
 same-length : tie.Need-same-length
 same-length c = search needs
 
 returns : tie.Need-returns
-returns c = let s = c .before .before .before .before .before .before .before .before .before .before .before .before in put-int _ _ _ _ _ _ (s .pre .1 .1 .0) (c .before .before .before .before .before .before .before .before .folded .ensures) (c .before .before .before .before .before .before .before .node-at .ensures) _ (c .before .before .before .before .before .p .given .1) _ _ _ _ (s .pre .1 .1 .1) (c .before .before .put-i64 .ensures)
+returns c = let s = c .before .before .before .before .before .before .before .before .before .before .before .before in put-int _ _ _ _ _ _ (s .pre .1 .1 .0) (c .before .before .before .before .before .before .before .before .folded .ensures) (c .before .before .before .before .before .before .before .node-at .ensures .0) _ (c .before .before .before .before .before .p .given .1) _ _ _ _ (s .pre .1 .1 .1) (c .before .before .put-i64 .ensures)
 
 returns-2 : tie.Need-returns-2
-returns-2 c = put-other _ _ _ _ _ _ (c .before .before .before .before .before .before .pre .1 .1 .0) (c .before .before .folded .ensures) (c .before .node-at .ensures) _ _ (c .match .keys2)
+returns-2 c = put-other _ _ _ _ _ _ (c .before .before .before .before .before .before .pre .1 .1 .0) (c .before .before .folded .ensures) (c .before .node-at .ensures .0) _ _ (c .match .keys2)
 
 pub put-past-spec : {M : Type 1} → statement M
 put-past-spec =
