@@ -5,15 +5,20 @@ ghost use lib.ListN.{length};
 ghost use lib.Seq.{sets};
 ghost use Rattle.lines.specs.Lines as Lines;
 
-// 0 to 9, then a to f, as text.
+// What is added to a number below ten, and to one of ten and more, to get its digit: 0 to 9, then a to f.
+const ZERO: u8 = b'0';
+
+const BEFORE_A: u8 = 87;
+
+// The hex digit of a number, as text.
 fn digit(n: u8) -> u8
     requires { ⌜ n < 16 ⌝ }
     ensures { λ r. ⌜ r ≡ Lines.digit n ⌝ }
 {
-    if n < 10 { 48 + n } else { 87 + n }
+    if n < 10 { ZERO + n } else { BEFORE_A + n }
 }
 
-// Two digits for each byte.
+// A plan as program `plan` prints it: two digits for each byte.
 pub fn put_hex(bytes: &[u8], out: &mut [u8])
     requires { ⌜ length (now bytes) * 2 ≤ length (now out) ⌝ }
     ensures { λ _. ⌜ now (out .exit) ≡ sets (now (out .entry)) 0 (Lines.hex (now (bytes .entry))) ⌝ }
@@ -27,11 +32,11 @@ pub fn put_hex(bytes: &[u8], out: &mut [u8])
     }
 }
 
-// `refused ` and the number; how many bytes that is.
+// A refusal as program `plan` prints it: `refused ` and the number. Gives how many bytes that is.
 pub fn put_refusal(n: u8, out: &mut [u8]) -> usize
     requires { ⌜ (n < 100) × (10 ≤ length (now out)) ⌝ }
-    ensures { λ r. ⌜ r ≡ length (Lines.refusal n) ⌝ }
-    ensures { λ _. ⌜ now (out .exit) ≡ sets (now (out .entry)) 0 (Lines.refusal n) ⌝ }
+    ensures gives { λ r. ⌜ r ≡ length (Lines.refusal n) ⌝ }
+    ensures leaves { λ _. ⌜ now (out .exit) ≡ sets (now (out .entry)) 0 (Lines.refusal n) ⌝ }
 {
     out[0] = b'r';
     out[1] = b'e';
@@ -42,30 +47,31 @@ pub fn put_refusal(n: u8, out: &mut [u8]) -> usize
     out[6] = b'd';
     out[7] = b' ';
     if n < 10 {
-        out[8] = 48 + n;
+        out[8] = ZERO + n;
         return 9;
     }
-    out[8] = 48 + n / 10;
-    out[9] = 48 + n % 10;
+    out[8] = ZERO + n / 10;
+    out[9] = ZERO + n % 10;
     10
 }
 
-// What a digit stands for.
+// The number that a hex digit stands for.
 fn value(c: u8) -> u8
     ensures { λ r. ⌜ r ≡ Lines.value c ⌝ }
 {
-    if c < 48 {
+    if c < ZERO {
         return 0;
     }
-    if c < 58 {
-        return c - 48;
+    if c <= b'9' {
+        return c - ZERO;
     }
-    if c < 87 {
+    if c < BEFORE_A {
         return 0;
     }
-    c - 87
+    c - BEFORE_A
 }
 
+// The byte that two hex digits stand for.
 fn byte(h: u8, l: u8) -> u8
     ensures { λ r. ⌜ r ≡ Lines.byte h l ⌝ }
 {
@@ -73,7 +79,7 @@ fn byte(h: u8, l: u8) -> u8
     (n % 256) as u8
 }
 
-// Hex read back.
+// Hex read back, two digits to a byte; a lone last digit is dropped.
 pub fn unhex(text: &[u8], out: &mut [u8])
     requires { ⌜ length (now text) ≤ length (now out) * 2 ⌝ }
     ensures { λ _. ⌜ now (out .exit) ≡ sets (now (out .entry)) 0 (Lines.unhex (now (text .entry))) ⌝ }

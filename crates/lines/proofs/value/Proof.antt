@@ -8,7 +8,7 @@ returns : tie.Need-returns
 returns c = omega (arith, value-low (c .before .args .c) (omega arith))
 
 returns-2 : tie.Need-returns-2
-returns-2 c = sym (value-low _ (c .if2 .taken))
+returns-2 c = sym (value-low _ (omega (arith, c .if2 .taken)))
 
 returns-3 : tie.Need-returns-3
 returns-3 c = omega (arith, value-high _ (c .before .if2 .left))
