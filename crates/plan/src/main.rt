@@ -1,11 +1,12 @@
 // A rule file on standard input; its plan as a line of hex, or `refused` and the number.
+use answer::FILE_ROOM;
+use answer::LINE_ROOM;
 use answer::answer;
 
 fn main() {
-    // One byte above the limit tells a file that is too long.
-    let mut file = [0u8; 32769];
+    let mut file = [0u8; FILE_ROOM];
     let n = io::read_full(libc::STDIN_FILENO, &mut file);
-    let mut out = [0u8; 32768];
+    let mut out = [0u8; LINE_ROOM];
     let m = answer(&file[..n], &mut out);
     io::write_all(libc::STDOUT_FILENO, &out[..m]);
     io::write_all(libc::STDOUT_FILENO, &[b'\n']);
