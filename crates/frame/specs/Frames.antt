@@ -1,9 +1,10 @@
 -- Where the code writes a level: the places of the state's model, the middle's length up to a cap.
+use mathlib.Core.Bool.{true, false}
 use mathlib.Core.List.{List}
 use Prim.Native.Nat.{ℕ, _+_, min}
 use lib.ListN.{length}
 use Rattle.state.specs.State.{Level}
-use Rattle.state.specs.Levels.{between, partsAt, middleAt, middle, tail}
+use Rattle.state.specs.Levels.{joining, between, partsAt, middleAt, middle, tail}
 use Rattle.constant.specs.Sizes.{cap}
 use Rattle.frame.specs.declared.Frame.{Frame}
 
@@ -11,8 +12,13 @@ use Rattle.frame.specs.declared.Frame.{Frame}
 abbrev pub betweenOf : Level → List ℕ
 betweenOf l = between (l .range) (l .edges .lo) (l .edges .hi)
 
+-- the bytes of the parts: joined in a Prefix, else in the plan's form
+abbrev pub partsLen : Level → ℕ
+partsLen l = elim (joining l) [ true ↦ l .counts .joined | false ↦ l .counts .parted ]
+
 -- A middle that is capped makes the level too long.
 unfoldable pub frameOf : ℕ → Level → Frame
 frameOf at l =
     let rest = middleAt at l + min cap (length (middle l)) in
-    record { parts = partsAt at l; middle = middleAt at l; rest = rest; tail = rest + l .counts .rest; end = rest + l .counts .rest + length (tail l) }
+    let after = rest + l .counts .rest in
+    record { parts = partsAt at l; middle = middleAt at l; rest = rest; tail = after; end = after + length (tail l) }

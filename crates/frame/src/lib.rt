@@ -1,12 +1,11 @@
 // What stands in the plan around a level's parts and residuals: its sizes, and its bytes, from the level as it was measured.
 ghost use mathlib.Core.Path.{_≡_};
-ghost use mathlib.Core.Bool.{true, false};
 ghost use Prim.Native.Nat.{_+_, _≤_, _<_, min};
 ghost use lib.ListN.{length};
 ghost use Rattle.rules.specs.Limits.{planLimit};
 ghost use Rattle.rules.specs.File.{Tables};
 ghost use Rattle.rules.specs.Plan as Plan;
-ghost use Rattle.state.specs.Levels.{seekOf, joining, head, middle, tail};
+ghost use Rattle.state.specs.Levels.{seekOf, head, middle, tail};
 ghost use Rattle.state.specs.Levels as Kept;
 ghost use Rattle.file.specs.Tables.{tablesOf};
 ghost use Rattle.ready.specs.Ready.{Ready};
@@ -14,7 +13,7 @@ ghost use Rattle.constant.specs.Sizes.{cap};
 ghost use Rattle.encode.specs.Written.{Wrote};
 ghost use Rattle.records.specs.Records.{put};
 ghost use Rattle.seek.specs.Seek.{guideOf, kept, levelOf};
-ghost use Rattle.frame.specs.Frames.{betweenOf, frameOf};
+ghost use Rattle.frame.specs.Frames.{betweenOf, partsLen, frameOf};
 use constant::capped;
 use records::anchor_byte;
 use records::path_size;
@@ -88,7 +87,7 @@ fn put_head(plan: &mut [u8], at: usize, l: SeekBuilder)
 
 // The bytes of the parts: joined in a Prefix, else in the plan's form.
 fn parts_len(l: SeekBuilder) -> usize
-    ensures { λ r. ⌜ ((T : Tables) → r ≡ elim (joining (levelOf T l)) [ true ↦ levelOf T l .counts .joined | false ↦ levelOf T l .counts .parted ]) × (r < 8589934592) ⌝ }
+    ensures { λ r. ⌜ ((T : Tables) → r ≡ partsLen (levelOf T l)) × (r < 8589934592) ⌝ }
 {
     let c = l.counts;
     let joined = wide32(c.joined);

@@ -1,5 +1,5 @@
-// The four lists copied from their runs of the work area into the plan, each after its count. What lies past the work area's end is left out, so
-// nothing is asked of where a list ends.
+// The four lists copied from their runs of the work area into the plan, each after its count. What lies past the work area's end is left
+// out, so nothing is asked of where a list ends.
 ghost use mathlib.Core.Path.{_≡_};
 ghost use mathlib.Core.List.{_++_};
 ghost use Prim.Native.Nat.{_+_, _*_, _-_, _≤_, min};
@@ -59,7 +59,10 @@ fn copy_run(work: &[u8], from: usize, to: usize, plan: &mut [u8], at: usize) -> 
 // A run after the count of its records.
 fn put_run(work: &[u8], from: usize, to: usize, n: usize, plan: &mut [u8], at: usize) -> usize
     requires { ⌜ at ≤ 1048576 * 65536 ⌝ }
-    ensures { λ r. ⌜ Wrote (Plan.u16 n ++ slice from to (now (work .entry))) at (now (plan .entry)) r (now (plan .exit)) × (r ≤ at + to + 2) ⌝ }
+    ensures { λ r. ⌜ (
+        let form = Plan.u16 n ++ slice from to (now (work .entry)) in
+        Wrote form at (now (plan .entry)) r (now (plan .exit)) × (r ≤ at + to + 2)
+        ) ⌝ }
 {
     put16(plan, at, n);
     copy_run(work, from, to, plan, at + 2)

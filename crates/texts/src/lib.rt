@@ -1,5 +1,5 @@
-// The texts of a level's range and edges: constants that stayed positions until now. Any position has a text, as the written rules have it, so that
-// nothing is asked of a level here.
+// The texts of a level's range and edges: constants that stayed positions until now. Any position has a text, as the written rules have
+// it, so that nothing is asked of a level here.
 ghost use mathlib.Core.Path.{_≡_};
 ghost use Prim.Native.Nat.{_≤_, _<_, min};
 ghost use lib.ListN.{length};
@@ -151,7 +151,10 @@ pub fn prefix_text_len(file: &[u8], index: &[u16], name: usize) -> usize
 pub fn put_prefix_text(file: &[u8], index: &[u16], buf: &mut [u8], at: usize, name: usize) -> usize
     requires { ⌜ Ready (now file) (now index) ⌝ }
     requires { ⌜ at ≤ 1048576 ⌝ }
-    ensures { λ r. ⌜ Wrote (Plan.text (encodePrefix (nameAt (tablesOf (now (file .entry))) name))) at (now (buf .entry)) r (now (buf .exit)) ⌝ }
+    ensures { λ r. ⌜ (
+        let form = Plan.text (encodePrefix (nameAt (tablesOf (now (file .entry))) name)) in
+        Wrote form at (now (buf .entry)) r (now (buf .exit))
+        ) ⌝ }
 {
     if name < count_of(file, index, 0) {
         put16(buf, at, prefix_len(file, index, name));
