@@ -20,7 +20,7 @@ use Rattle.constant.specs.Sizes.{viewOf, constView}
 use Rattle.constant.specs.declared.Const.{Const}
 use Rattle.constant.specs.declared.Const.the-variants as Co
 use Rattle.constant.proofs.Known.{known-nothing}
-use Rattle.narrow.specs.Narrow.{constOf, narrowedBy}
+use Rattle.seek.specs.Narrow.{constOf, narrowedBy}
 use Rattle.step.specs.Step.{diagnosed}
 use Rattle.constrain.specs.Constrain.{isNothing, orElse, Narrows, narrowOr}
 

@@ -21,7 +21,6 @@ use entries::node_of;
 use lists::Code;
 use narrow::narrowed;
 use paths::FieldPath;
-use place::bound;
 use step::Walk;
 use tables::Found;
 use views::Anchor;
@@ -227,7 +226,7 @@ pub fn constrain(
         return constrain_rank(file, index, work, plan, name, 3, ty, path, d);
     }
     let level = w.builder();
-    let l = bound(file, index, level, name, ty);
+    let l = level.bound(file, index, name, ty);
     let fallen = l.skip();
     w.placed(fallen)
 }

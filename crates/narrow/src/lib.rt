@@ -10,32 +10,10 @@ ghost use Rattle.paths.specs.Paths.{pathOf};
 ghost use Rattle.file.specs.Tables.{tablesOf};
 ghost use Rattle.ready.specs.Ready.{Ready};
 ghost use Rattle.seek.specs.Seek.{stateOf};
-ghost use Rattle.narrow.specs.Narrow.{IsConstant, constOf, narrowedBy};
+ghost use Rattle.seek.specs.Narrow.{IsConstant, constOf, narrowedBy};
 use constant::Const;
 use paths::FieldPath;
-use place::bytes;
-use place::prefix;
 use seek::SeekBuilder;
-
-// The level with a constant placed in it, by value.
-pub fn placed(
-    file: &[u8],
-    index: &[u16],
-    constant: Const,
-    path: FieldPath,
-    level: SeekBuilder,
-    plan: &mut [u8],
-) -> SeekBuilder
-    requires { ⌜ Ready (now file) (now index) × IsConstant (tablesOf (now file)) constant ⌝ }
-    ensures { λ r. ⌜ ((e : Ends) (w : List ℕ) → stateOf (tablesOf (now (file .entry))) r e w (now (plan .exit)) ≡ narrowedBy (tablesOf (now (file .entry))) (constOf (tablesOf (now (file .entry))) constant) (pathOf path) (stateOf (tablesOf (now (file .entry))) level e w (now (plan .entry)))) ⌝ }
-{
-    match constant {
-        Const::Nothing => level,
-        Const::Bytes(node, ty, len) => bytes(file, index, level, path, node, ty, len, plan),
-        Const::Prefix(x) => prefix(file, index, level, path, x, plan),
-        Const::Fuzzy(x, d, a) => level.fuzzy(path, x, d, a, plan),
-    }
-}
 
 // A lent level narrowed by a constant.
 pub fn narrow_by(
@@ -47,15 +25,24 @@ pub fn narrow_by(
     plan: &mut [u8],
 )
     requires { ⌜ Ready (now file) (now index) × IsConstant (tablesOf (now file)) constant ⌝ }
-    ensures { λ _. ⌜ ((e : Ends) (w : List ℕ) → stateOf (tablesOf (now (file .entry))) (now (level .exit)) e w (now (plan .exit)) ≡ narrowedBy (tablesOf (now (file .entry))) (constOf (tablesOf (now (file .entry))) constant) (pathOf path) (stateOf (tablesOf (now (file .entry))) (now (level .entry)) e w (now (plan .entry)))) ⌝ }
+    ensures { λ _. ⌜ ((e : Ends) (w : List ℕ) →
+        let T = tablesOf (now (file .entry)) in
+        let before = stateOf T (now (level .entry)) e w (now (plan .entry)) in
+        let after = stateOf T (now (level .exit)) e w (now (plan .exit)) in
+        after ≡ narrowedBy T (constOf T constant) (pathOf path) before
+        ) ⌝ }
 {
     let l = *level;
-    *level = placed(file, index, constant, path, l, plan);
+    *level = l.with_constant(file, index, constant, path, plan);
 }
 
 // A lent level narrowed by the tag of a union's alternative.
 pub fn narrow_by_tag(disc: u32, path: FieldPath, level: &mut SeekBuilder, plan: &mut [u8])
-    ensures { λ _. ⌜ ((T : Tables) (e : Ends) (w : List ℕ) → stateOf T (now (level .exit)) e w (now (plan .exit)) ≡ Ops.narrow (pathOf path) (Narrowing.Tag disc) (stateOf T (now (level .entry)) e w (now (plan .entry)))) ⌝ }
+    ensures { λ _. ⌜ ((T : Tables) (e : Ends) (w : List ℕ) →
+        let before = stateOf T (now (level .entry)) e w (now (plan .entry)) in
+        let after = stateOf T (now (level .exit)) e w (now (plan .exit)) in
+        after ≡ Ops.narrow (pathOf path) (Narrowing.Tag disc) before
+        ) ⌝ }
 {
     let l = *level;
     *level = l.tag(path, disc, plan);
@@ -71,7 +58,11 @@ pub fn narrowed(
     plan: &mut [u8],
 ) -> SeekBuilder
     requires { ⌜ Ready (now file) (now index) × IsConstant (tablesOf (now file)) constant ⌝ }
-    ensures { λ r. ⌜ ((e : Ends) (w : List ℕ) → stateOf (tablesOf (now (file .entry))) r e w (now (plan .exit)) ≡ narrowedBy (tablesOf (now (file .entry))) (constOf (tablesOf (now (file .entry))) constant) (pathOf path) (stateOf (tablesOf (now (file .entry))) level e w (now (plan .entry)))) ⌝ }
+    ensures { λ r. ⌜ ((e : Ends) (w : List ℕ) →
+        let T = tablesOf (now (file .entry)) in
+        let before = stateOf T level e w (now (plan .entry)) in
+        stateOf T r e w (now (plan .exit)) ≡ narrowedBy T (constOf T constant) (pathOf path) before
+        ) ⌝ }
 {
     let mut l = level;
     narrow_by(file, index, constant, path, &mut l, plan);
@@ -80,7 +71,10 @@ pub fn narrowed(
 
 // A level that is lent to `narrow_by_tag`, and comes back.
 pub fn tagged(disc: u32, path: FieldPath, level: SeekBuilder, plan: &mut [u8]) -> SeekBuilder
-    ensures { λ r. ⌜ ((T : Tables) (e : Ends) (w : List ℕ) → stateOf T r e w (now (plan .exit)) ≡ Ops.narrow (pathOf path) (Narrowing.Tag disc) (stateOf T level e w (now (plan .entry)))) ⌝ }
+    ensures { λ r. ⌜ ((T : Tables) (e : Ends) (w : List ℕ) →
+        let before = stateOf T level e w (now (plan .entry)) in
+        stateOf T r e w (now (plan .exit)) ≡ Ops.narrow (pathOf path) (Narrowing.Tag disc) before
+        ) ⌝ }
 {
     let mut l = level;
     narrow_by_tag(disc, path, &mut l, plan);

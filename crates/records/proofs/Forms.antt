@@ -1,7 +1,7 @@
 -- The forms of the plan that have a loop: a path's steps.
 use mathlib.Core.Path.{_≡_, refl, sym, ap, _∙_}
 use mathlib.Core.List.{List, [], _∷_, _++_}
-use Prim.Native.Nat.{ℕ, suc, _+_, _*_, _-_, _%_, _≤_, _<_}
+use Prim.Native.Nat.{ℕ, suc, _+_, _*_, _-_, _%_, _≤_, _<_, min}
 use native.Mathlib.Nat.{sub-zero}
 use native.Mathlib.Numerals.{add-one}
 use native.Mathlib.Omega.{arith}
@@ -14,7 +14,7 @@ use Rattle.rules.specs.Plan as Plan
 use Rattle.rules.specs.Plan.{u16, u32}
 use Rattle.paths.specs.Paths.{pathOf}
 use Rattle.paths.specs.declared.FieldPath.{FieldPath}
-use Rattle.records.specs.Records.{put}
+use Rattle.records.specs.Records.{put, cut}
 use Rattle.records.proofs.Stores.{put-none, put-append, next}
 
 -- a count past the steps counts them all
@@ -23,6 +23,15 @@ unfolding pathOf
 all-steps p l h =
     ap (λ (s : List ℕ). record { field = p .field; steps = s })
     (take-all stepLimit (p .steps) (omega arith) ∙ sym (take-all (p .count) (p .steps) (omega arith)))
+
+-- a count cut to the steps, by whether it is more
+pub cut-less : (p : FieldPath) → p .count ≤ stepLimit → p ≡ cut p
+unfolding cut
+cut-less p h = ap (λ (n : ℕ). record { steps = p .steps; count = n; field = p .field }) (let e : p .count ≡ min stepLimit (p .count) = omega arith in e)
+
+pub cut-more : (p : FieldPath) → stepLimit < p .count → record { steps = p .steps; count = stepLimit; field = p .field } ≡ cut p
+unfolding cut
+cut-more p h = ap (λ (n : ℕ). record { steps = p .steps; count = n; field = p .field }) (let e : stepLimit ≡ min stepLimit (p .count) = omega arith in e)
 
 pub steps-size : (s : List ℕ) → length (concatMap u32 s) ≡ 4 * length s
 unfolding concatMap u32

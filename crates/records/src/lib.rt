@@ -8,11 +8,10 @@ ghost use lib.ListN.{length};
 ghost use Rattle.rules.specs.Limits.{stepLimit};
 ghost use Rattle.rules.specs.Constant.{unionTag};
 ghost use Rattle.rules.specs.Events.{Narrowing};
-ghost use Rattle.rules.specs.Placement.{SeekKeyPart};
 ghost use Rattle.rules.specs.Plan as Plan;
 ghost use Rattle.paths.specs.Paths.{pathOf};
 ghost use Rattle.views.specs.Views.{anchorOf};
-ghost use Rattle.records.specs.Records.{put, reach, written, formOf};
+ghost use Rattle.records.specs.Records.{put, reach, written, behind, headOf, apartOf, cut};
 use file::wide16;
 use paths::Address;
 use paths::FieldPath;
@@ -72,7 +71,7 @@ pub fn put_tag(buf: &mut [u8], at: usize, disc: u32)
 
 // The same path, its count no more than its steps.
 pub fn within(p: FieldPath) -> FieldPath
-    ensures { λ r. ⌜ (pathOf r ≡ pathOf p) × (r .count ≤ stepLimit) ⌝ }
+    ensures { λ r. ⌜ (pathOf r ≡ pathOf p) × (r .count ≤ stepLimit) × (r ≡ cut p) ⌝ }
 {
     if p.count <= FieldPath::STEP_LIMIT {
         return p;
@@ -92,7 +91,10 @@ pub fn path_size(p: FieldPath) -> usize
 // A path; the place after it is handed back.
 pub fn put_path(buf: &mut [u8], at: usize, p: FieldPath) -> usize
     requires { ⌜ at ≤ 2 * reach ⌝ }
-    ensures { λ r. ⌜ (r ≡ at + length (Plan.path (pathOf p))) × (r ≤ at + 63) × (now (buf .exit) ≡ put (now (buf .entry)) at (Plan.path (pathOf p))) ⌝ }
+    ensures { λ r. ⌜ (
+        let form = Plan.path (pathOf p) in
+        (r ≡ at + length form) × (r ≤ at + 63) × (now (buf .exit) ≡ put (now (buf .entry)) at form)
+        ) ⌝ }
 {
     let q = within(p);
     let n = q.count;
@@ -107,34 +109,20 @@ pub fn put_path(buf: &mut [u8], at: usize, p: FieldPath) -> usize
     at + 3 + 4 * n
 }
 
-// The frame of a part of `len` bytes; then where the bytes go.
-pub fn put_head(plan: &mut [u8], place: Place, len: usize) -> Place
-    requires { ⌜ place .at ≤ reach ⌝ }
-    ensures { λ r. ⌜ ((bytes : List ℕ) → (place .write ≡ true → length bytes ≡ len) → written r bytes (now (plan .exit)) ≡ written place (formOf (place .joined) (SeekKeyPart.Bytes bytes)) (now (plan .entry))) × (r .at ≤ place .at + 3) × (r .write ≡ place .write) ⌝ }
-{
-    if place.joined {
-        return place;
-    }
-    if !place.write {
-        return place;
-    }
-    let at = place.at;
-    put8(plan, at, 0);
-    put16(plan, at + 1, len);
-    Place {
-        write: true,
-        joined: false,
-        at: at + 3,
-    }
-}
-
 // A residual's path; then where its op goes.
 pub fn put_path_at(plan: &mut [u8], place: Place, path: FieldPath) -> Place
     requires { ⌜ place .at ≤ reach ⌝ }
-    ensures { λ r. ⌜ ((bytes : List ℕ) → written r bytes (now (plan .exit)) ≡ written place (Plan.path (pathOf path) ++ bytes) (now (plan .entry))) × (r .at ≤ place .at + 63) × (r .write ≡ place .write) ⌝ }
+    ensures { λ r. ⌜ (
+        let form = Plan.path (pathOf path) in
+        (now (plan .exit) ≡ written place form (now (plan .entry))) × (r ≡ behind (length form) place) × (r .at ≤ place .at + 63)
+        ) ⌝ }
 {
     if !place.write {
-        return place;
+        return Place {
+            write: false,
+            joined: place.joined,
+            at: place.at + path_size(path),
+        };
     }
     let at = put_path(plan, place.at, path);
     Place {
@@ -144,22 +132,40 @@ pub fn put_path_at(plan: &mut [u8], place: Place, path: FieldPath) -> Place
     }
 }
 
-// A residual's text op of `len` bytes; then where the bytes go.
+// What stands before a text of `len` bytes: a kind and the length; then where the text goes.
 pub fn put_text_at(plan: &mut [u8], place: Place, kind: u8, len: usize) -> Place
     requires { ⌜ place .at ≤ 2 * reach ⌝ }
-    ensures { λ r. ⌜ ((bytes : List ℕ) → (place .write ≡ true → length bytes ≡ len) → written r bytes (now (plan .exit)) ≡ written place (kind ∷ Plan.text bytes) (now (plan .entry))) × (r .at ≤ place .at + 3) × (r .write ≡ place .write) ⌝ }
+    ensures { λ r. ⌜ (
+        let form = kind ∷ Plan.u16 len in
+        (now (plan .exit) ≡ written place form (now (plan .entry))) × (r ≡ behind 3 place) × (r .at ≤ place .at + 3)
+        ) ⌝ }
 {
-    if !place.write {
-        return place;
-    }
     let at = place.at;
-    put8(plan, at, kind);
-    put16(plan, at + 1, len);
-    Place {
-        write: true,
+    let end = Place {
+        write: place.write,
         joined: place.joined,
         at: at + 3,
+    };
+    if !place.write {
+        return end;
     }
+    put8(plan, at, kind);
+    put16(plan, at + 1, len);
+    end
+}
+
+// What stands before a part's `len` bytes, nothing where they are joined; then where the bytes go.
+pub fn put_head(plan: &mut [u8], place: Place, len: usize) -> Place
+    requires { ⌜ place .at ≤ reach ⌝ }
+    ensures { λ r. ⌜ (
+        let head = headOf (place .joined) len in
+        (now (plan .exit) ≡ written place head (now (plan .entry))) × (r ≡ behind (length head) place) × (r .at ≤ place .at + 3)
+        ) ⌝ }
+{
+    if place.joined {
+        return place;
+    }
+    put_text_at(plan, place, 0, len)
 }
 
 pub fn put_tag_at(plan: &mut [u8], place: Place, disc: u32)
@@ -205,7 +211,10 @@ pub fn anchor_byte(anchor: Anchor) -> u8
 
 pub fn put_fuzzy(plan: &mut [u8], place: Place, name: usize, distance: u8, anchor: Anchor)
     requires { ⌜ place .at ≤ 2 * reach ⌝ }
-    ensures { λ _. ⌜ now (plan .exit) ≡ written place (Plan.op (Narrowing.Fuzzy name distance (anchorOf anchor))) (now (plan .entry)) ⌝ }
+    ensures { λ _. ⌜ (
+        let form = Plan.op (Narrowing.Fuzzy name distance (anchorOf anchor)) in
+        now (plan .exit) ≡ written place form (now (plan .entry))
+        ) ⌝ }
 {
     if !place.write {
         return;
@@ -220,7 +229,10 @@ pub fn put_fuzzy(plan: &mut [u8], place: Place, name: usize, distance: u8, ancho
 // What parts and residuals share: a kind and a register, with a path or without.
 pub fn put_register(plan: &mut [u8], place: Place, kind: u8, address: Address, path: FieldPath)
     requires { ⌜ place .at ≤ reach ⌝ }
-    ensures { λ _. ⌜ now (plan .exit) ≡ written place (kind ∷ Plan.u16 (address .0) ++ Plan.path (pathOf path)) (now (plan .entry)) ⌝ }
+    ensures { λ _. ⌜ (
+        let form = kind ∷ Plan.u16 (address .0) ++ Plan.path (pathOf path) in
+        now (plan .exit) ≡ written place form (now (plan .entry))
+        ) ⌝ }
 {
     if !place.write {
         return;
@@ -245,7 +257,7 @@ pub fn put_fact(plan: &mut [u8], place: Place, kind: u8, address: Address)
 
 // The place of a part that is no bytes: joined to the others it leaves nothing.
 pub fn apart(place: Place) -> Place
-    ensures { λ r. ⌜ ((bytes plan : List ℕ) → written r bytes plan ≡ written place (elim (place .joined) [ true ↦ [] | false ↦ bytes ]) plan) × (r .at ≡ place .at) ⌝ }
+    ensures { λ r. ⌜ (r ≡ apartOf place) × (r .at ≡ place .at) ⌝ }
 {
     if place.joined {
         return Place {

@@ -1,18 +1,19 @@
 -- A level that grows: with other counts if they fit, else it stops.
-use mathlib.Core.Path.{_≡_, sym, ap, _∙_}
+use mathlib.Core.Path.{_≡_, refl, sym, ap, _∙_, transport}
 use mathlib.Core.Bool.{Bool, true, false}
 use mathlib.Core.List.{List}
 use Prim.Native.Nat.{ℕ}
 use lib.Seq.{sets}
 use Rattle.rules.specs.File.{Tables}
+use Rattle.rules.proofs.Cases.{true≢false}
 use Rattle.state.specs.State.{Ends, Level, State, state, stop, unless, fits}
 use Rattle.state.specs.Ops.{grow}
 use Rattle.records.specs.Records.{put, written}
-use Rattle.seek.specs.Seek.{sumsOf, summed, countsOf, guideOf, rangeOf, edgesOf, levelOf, targetOf, stateOf, fitting, resummed}
+use Rattle.seek.specs.Seek.{sumsOf, counted, countsOf, guideOf, rangeOf, edgesOf, levelOf, stateOf, fitting, resummed, overrun, recounted, grownBy}
 use Rattle.seek.specs.declared.Counts.{Counts}
 use Rattle.seek.specs.declared.Sums.{Sums}
-use Rattle.records.specs.declared.Place.{Place}
 use Rattle.seek.specs.declared.SeekBuilder.{SeekBuilder}
+use Rattle.seek.specs.declared.Placed.{Placed}
 use Rattle.seek.proofs.Fits.{fits-counts}
 
 pub pick-true : {A : Type 0} (b : Bool) (x y : A) → b ≡ true → (elim b [ true ↦ x | false ↦ y ]) ≡ x
@@ -40,20 +41,59 @@ module _ (l : Level) (at : ℕ) (bytes : List ℕ) (s : State) where
   unfolding grow
   grow-no e = pick-false (fits l) _ _ (fits-counts l ∙ e)
 
-abbrev recounted : SeekBuilder → Bool → Counts → SeekBuilder
-recounted b plain c = record { over = b .over; building = b .building; plain = plain; counts = c; path = b .path; range = b .range; guide = b .guide; lo = b .lo; hi = b .hi; folded = b .folded; target = b .target }
+pub overruns : (b : SeekBuilder) (T : Tables) (e : Ends) (w p : List ℕ) → stateOf T (overrun b) e w p ≡ stop (stateOf T b e w p)
+unfolding overrun stateOf levelOf guideOf rangeOf edgesOf stop
+overruns b T e w p = refl
 
-module _ (b : SeekBuilder) (plain : Bool) (s : Sums) (at : ℕ) (T : Tables) (e : Ends) (w p bytes : List ℕ) where
-  pub grown-yes : (c : Counts) → summed c ≡ s → fitting plain (sumsOf s) ≡ true
-      → stateOf T (recounted b plain c) e w (written (record { write = b .target .writing; joined = b .target .joining; at = at }) bytes p)
-      ≡ grow (resummed plain s (levelOf T b)) at bytes (stateOf T b e w p)
-  unfolding stateOf levelOf countsOf guideOf rangeOf edgesOf resummed written put
-  grown-yes c ec h =
-      ap (λ k. state (b .over) e (resummed plain k (levelOf T b)) (targetOf (b .target)) w (written (record { write = b .target .writing; joined = b .target .joining; at = at }) bytes p)) ec
-      ∙ sym (grow-yes (resummed plain s (levelOf T b)) at bytes (stateOf T b e w p) h)
+module _ (b : SeekBuilder) (plain : Bool) (s : Sums) (at : ℕ) where
+  abbrev yes : Placed
+  yes = record { level = recounted plain (counted s) b; place = record { write = b .target .writing; joined = b .target .joining; at = at } }
 
-  pub grown-no : (r : SeekBuilder) (place : Place) → place .write ≡ false → ((q : List ℕ) → stateOf T r e w q ≡ stop (stateOf T b e w q)) → fitting plain (sumsOf s) ≡ false
-      → stateOf T r e w (written place bytes p) ≡ grow (resummed plain s (levelOf T b)) at bytes (stateOf T b e w p)
-  unfolding resummed written
-  grown-no r place off er h =
-      ap (stateOf T r e w) (pick-false (place .write) _ p off) ∙ er p ∙ sym (grow-no (resummed plain s (levelOf T b)) at bytes (stateOf T b e w p) h)
+  abbrev no : Placed
+  no = record { level = overrun b; place = record { write = false; joined = b .target .joining; at = at } }
+
+  grown-yes : fitting plain (sumsOf s) ≡ true → grownBy plain s at b ≡ yes
+  unfolding grownBy
+  grown-yes h = pick-true (fitting plain (sumsOf s)) yes no h
+
+  grown-no : fitting plain (sumsOf s) ≡ false → grownBy plain s at b ≡ no
+  unfolding grownBy
+  grown-no h = pick-false (fitting plain (sumsOf s)) yes no h
+
+  pub grown-fit : (k : Counts) → k ≡ counted s → fitting plain (sumsOf s) ≡ true
+      → record { level = recounted plain k b; place = record { write = b .target .writing; joined = b .target .joining; at = at } } ≡ grownBy plain s at b
+  grown-fit k e h = ap (λ (x : Counts). record { level = recounted plain x b; place = yes .place }) e ∙ sym (grown-yes h)
+
+  pub grown-over : (l : SeekBuilder) → l ≡ overrun b → fitting plain (sumsOf s) ≡ false
+      → record { level = l; place = record { write = false; joined = b .target .joining; at = at } } ≡ grownBy plain s at b
+  grown-over l e h = ap (λ (x : SeekBuilder). record { level = x; place = no .place }) e ∙ sym (grown-no h)
+
+  -- what follows where it fits and where it does not
+  grown-by : (P : Placed → Type 0) → (fitting plain (sumsOf s) ≡ true → P yes) → (fitting plain (sumsOf s) ≡ false → P no) → P (grownBy plain s at b)
+  grown-by P f g = go (fitting plain (sumsOf s)) refl
+    where
+      go : (t : Bool) → fitting plain (sumsOf s) ≡ t → P (grownBy plain s at b)
+      go true h = transport (ap P (sym (grown-yes h))) (f h)
+      go false h = transport (ap P (sym (grown-no h))) (g h)
+
+  pub grown-joined : grownBy plain s at b .place .joined ≡ b .target .joining
+  grown-joined = grown-by (λ x. x .place .joined ≡ b .target .joining) (λ h. refl) (λ h. refl)
+
+  pub grown-at : grownBy plain s at b .place .at ≡ at
+  grown-at = grown-by (λ x. x .place .at ≡ at) (λ h. refl) (λ h. refl)
+
+  -- what is written fits
+  pub grown-fits : grownBy plain s at b .place .write ≡ true → fitting plain (sumsOf s) ≡ true
+  grown-fits = grown-by (λ x. x .place .write ≡ true → fitting plain (sumsOf s) ≡ true) (λ h w. h) (λ h w. absurd (true≢false (sym w)))
+
+  module _ (T : Tables) (e : Ends) (w p bytes : List ℕ) where
+    grows-yes : fitting plain (sumsOf s) ≡ true → stateOf T (yes .level) e w (written (yes .place) bytes p) ≡ grow (resummed plain s (levelOf T b)) at bytes (stateOf T b e w p)
+    unfolding recounted stateOf levelOf countsOf guideOf rangeOf edgesOf resummed written put
+    grows-yes h = sym (grow-yes (resummed plain s (levelOf T b)) at bytes (stateOf T b e w p) h)
+
+    grows-no : fitting plain (sumsOf s) ≡ false → stateOf T (no .level) e w (written (no .place) bytes p) ≡ grow (resummed plain s (levelOf T b)) at bytes (stateOf T b e w p)
+    unfolding resummed written
+    grows-no h = overruns b T e w p ∙ sym (grow-no (resummed plain s (levelOf T b)) at bytes (stateOf T b e w p) h)
+
+    pub grown-is : stateOf T (grownBy plain s at b .level) e w (written (grownBy plain s at b .place) bytes p) ≡ grow (resummed plain s (levelOf T b)) at bytes (stateOf T b e w p)
+    grown-is = grown-by (λ x. stateOf T (x .level) e w (written (x .place) bytes p) ≡ grow (resummed plain s (levelOf T b)) at bytes (stateOf T b e w p)) grows-yes grows-no

@@ -4,3 +4,6 @@ pub mod Parts
 pub mod Narrows
 pub mod Falls
 pub mod Edges
+pub mod Consts
+pub mod Folds
+pub mod Constants

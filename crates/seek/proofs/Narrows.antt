@@ -1,7 +1,7 @@
 -- A narrowing, by whether the plan is too long and whether the level builds.
 use mathlib.Core.Path.{_≡_, sym, ap, _∙_}
 use mathlib.Core.Bool.{Bool, true, false}
-use mathlib.Core.List.{List, [], _∷_, _++_}
+use mathlib.Core.List.{List, [], _∷_}
 use Prim.Native.Nat.{ℕ, _+_, _≤_}
 use native.Mathlib.Omega.{arith}
 use lib.ListN.{length, length-append}
@@ -13,9 +13,9 @@ use Rattle.rules.specs.Placement.{SeekKeyPart}
 use Rattle.rules.specs.Plan as Plan
 use Rattle.state.specs.State.{Ends, State, unless}
 use Rattle.state.specs.Ops.{grow, narrowed, closed, putPart, putResidual, narrowPart, withRange, narrowPrefix, attachable, withGuide, narrowFuzzy, narrowing, narrow, close, closer}
-use Rattle.records.specs.Records.{written}
+use Rattle.records.specs.Records.{written, behind}
 use Rattle.records.specs.declared.Place.{Place}
-use Rattle.records.proofs.Places as Places
+use Rattle.records.proofs.Places.{follows, text-written, behind-writes}
 use Rattle.seek.specs.Seek.{Alike, countsOf, levelOf, stateOf}
 use Rattle.seek.specs.declared.SeekBuilder.{SeekBuilder}
 use Rattle.seek.proofs.Grows.{pick-true, pick-false, unless-over, unless-not}
@@ -47,15 +47,18 @@ pub residual-size : (path : FieldPath) (op : Narrowing) (m n : ℕ) → m ≡ le
 unfolding Plan.residual
 residual-size path op m n e f = length-append (Plan.path path) (Plan.op op) ∙ (let g : length (Plan.path path) + length (Plan.op op) ≡ m + n = omega arith in g)
 
-pub residual-put : (path : FieldPath) (op : Narrowing) (at place : Place) (q p1 p0 : List ℕ) → q ≡ written at (Plan.op op) p1 → written at (Plan.op op) p1 ≡ written place (Plan.path path ++ Plan.op op) p0
-    → q ≡ written place (Plan.residual (record { path = path; op = op })) p0
+pub residual-put : (path : FieldPath) (op : Narrowing) (place at : Place) (p0 p1 q : List ℕ)
+    → p1 ≡ written place (Plan.path path) p0 → at ≡ behind (length (Plan.path path)) place → q ≡ written at (Plan.op op) p1 → q ≡ written place (Plan.residual (record { path = path; op = op })) p0
 unfolding Plan.residual
-residual-put path op at place q p1 p0 e f = e ∙ f
+residual-put path op place at p0 p1 q e1 ea e2 = follows place at (Plan.path path) (Plan.op op) p0 p1 q e1 ea e2
 
 -- the op is a kind and a text
-pub residual-text : (path : FieldPath) (op : Narrowing) (form : List ℕ) (at place : Place) (q p1 p0 : List ℕ) → Plan.op op ≡ form → q ≡ written at form p1
-    → ((bytes : List ℕ) → written at bytes p1 ≡ written place (Plan.path path ++ bytes) p0) → q ≡ written place (Plan.residual (record { path = path; op = op })) p0
-residual-text path op form at place q p1 p0 eo e f = residual-put path op at place q p1 p0 (e ∙ ap (λ x. written at x p1) (sym eo)) (f (Plan.op op))
+pub residual-text : (path : FieldPath) (op : Narrowing) (kind len : ℕ) (bytes : List ℕ) (place at₁ at₂ : Place) (p0 p1 p2 q : List ℕ) → Plan.op op ≡ kind ∷ Plan.text bytes
+    → p1 ≡ written place (Plan.path path) p0 → at₁ ≡ behind (length (Plan.path path)) place → p2 ≡ written at₁ (kind ∷ Plan.u16 len) p1 → at₂ ≡ behind 3 at₁ → q ≡ written at₂ bytes p2
+    → (place .write ≡ true → length bytes ≡ len) → q ≡ written place (Plan.residual (record { path = path; op = op })) p0
+residual-text path op kind len bytes place at₁ at₂ p0 p1 p2 q eo e1 a1 e2 a2 e3 l =
+    residual-put path op place at₁ p0 p1 q e1 a1
+    (text-written at₁ at₂ kind len bytes p1 p2 q e2 a2 e3 (λ on. l (sym (behind-writes place at₁ _ a1) ∙ on)) ∙ ap (λ (x : List ℕ). written at₁ x p1) (sym eo))
 
 pub register-size : (a : ℕ) (at : FieldPath) (n : ℕ) → n ≡ length (Plan.path at) → length (Plan.part (SeekKeyPart.RegisterField a at)) ≡ 0 + (3 + n)
 unfolding Plan.part Plan.u16
@@ -81,10 +84,6 @@ text-residual path op bytes kind len m eo em e =
     omega (arith, length-append (Plan.path path) (Plan.op op))
 
 module _ (b : SeekBuilder) (T : Tables) (e : Ends) (w p : List ℕ) where
-  -- the level as it was, and nothing to write
-  pub unplaced-is : (l : SeekBuilder) (place : Place) (bytes : List ℕ) (r : State) → l ≡ b → place .write ≡ false → stateOf T b e w p ≡ r → stateOf T l e w (written place bytes p) ≡ r
-  unplaced-is l place bytes r el off h = ap (stateOf T l e w) (sym (Places.off place bytes p off)) ∙ ap (λ x. stateOf T x e w p) el ∙ h
-
   module _ (path : FieldPath) (r : State) (live : b .over ≡ false) where
     -- fuzzy, by whether it can guide
     module _ (x distance : ℕ) (anchor : Anchor) where

@@ -16,13 +16,14 @@ use Rattle.rules.specs.Plan as Plan
 use Rattle.state.specs.State as Kept
 use Rattle.state.specs.State.{Ends, Level, State, counts}
 use Rattle.state.specs.Ops.{grow, narrowed, closed, recount, isBytes, partText, withPart, partAt, partForm, putPart, putResidual}
-use Rattle.records.specs.Records.{formOf}
-use Rattle.seek.specs.Seek.{Alike, partsSize, fitting, sumsOf, summed, countsOf, levelOf, stateOf, resummed, partSums, restSums, counting}
+use Rattle.records.specs.Records.{written, formOf}
+use Rattle.seek.specs.Seek.{Alike, partsSize, fitting, sumsOf, summed, countsOf, levelOf, stateOf, resummed, partSums, restSums, counting, grownBy, partPlace, restPlace, partBy, residualBy}
 use Rattle.seek.specs.declared.Counts.{Counts}
 use Rattle.seek.specs.declared.Sums.{Sums}
 use Rattle.seek.specs.declared.SeekBuilder.{SeekBuilder}
+use Rattle.seek.specs.declared.Placed.{Placed}
 use Rattle.seek.proofs.Fits.{too-long}
-use Rattle.seek.proofs.Grows.{pick-true, pick-false, grow-no}
+use Rattle.seek.proofs.Grows.{pick-true, pick-false, grow-no, grown-joined, grown-at, grown-fits, grown-is}
 
 pub sums-same : (c : Counts) (n l o r j f x : ℕ) → n ≡ c .narrowings → l ≡ c .closers → o ≡ c .others → r ≡ c .residuals → j ≡ c .joined → f ≡ c .framed → x ≡ c .rest
     → record { narrowings = n; closers = l; others = o; residuals = r; joined = j; framed = f; rest = x } ≡ summed c
@@ -91,11 +92,11 @@ unfolding restSums
 big-residual plain n s h = too-long plain (restSums n s) _ refl (omega arith)
 
 module _ (plain : Bool) (s : Sums) where
-  pub part-fits : (closer : Bool) (n frame : ℕ) (s0 : Sums) → s ≡ partSums closer n frame s0 → fitting plain (sumsOf s) ≡ true → n ≤ 16384
+  part-fits : (closer : Bool) (n frame : ℕ) (s0 : Sums) → s ≡ partSums closer n frame s0 → fitting plain (sumsOf s) ≡ true → n ≤ 16384
   part-fits closer n frame s0 e h =
       under n (λ g. true≢false (sym h ∙ ap (λ x. fitting plain (sumsOf x)) e ∙ sym (big-part plain closer n frame s0 g)))
 
-  pub residual-fits : (n : ℕ) (s0 : Sums) → s ≡ restSums n s0 → fitting plain (sumsOf s) ≡ true → n ≤ 16384
+  residual-fits : (n : ℕ) (s0 : Sums) → s ≡ restSums n s0 → fitting plain (sumsOf s) ≡ true → n ≤ 16384
   residual-fits n s0 e h = under n (λ g. true≢false (sym h ∙ ap (λ x. fitting plain (sumsOf x)) e ∙ sym (big-residual plain n s0 g)))
 
 -- a level by a size: where two sizes are alike it grows alike
@@ -112,49 +113,105 @@ alike-grow l at bytes s m n big e = go (leb m 16384) refl
         let f : 16384 < n = omega arith in
         grow-no (l m) at bytes s (big m g) ∙ sym (grow-no (l n) at bytes s (big n f))
 
-module _ (b : SeekBuilder) (T : Tables) (e : Ends) (w p : List ℕ) where
-  pub at-joined : (x y : ℕ) → b .target .joining ≡ true → x ≡ b .target .parts → y ≡ b .counts .joined → x + y ≡ partAt (stateOf T b e w p)
-  unfolding partAt stateOf levelOf countsOf sumsOf
+module _ (b : SeekBuilder) where
+  pub at-joined : (x y : ℕ) → b .target .joining ≡ true → x ≡ b .target .parts → y ≡ b .counts .joined → x + y ≡ partPlace b
+  unfolding partPlace
   at-joined x y j ex ey =
       let f : x + y ≡ b .target .parts + b .counts .joined = omega arith in
       f ∙ ap (λ (i : ℕ). b .target .parts + i) (sym (pick-true (b .target .joining) (b .counts .joined) (b .counts .joined + b .counts .framed) j))
 
-  pub at-parted : (x y z : ℕ) → b .target .joining ≡ false → x ≡ b .target .parts → y ≡ b .counts .joined → z ≡ b .counts .framed → x + y + z ≡ partAt (stateOf T b e w p)
-  unfolding partAt stateOf levelOf countsOf sumsOf
+  pub at-parted : (x y z : ℕ) → b .target .joining ≡ false → x ≡ b .target .parts → y ≡ b .counts .joined → z ≡ b .counts .framed → x + y + z ≡ partPlace b
+  unfolding partPlace
   at-parted x y z j ex ey ez =
       let f : x + y + z ≡ b .target .parts + (b .counts .joined + b .counts .framed) = omega arith in
       f ∙ ap (λ (i : ℕ). b .target .parts + i) (sym (pick-false (b .target .joining) (b .counts .joined) (b .counts .joined + b .counts .framed) j))
 
-  pub part-placed : (closer bytes plain joined : Bool) (text frame at : ℕ) (s s0 : Sums) (part : SeekKeyPart) (r : State)
-      → plain ≡ both (b .plain) bytes → s ≡ partSums closer text frame s0 → s0 ≡ summed (b .counts) → at ≡ partAt (stateOf T b e w p) → joined ≡ b .target .joining
-      → isBytes part ≡ bytes → Alike (length (partText part)) text → length (Plan.part part) ≡ length (partText part) + frame
-      → r ≡ grow (resummed plain s (levelOf T b)) at (formOf joined part) (stateOf T b e w p)
-      → r ≡ putPart part (counting closer (countsOf (b .counts))) (stateOf T b e w p)
-  unfolding putPart stateOf levelOf partForm formOf resummed
-  part-placed closer bytes plain joined text frame at s s0 part r ep es e0 ea ej eb et ef h =
-      let st : State = stateOf T b e w p in
-      let n : ℕ = length (partText part) in
-      let c : Sums = summed (b .counts) in
-      let plain′ : Bool = both (b .plain) bytes in
-      h
-      ∙ ap (λ t. grow (resummed t s (levelOf T b)) at (formOf joined part) st) ep
-      ∙ ap (λ t. grow (resummed plain′ t (levelOf T b)) at (formOf joined part) st) (es ∙ ap (partSums closer text frame) e0)
-      ∙ alike-grow (λ k. resummed plain′ (partSums closer k frame c) (levelOf T b)) at (formOf joined part) st text n (λ k g. sym (big-part plain′ closer k frame c g)) (sym et)
-      ∙ ap (λ (i : ℕ). grow (resummed plain′ (partSums closer n frame c) (levelOf T b)) i (formOf joined part) st) ea
-      ∙ ap (λ t. grow (resummed plain′ (partSums closer n frame c) (levelOf T b)) (partAt st) (formOf t part) st) ej
-      ∙ ap (λ l. grow l (partAt st) (partForm st part) st) (more-level closer bytes (b .counts) n frame part (levelOf T b) eb refl ef)
+  pub at-rest : (x y : ℕ) → x ≡ b .target .rest → y ≡ b .counts .rest → x + y ≡ restPlace b
+  unfolding restPlace
+  at-rest x y ex ey = omega arith
 
-  pub residual-placed : (size at x y : ℕ) (s s0 : Sums) (path : FieldPath) (op : Narrowing) (r : State)
-      → s ≡ restSums size s0 → s0 ≡ summed (b .counts) → x ≡ b .target .rest → y ≡ b .counts .rest → at ≡ x + y → Alike (length (Plan.residual (record { path = path; op = op }))) size
-      → r ≡ grow (resummed (b .plain) s (levelOf T b)) at (Plan.residual (record { path = path; op = op })) (stateOf T b e w p)
-      → r ≡ putResidual path op (stateOf T b e w p)
-  unfolding putResidual stateOf levelOf recount resummed restSums countsOf sumsOf
-  residual-placed size at x y s s0 path op r es e0 ex ey ea el h =
-      let st : State = stateOf T b e w p in
-      let form : List ℕ = Plan.residual (record { path = path; op = op }) in
-      let c : Sums = summed (b .counts) in
-      let a : at ≡ b .target .rest + b .counts .rest = omega arith in
-      h
-      ∙ ap (λ t. grow (resummed (b .plain) t (levelOf T b)) at form st) (es ∙ ap (restSums size) e0)
-      ∙ alike-grow (λ k. resummed (b .plain) (restSums k c) (levelOf T b)) at form st size (length form) (λ k g. sym (big-residual (b .plain) k c g)) (sym el)
-      ∙ ap (λ (i : ℕ). grow (resummed (b .plain) (restSums (length form) c) (levelOf T b)) i form st) a
+  -- what is asked of `grown`, put together
+  pub part-by : (closer bytes : Bool) (text frame : ℕ) (r : Placed) (plain : Bool) (s s0 : Sums) (at : ℕ)
+      → r ≡ grownBy plain s at b → plain ≡ both (b .plain) bytes → s ≡ partSums closer text frame s0 → s0 ≡ summed (b .counts) → at ≡ partPlace b → r ≡ partBy closer bytes text frame b
+  unfolding partBy
+  part-by closer bytes text frame r plain s s0 at er ep es e0 ea =
+      er ∙ ap (λ t. grownBy t s at b) ep ∙ ap (λ t. grownBy (both (b .plain) bytes) t at b) (es ∙ ap (partSums closer text frame) e0)
+      ∙ ap (λ (i : ℕ). grownBy (both (b .plain) bytes) (partSums closer text frame (summed (b .counts))) i b) ea
+
+  pub residual-by : (size : ℕ) (r : Placed) (s s0 : Sums) (at : ℕ) → r ≡ grownBy (b .plain) s at b → s ≡ restSums size s0 → s0 ≡ summed (b .counts) → at ≡ restPlace b → r ≡ residualBy size b
+  unfolding residualBy
+  residual-by size r s s0 at er es e0 ea =
+      er ∙ ap (λ t. grownBy (b .plain) t at b) (es ∙ ap (restSums size) e0) ∙ ap (λ (i : ℕ). grownBy (b .plain) (restSums size (summed (b .counts))) i b) ea
+
+  pub grown-place : (plain : Bool) (s : Sums) (at : ℕ) (r : Placed) → r ≡ grownBy plain s at b → r .place .at ≡ at
+  grown-place plain s at r e = ap (λ (x : Placed). x .place .at) e ∙ grown-at b plain s at
+
+  -- what is written is no longer than a plan
+  pub part-room : (closer bytes : Bool) (text frame : ℕ) (r : Placed) → r ≡ partBy closer bytes text frame b → r .place .write ≡ true → text ≤ 16384
+  unfolding partBy
+  part-room closer bytes text frame r e on =
+      let s : Sums = partSums closer text frame (summed (b .counts)) in
+      part-fits (both (b .plain) bytes) s closer text frame (summed (b .counts)) refl (grown-fits b (both (b .plain) bytes) s (partPlace b) (sym (ap (λ (x : Placed). x .place .write) e) ∙ on))
+
+  pub residual-room : (size : ℕ) (r : Placed) → r ≡ residualBy size b → r .place .write ≡ true → size ≤ 16384
+  unfolding residualBy
+  residual-room size r e on =
+      let s : Sums = restSums size (summed (b .counts)) in
+      residual-fits (b .plain) s size (summed (b .counts)) refl (grown-fits b (b .plain) s (restPlace b) (sym (ap (λ (x : Placed). x .place .write) e) ∙ on))
+
+  module _ (T : Tables) (e : Ends) (w p : List ℕ) where
+    part-at : partPlace b ≡ partAt (stateOf T b e w p)
+    unfolding partPlace partAt stateOf levelOf countsOf sumsOf
+    part-at = refl
+
+    part-state : (closer bytes : Bool) (text frame : ℕ) (part : SeekKeyPart) → isBytes part ≡ bytes → Alike (length (partText part)) text → length (Plan.part part) ≡ length (partText part) + frame
+        → grow (resummed (both (b .plain) bytes) (partSums closer text frame (summed (b .counts))) (levelOf T b)) (partPlace b) (formOf (b .target .joining) part) (stateOf T b e w p)
+        ≡ putPart part (counting closer (countsOf (b .counts))) (stateOf T b e w p)
+    unfolding putPart stateOf levelOf partForm formOf resummed
+    part-state closer bytes text frame part eb et ef =
+        let st : State = stateOf T b e w p in
+        let n : ℕ = length (partText part) in
+        let c : Sums = summed (b .counts) in
+        let plain : Bool = both (b .plain) bytes in
+        let form : List ℕ = formOf (b .target .joining) part in
+        alike-grow (λ k. resummed plain (partSums closer k frame c) (levelOf T b)) (partPlace b) form st text n (λ k g. sym (big-part plain closer k frame c g)) (sym et)
+        ∙ ap (λ (i : ℕ). grow (resummed plain (partSums closer n frame c) (levelOf T b)) i form st) part-at
+        ∙ ap (λ l. grow l (partAt st) (partForm st part) st) (more-level closer bytes (b .counts) n frame part (levelOf T b) eb refl ef)
+
+    -- a level with one part more, and the part written, is the compiler's
+    pub part-is : (closer bytes : Bool) (text frame : ℕ) (part : SeekKeyPart) (r : Placed) (q : List ℕ) → r ≡ partBy closer bytes text frame b
+        → isBytes part ≡ bytes → Alike (length (partText part)) text → length (Plan.part part) ≡ length (partText part) + frame
+        → q ≡ written (r .place) (formOf (r .place .joined) part) p
+        → stateOf T (r .level) e w q ≡ putPart part (counting closer (countsOf (b .counts))) (stateOf T b e w p)
+    unfolding partBy
+    part-is closer bytes text frame part r q er eb et ef eq =
+        let plain : Bool = both (b .plain) bytes in
+        let s : Sums = partSums closer text frame (summed (b .counts)) in
+        let g : Placed = grownBy plain s (partPlace b) b in
+        ap (stateOf T (r .level) e w) eq
+        ∙ ap (λ (x : Placed). stateOf T (x .level) e w (written (x .place) (formOf (x .place .joined) part) p)) er
+        ∙ ap (λ t. stateOf T (g .level) e w (written (g .place) (formOf t part) p)) (grown-joined b plain s (partPlace b))
+        ∙ grown-is b plain s (partPlace b) T e w p (formOf (b .target .joining) part)
+        ∙ part-state closer bytes text frame part eb et ef
+
+    residual-state : (size : ℕ) (path : FieldPath) (op : Narrowing) → Alike (length (Plan.residual (record { path = path; op = op }))) size
+        → grow (resummed (b .plain) (restSums size (summed (b .counts))) (levelOf T b)) (restPlace b) (Plan.residual (record { path = path; op = op })) (stateOf T b e w p)
+        ≡ putResidual path op (stateOf T b e w p)
+    unfolding putResidual restPlace stateOf levelOf recount resummed restSums countsOf sumsOf
+    residual-state size path op el =
+        let st : State = stateOf T b e w p in
+        let form : List ℕ = Plan.residual (record { path = path; op = op }) in
+        let c : Sums = summed (b .counts) in
+        alike-grow (λ k. resummed (b .plain) (restSums k c) (levelOf T b)) (restPlace b) form st size (length form) (λ k g. sym (big-residual (b .plain) k c g)) (sym el)
+
+    pub residual-is : (size : ℕ) (path : FieldPath) (op : Narrowing) (r : Placed) (q : List ℕ) → r ≡ residualBy size b
+        → Alike (length (Plan.residual (record { path = path; op = op }))) size → q ≡ written (r .place) (Plan.residual (record { path = path; op = op })) p
+        → stateOf T (r .level) e w q ≡ putResidual path op (stateOf T b e w p)
+    unfolding residualBy
+    residual-is size path op r q er el eq =
+        let s : Sums = restSums size (summed (b .counts)) in
+        let form : List ℕ = Plan.residual (record { path = path; op = op }) in
+        ap (stateOf T (r .level) e w) eq
+        ∙ ap (λ (x : Placed). stateOf T (x .level) e w (written (x .place) form p)) er
+        ∙ grown-is b (b .plain) s (restPlace b) T e w p form
+        ∙ residual-state size path op el

@@ -1,1 +1,3 @@
 pub mod Seek
+pub mod Bounds
+pub mod Narrow

@@ -4,7 +4,7 @@ use mathlib.Core.Bool.{Bool, true, false}
 use mathlib.Core.List.{List, [], _∷_}
 use mathlib.Core.Option.{Option, none, some, Option·getD}
 use Prim.Native.Nat.{ℕ, _+_, _<_, min}
-use Rattle.rules.specs.Base.{_>>=_}
+use Rattle.rules.specs.Base.{_>>=_, both}
 use Rattle.rules.specs.File.{Tables, nameAt}
 use Rattle.rules.specs.Constant.{constant, bytesOnly, encodePrefix}
 use Rattle.rules.specs.Placement as Placement
@@ -20,13 +20,43 @@ use Rattle.seek.specs.declared.Edge.{Edge}
 use Rattle.seek.specs.declared.Folded.{Folded}
 use Rattle.seek.specs.declared.Target.{Target}
 use Rattle.seek.specs.declared.SeekBuilder.{SeekBuilder}
+use Rattle.seek.specs.declared.Placed.{Placed}
 
 -- Parts are closers and others; their plan form is what they join to and what frames it. So no sum needs a bound of its own.
 unfoldable pub sumsOf : Sums → Kept.Counts
-sumsOf c = counts (c .narrowings) (c .closers) (c .closers + c .others) (c .residuals) (c .joined) (c .joined + c .framed) (c .rest)
+sumsOf c =
+    let parts = c .closers + c .others in
+    let parted = c .joined + c .framed in
+    counts (c .narrowings) (c .closers) parts (c .residuals) (c .joined) parted (c .rest)
 
 abbrev pub summed : Counts → Sums
-summed c = record { narrowings = c .narrowings; closers = c .closers; others = c .others; residuals = c .residuals; joined = c .joined; framed = c .framed; rest = c .rest }
+summed c =
+    record {
+      narrowings = c .narrowings;
+      closers = c .closers;
+      others = c .others;
+      residuals = c .residuals;
+      joined = c .joined;
+      framed = c .framed;
+      rest = c .rest;
+    }
+
+-- the counts of sums that fit
+abbrev pub counted : Sums → Counts
+counted c =
+    record {
+      narrowings = c .narrowings;
+      closers = c .closers;
+      others = c .others;
+      residuals = c .residuals;
+      joined = c .joined;
+      framed = c .framed;
+      rest = c .rest;
+    }
+
+-- nothing counted
+unfoldable pub noCounts : Counts
+noCounts = record { narrowings = 0; closers = 0; others = 0; residuals = 0; joined = 0; framed = 0; rest = 0 }
 
 unfoldable pub countsOf : Counts → Kept.Counts
 countsOf c = sumsOf (summed c)
@@ -46,17 +76,22 @@ setIn building set x = elim building [ true ↦ none | false ↦ elim set [ true
 
 unfoldable pub guideOf : SeekBuilder → Option Placement.Guide
 guideOf b =
-    setIn (b .building) (b .guide .set) (record { path = pathOf (b .path); term = b .guide .term; distance = b .guide .distance; anchor = anchorOf (b .guide .anchor) })
+    let g = b .guide in
+    setIn (b .building) (g .set) (record { path = pathOf (b .path); term = g .term; distance = g .distance; anchor = anchorOf (g .anchor) })
 
 unfoldable pub rangeOf : Tables → SeekBuilder → Option Placement.Range
-rangeOf T b = setIn (b .building) (b .range .set) (record { path = pathOf (b .path); prefix = encodePrefix (nameAt T (b .range .name)) })
+rangeOf T b =
+    let prefix = encodePrefix (nameAt T (b .range .name)) in
+    setIn (b .building) (b .range .set) (record { path = pathOf (b .path); prefix = prefix })
 
 -- A constant stays a position until it is written.
 unfoldable pub constantBytes : Tables → ℕ → ℕ → List ℕ
 constantBytes T n t = Option·getD (constant T n t >>= bytesOnly) []
 
 unfoldable pub edgeOf : Tables → Edge → Option RangeEdge
-edgeOf T e = elim (e .set) [ true ↦ some (record { value = constantBytes T (e .node) (e .ty); inclusive = e .inclusive }) | false ↦ none ]
+edgeOf T e =
+    let value = constantBytes T (e .node) (e .ty) in
+    elim (e .set) [ true ↦ some (record { value = value; inclusive = e .inclusive }) | false ↦ none ]
 
 -- as many indices as edges, in the order in which they were taken
 unfoldable pub foldedOf : Bool → Bool → ℕ → ℕ → List ℕ
@@ -70,10 +105,20 @@ foldedThen true i f = record { first = f .first; second = i }
 foldedThen false i f = record { first = i; second = f .second }
 
 unfoldable pub edgesOf : Tables → SeekBuilder → Edges
-edgesOf T b = record { lo = edgeOf T (b .lo); hi = edgeOf T (b .hi); folded = foldedOf (b .lo .set) (b .hi .set) (b .folded .first) (b .folded .second) }
+edgesOf T b =
+    let folded = foldedOf (b .lo .set) (b .hi .set) (b .folded .first) (b .folded .second) in
+    record { lo = edgeOf T (b .lo); hi = edgeOf T (b .hi); folded = folded }
 
 unfoldable pub levelOf : Tables → SeekBuilder → Level
-levelOf T b = record { building = b .building; plain = b .plain; counts = countsOf (b .counts); guide = guideOf b; range = rangeOf T b; edges = edgesOf T b }
+levelOf T b =
+    record {
+      building = b .building;
+      plain = b .plain;
+      counts = countsOf (b .counts);
+      guide = guideOf b;
+      range = rangeOf T b;
+      edges = edgesOf T b;
+    }
 
 abbrev pub targetOf : Target → Kept.Target
 targetOf t = record { writing = t .writing; joining = t .joining; partsAt = t .parts; restAt = t .rest }
@@ -86,7 +131,9 @@ partsSize plain c = elim plain [ true ↦ c .joined | false ↦ c .joined + c .f
 
 -- whether a level with these counts fits a plan
 unfoldable pub fitting : Bool → Kept.Counts → Bool
-fitting plain c = fits (record { building = true; plain = plain; counts = c; guide = none; range = none; edges = record { lo = none; hi = none; folded = [] } })
+fitting plain c =
+    let edges : Edges = record { lo = none; hi = none; folded = [] } in
+    fits (record { building = true; plain = plain; counts = c; guide = none; range = none; edges = edges })
 
 -- Equal sizes, or both too long for a plan: a constant's length is known up to a cap alone.
 abbrev pub Alike : ℕ → ℕ → Type 0
@@ -94,28 +141,61 @@ Alike m n = min 16385 m ≡ min 16385 n
 
 -- the level with other counts
 unfoldable pub resummed : Bool → Sums → Level → Level
-resummed plain c l = record { building = l .building; plain = plain; counts = sumsOf c; guide = l .guide; range = l .range; edges = l .edges }
+resummed plain c l =
+    record { building = l .building; plain = plain; counts = sumsOf c; guide = l .guide; range = l .range; edges = l .edges }
 
 -- one part more
 unfoldable pub partSums : Bool → ℕ → ℕ → Sums → Sums
 partSums true text frame c =
-    record { narrowings = c .narrowings; closers = c .closers + 1; others = c .others; residuals = c .residuals; joined = c .joined + text; framed = c .framed + frame; rest = c .rest }
+    record {
+      narrowings = c .narrowings;
+      closers = c .closers + 1;
+      others = c .others;
+      residuals = c .residuals;
+      joined = c .joined + text;
+      framed = c .framed + frame;
+      rest = c .rest;
+    }
 partSums false text frame c =
-    record { narrowings = c .narrowings + 1; closers = c .closers; others = c .others + 1; residuals = c .residuals; joined = c .joined + text; framed = c .framed + frame; rest = c .rest }
+    record {
+      narrowings = c .narrowings + 1;
+      closers = c .closers;
+      others = c .others + 1;
+      residuals = c .residuals;
+      joined = c .joined + text;
+      framed = c .framed + frame;
+      rest = c .rest;
+    }
 
 -- one narrowing more that is neither part nor residual
 unfoldable pub narrowSums : Sums → Sums
 narrowSums c =
-    record { narrowings = c .narrowings + 1; closers = c .closers; others = c .others; residuals = c .residuals; joined = c .joined; framed = c .framed; rest = c .rest }
-
--- what is set in a level that fell
-unfoldable pub kept : Bool → Bool → Bool
-kept building set = elim building [ true ↦ false | false ↦ set ]
+    record {
+      narrowings = c .narrowings + 1;
+      closers = c .closers;
+      others = c .others;
+      residuals = c .residuals;
+      joined = c .joined;
+      framed = c .framed;
+      rest = c .rest;
+    }
 
 -- one residual more
 unfoldable pub restSums : ℕ → Sums → Sums
 restSums size c =
-    record { narrowings = c .narrowings + 1; closers = c .closers; others = c .others; residuals = c .residuals + 1; joined = c .joined; framed = c .framed; rest = c .rest + size }
+    record {
+      narrowings = c .narrowings + 1;
+      closers = c .closers;
+      others = c .others;
+      residuals = c .residuals + 1;
+      joined = c .joined;
+      framed = c .framed;
+      rest = c .rest + size;
+    }
+
+-- what is set in a level that fell
+unfoldable pub kept : Bool → Bool → Bool
+kept building set = elim building [ true ↦ false | false ↦ set ]
 
 -- the level when building falls
 unfoldable pub fell : SeekBuilder → SeekBuilder
@@ -127,7 +207,13 @@ fell b =
       counts = b .counts;
       path = b .path;
       range = record { set = kept (b .building) (b .range .set); name = b .range .name };
-      guide = record { set = kept (b .building) (b .guide .set); distance = b .guide .distance; anchor = b .guide .anchor; term = b .guide .term };
+      guide =
+          record {
+            set = kept (b .building) (b .guide .set);
+            distance = b .guide .distance;
+            anchor = b .guide .anchor;
+            term = b .guide .term;
+          };
       lo = b .lo;
       hi = b .hi;
       folded = b .folded;
@@ -138,3 +224,64 @@ fell b =
 abbrev pub counting : Bool → Kept.Counts → Kept.Counts
 counting true c = closed c
 counting false c = narrowed c
+
+-- the level with no room left
+unfoldable pub overrun : SeekBuilder → SeekBuilder
+overrun b =
+    record {
+      over = true;
+      building = b .building;
+      plain = b .plain;
+      counts = b .counts;
+      path = b .path;
+      range = b .range;
+      guide = b .guide;
+      lo = b .lo;
+      hi = b .hi;
+      folded = b .folded;
+      target = b .target;
+    }
+
+-- the level with other counts
+unfoldable pub recounted : Bool → Counts → SeekBuilder → SeekBuilder
+recounted plain c b =
+    record {
+      over = b .over;
+      building = b .building;
+      plain = plain;
+      counts = c;
+      path = b .path;
+      range = b .range;
+      guide = b .guide;
+      lo = b .lo;
+      hi = b .hi;
+      folded = b .folded;
+      target = b .target;
+    }
+
+-- the level with other counts, if they fit, and where what made them grow is written
+unfoldable pub grownBy : Bool → Sums → ℕ → SeekBuilder → Placed
+grownBy plain s at b =
+    let t = b .target in
+    elim (fitting plain (sumsOf s)) [
+      | true ↦ record { level = recounted plain (counted s) b; place = record { write = t .writing; joined = t .joining; at = at } }
+      | false ↦ record { level = overrun b; place = record { write = false; joined = t .joining; at = at } }
+    ]
+
+-- where the next part is written, and the next residual
+unfoldable pub partPlace : SeekBuilder → ℕ
+partPlace b =
+    let c = b .counts in
+    b .target .parts + (elim (b .target .joining) [ true ↦ c .joined | false ↦ c .joined + c .framed ])
+
+unfoldable pub restPlace : SeekBuilder → ℕ
+restPlace b = b .target .rest + b .counts .rest
+
+-- one part more, of text bytes that its plan form frames by frame
+unfoldable pub partBy : Bool → Bool → ℕ → ℕ → SeekBuilder → Placed
+partBy closer bytes text frame b =
+    grownBy (both (b .plain) bytes) (partSums closer text frame (summed (b .counts))) (partPlace b) b
+
+-- one residual more, of size bytes
+unfoldable pub residualBy : ℕ → SeekBuilder → Placed
+residualBy size b = grownBy (b .plain) (restSums size (summed (b .counts))) (restPlace b) b

@@ -8,7 +8,7 @@ use Rattle.constrain.proofs.constrain.Reads as reads
 use Rattle.constrain.proofs.constrain.Lts as lts
 use Rattle.constrain.proofs.constrain_rank.Reads as constrain-rank-reads
 use Rattle.constrain.proofs.is_constrained.Reads as is-constrained-reads
-use Rattle.place.proofs.bound.Reads as bound-reads
+use Rattle.seek.proofs.SeekBuilder.bound.Reads as bound-reads
 use Rattle.step.proofs.Walk.builder.Reads as builder-reads
 use Rattle.step.proofs.Walk.constrained.Reads as constrained-reads
 use Rattle.step.proofs.Walk.placed.Reads as placed-reads

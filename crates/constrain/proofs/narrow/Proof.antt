@@ -1,7 +1,7 @@
 use mathlib.Core.Path.{sym, _∙_}
 use native.Mathlib.Omega.{arith}
 use Rattle.ready.proofs.Given.{sound-tables}
-use Rattle.narrow.proofs.Constants.{const-is}
+use Rattle.seek.proofs.Constants.{const-is}
 use Rattle.constrain.proofs.Narrowings.{narrows-past, narrows-nothing, narrows-constant}
 use borrow.Author.Needs.{needs}
 use Rattle.constrain.proofs.narrow.Statement.{statement}

@@ -1,5 +1,5 @@
--- `narrow::narrow_by` meets its contract: a walk of its MIR, by hand. The borrow is opened, the whole level is copied out and passed to `placed`, and what `placed` returns is stored over it. No line names a field of the level.
--- `file`, `index` and `plan` go to `placed` at their own lifetimes, shares and names: of `plan` the last list is had at exit (`gave-slice`).
+-- `narrow::narrow_by` meets its contract: a walk of its MIR, by hand. The borrow is opened, the whole level is copied out and passed to its method `with_constant`, and what that returns is stored over it. No line names a field of the level.
+-- `file`, `index` and `plan` go to the method at their own lifetimes, shares and names: of `plan` the last list is had at exit (`gave-slice`).
 -- Assumes nothing.
 use mathlib.Core.Path.{_≡_, refl}
 use Prim.Native.Nat.{ℕ}
@@ -55,12 +55,12 @@ use Rattle.seek.specs.Seek.{stateOf}
 use Rattle.seek.specs.declared.SeekBuilder.{SeekBuilder}
 use Rattle.seek.proofs.SeekBuilder as T
 use Rattle.seek.proofs.SeekBuilder.Laws as T′
-use Rattle.narrow.specs.Narrow.{IsConstant, constOf, narrowedBy}
+use Rattle.seek.specs.Narrow.{IsConstant, constOf, narrowedBy}
 use Rattle.narrow.proofs.Lent.{Slice, mach, mach-path, mach-const, fat-ptr, typed, typed-path, typed-const}
-use Rattle.narrow.proofs.placed as placed
-use Rattle.narrow.proofs.placed.Symbol as placed-def
-use Rattle.narrow.proofs.placed.Symbol.{name as #placed}
-use Rattle.narrow.proofs.placed.Met as placed-thm
+use Rattle.seek.proofs.SeekBuilder.with_constant as placed
+use Rattle.seek.proofs.SeekBuilder.with_constant.Symbol as placed-def
+use Rattle.seek.proofs.SeekBuilder.with_constant.Symbol.{name as #placed}
+use Rattle.seek.proofs.SeekBuilder.with_constant.Met as placed-thm
 use Rattle.narrow.proofs.narrow_by.Key.{name as #narrow}
 use Rattle.narrow.proofs.narrow_by as narrow
 use Rattle.narrow.proofs.narrow_by.Statement as stated
@@ -72,7 +72,7 @@ Arg = Slice × (Slice × (Const × (FieldPath × (RefT SeekBuilder × (Slice × 
 abbrev Vals : Type 0
 Vals = List Val × (List Val × (List Val × (List Val × (List Val × (List Val × Unit {0})))))
 
--- what `placed` binds for its last values: those of `plan` alone
+-- what the method binds for its last values: those of `plan` alone
 abbrev Lasts : Type 0
 Lasts = Unit {0} × (Unit {0} × (Unit {0} × (Unit {0} × (Unit {0} × (List ℕ × Unit {0})))))
 
@@ -115,17 +115,17 @@ module _ {M : Type 1} (𝓤 : URA M) (H : Heap 𝓤) (A : Atoms 𝓤) (W : Given
       feqI ! (List Val) (vptr b o ∷ []) (vptr b o ∷ []) refl $ fjoin3 ! $ nothing ! $ move ! (2 ∷ 0 ∷ []) $ fjoin ! $ move ! (1 ∷ 0 ∷ []) $ fjoin ! $ nothing ! $ fjoin ! $ nothing ! $ fjoin ! $ nothing ! $ fjoin ! $ nothing ! $ fjoin ! $
       feqI ! (List Val) (vunit ∷ []) (vunit ∷ []) refl $ move ! (1 ∷ 0 ∷ []) $ done !
 
-  abbrev placed-args : Slice × (Slice × (Const × (FieldPath × (SeekBuilder × (Slice × Unit {0})))))
-  placed-args = (f, (i, (c, (g, (h, (p, tt))))))
+  abbrev placed-args : SeekBuilder × (Slice × (Slice × (Const × (FieldPath × (Slice × Unit {0})))))
+  placed-args = (h, (f, (i, (c, (g, (p, tt))))))
 
   abbrev placed-vals : Vals
-  placed-vals = (fat-ptr f ∷ [], (fat-ptr i ∷ [], (mach-const c ∷ [], (mach-path g ∷ [], (mach h ∷ [], (fat-ptr p ∷ [], tt))))))
+  placed-vals = (mach h ∷ [], (fat-ptr f ∷ [], (fat-ptr i ∷ [], (mach-const c ∷ [], (mach-path g ∷ [], (fat-ptr p ∷ [], tt))))))
 
   abbrev to-placed : Placed 𝓤 H A at-mem run .Ghost
   to-placed = (((κf, (κi, (κp, tt))), (qf, (qi, (qp, tt))), tt, placed-args, placed-vals), tt)
 
   abbrev Owns : Fml
-  Owns = owns (ShrSlice (named 0) κf u8 ∷ ShrSlice (named 1) κi u16 ∷ K.the-row ∷ P.the-row ∷ T.the-row ∷ MutSlice (named 2) κp u8 ∷ []) placed-args placed-vals
+  Owns = owns (T.the-row ∷ ShrSlice (named 0) κf u8 ∷ ShrSlice (named 1) κi u16 ∷ K.the-row ∷ P.the-row ∷ MutSlice (named 2) κp u8 ∷ []) placed-args placed-vals
 
   goes-placed : Asked f i c → ent 𝓤 (⋆ 𝓤 H A ((‵ (flft κf qf) ⊛ ‵ (flft κi qi) ⊛ ‵ (flft κp qp) ⊛ ‵ ftrue) ∷ ‵ Owns ∷ [])) (Placed 𝓤 H A at-mem run .pre to-placed)
   goes-placed asked = qed W ((‵ (flft κf qf) ⊛ ‵ (flft κi qi) ⊛ ‵ (flft κp qp) ⊛ ‵ ftrue) ∷ ‵ Owns ∷ []) ∵ says ! asked $ frame ! $ done !
@@ -149,12 +149,12 @@ module _ {M : Type 1} (𝓤 : URA M) (H : Heap 𝓤) (A : Atoms 𝓤) (W : Given
         assigns ! (of-opd ! (load ! (from ! (hop ! (look ! 25 refl) (stop !))) (look-raw ! 0 refl))) (from ! (stop !)) (init ! 21 refl (typed 𝓤 H A W h _ was)) $
         assigns ! (addr ! (from ! (fld ! refl (hop ! (look-in ! 23 (sub ! 0 refl (whole !))) (stop !))))) (from ! (stop !)) (init ! 17 refl (tt, tt)) $
         assigns ! (agg ! (and-then ! (load ! (from ! (stop !)) (look ! 17 refl)) (and-then ! (load ! (from ! (fld ! refl (stop !))) (look-in ! 23 (sub ! 1 refl (whole !)))) (no-more !)))) (from ! (stop !)) (init ! 15 refl (tt, (tt, (record { fits = p-room .0 }, tt)))) $
-        -- what `placed` asks is put together
-        move ! (9 ∷ 10 ∷ []) $ fjoin ! $ move ! (2 ∷ 0 ∷ []) $ fjoin ! $ move ! (9 ∷ 0 ∷ []) $ fjoin ! $ move ! (9 ∷ 0 ∷ []) $ fjoin ! $ move ! (9 ∷ 0 ∷ []) $ fjoin ! $ move ! (9 ∷ 0 ∷ []) $ fjoin ! $
+        -- what the method asks is put together
+        move ! (9 ∷ 10 ∷ []) $ fjoin ! $ move ! (10 ∷ 0 ∷ []) $ fjoin ! $ move ! (10 ∷ 0 ∷ []) $ fjoin ! $ move ! (10 ∷ 0 ∷ []) $ fjoin ! $ move ! (10 ∷ 0 ∷ []) $ fjoin ! $ move ! (2 ∷ 0 ∷ []) $ fjoin ! $
         move ! (5 ∷ 6 ∷ []) $ join ! $ move ! (6 ∷ 0 ∷ []) $ join ! $ move ! (6 ∷ 0 ∷ []) $ join ! $ use2 W (raw (Placed 𝓤 H A at-mem run .pre to-placed)) (goes-placed asked) $
         -- [what the call asks; the level's cell; the open borrow; obs; auth; _10; …; _9; …; _8; …; _7; …; _6; …; _5; …; _4; …; _3; …; _2; …; _1; …; room for _0; …]
         calls-at ! fm (Placed 𝓤 H A at-mem run) known to-placed
-        (and-then ! (load ! (from ! (stop !)) (look ! 23 refl)) (and-then ! (load ! (from ! (stop !)) (look ! 21 refl)) (and-then ! (load ! (from ! (stop !)) (look ! 19 refl)) (and-then ! (load ! (from ! (stop !)) (look ! 17 refl)) (and-then ! (load ! (from ! (stop !)) (look ! 11 refl)) (and-then ! (load ! (from ! (stop !)) (look ! 5 refl)) (no-more !))))))) (λ v.
+        (and-then ! (load ! (from ! (stop !)) (look ! 11 refl)) (and-then ! (load ! (from ! (stop !)) (look ! 23 refl)) (and-then ! (load ! (from ! (stop !)) (look ! 21 refl)) (and-then ! (load ! (from ! (stop !)) (look ! 19 refl)) (and-then ! (load ! (from ! (stop !)) (look ! 17 refl)) (and-then ! (load ! (from ! (stop !)) (look ! 5 refl)) (no-more !))))))) (λ v.
         use1 W (later (some (λ (r : SeekBuilder). ((‵ (flft κf qf) ⊛ ‵ (flft κi qi) ⊛ ‵ (flft κp qp) ⊛ ‵ ftrue) ⊛ ‵ (T.the-row .own r (v ∷ []))) ⊛ raw (ensured 𝓤 H A placed.ended (placed.clauses 𝓤 H A at-mem run) (κf, (κi, (κp, tt))) placed-args tt r)))) (id⊢ 𝓤 _) $ await ! tt $ pick ! (λ r.
         split ! $ move ! (1 ∷ []) $ use1 W (some (λ (zs : Lasts). ‵ (lasts placed.ended (κf, (κi, (κp, tt))) placed-args zs) ⊛ raw (fact 𝓤 (Said r (zs .1 .1 .1 .1 .1 .0))))) (id⊢ 𝓤 _) $ pick ! (λ zs.
         split ! $ move ! (1 ∷ []) $ heard ! (Said r (zs .1 .1 .1 .1 .1 .0)) (λ e. fsplit ! $ drop ! $ fsplit ! $ drop ! $ fsplit ! $ drop ! $ fsplit ! $ drop ! $ fsplit ! $ drop ! $ fsplit ! $ fsplit ! $ move ! (1 ∷ []) $ feqL ! (λ l.
@@ -202,4 +202,4 @@ narrow-by-spec 𝓤 H 𝓜 𝓖 𝓡 =
     entered 𝓤 H (tripleOf 𝓤 H (𝓖 .A) narrow.signature (narrow.spec 𝓤 H (𝓖 .A) (𝓜 .mem) (𝓡 .run)))
     (tables 𝓤 H 𝓜 𝓡 code.env .C) (tables 𝓤 H 𝓜 𝓡 code.env .Λ) #narrow code.function (code.unfolded 𝓤 H 𝓜 𝓡)
     (narrow-meets 𝓤 H (𝓖 .A) (givenOf 𝓤 H 𝓜 𝓖) (𝓜 .mem) (𝓡 .run) (tablesOf 𝓤 H 𝓜 (tables 𝓤 H 𝓜 𝓡 code.env))
-    (cited 𝓤 H (Placed 𝓤 H (𝓖 .A) (𝓜 .mem) (𝓡 .run)) 𝓜 𝓡 code.env #placed placed-def.routine code.calls-narrow·placed (placed-thm.met 𝓤 H 𝓜 𝓖 𝓡)))
+    (cited 𝓤 H (Placed 𝓤 H (𝓖 .A) (𝓜 .mem) (𝓡 .run)) 𝓜 𝓡 code.env #placed placed-def.routine code.calls-seek·SeekBuilder·with-constant (placed-thm.met 𝓤 H 𝓜 𝓖 𝓡)))

@@ -57,7 +57,7 @@ use Rattle.seek.specs.Seek.{stateOf}
 use Rattle.seek.specs.declared.SeekBuilder.{SeekBuilder}
 use Rattle.seek.proofs.SeekBuilder as T
 use Rattle.seek.proofs.SeekBuilder.Laws as T′
-use Rattle.narrow.specs.Narrow.{IsConstant, constOf, narrowedBy}
+use Rattle.seek.specs.Narrow.{IsConstant, constOf, narrowedBy}
 use Rattle.narrow.proofs.Lent.{Slice, mach, mach-path, mach-const, fat-ptr, ref, typed, typed-path, typed-const, lies, found}
 use Rattle.narrow.proofs.narrow_by as narrow
 use Rattle.narrow.proofs.narrow_by.Symbol as narrow-def

@@ -4,10 +4,10 @@ use Rattle.records.proofs.apart.Statement.{statement}
 use Rattle.records.proofs.apart.Tie as tie
 
 returns : tie.Need-returns
-returns c = (λ bytes plan. apart-joined (c .before .args .place) _ _ (c .if1 .taken), refl)
+returns c = (apart-joined (c .before .args .place) (c .if1 .taken), refl)
 
 returns-2 : tie.Need-returns-2
-returns-2 c = (λ bytes plan. apart-not _ _ _ (c .if1 .left), refl)
+returns-2 c = (apart-not (c .before .args .place) (c .if1 .left), refl)
 
 pub apart-spec : {M : Type 1} → statement M
 apart-spec = tie.close (tie.spec returns returns-2)

@@ -1,14 +1,15 @@
 use native.Mathlib.Omega.{arith}
-use Rattle.records.proofs.Forms.{all-steps}
+use mathlib.Core.Path.{refl}
+use Rattle.records.proofs.Forms.{all-steps, cut-less, cut-more}
 use borrow.Author.Needs.{needs}
 use Rattle.records.proofs.within.Statement.{statement}
 use Rattle.records.proofs.within.Tie as tie
 
 returns : tie.Need-returns
-returns c = search needs
+returns c = (refl, omega arith, cut-less (c .before .before .args .p) (c .if1 .taken))
 
 returns-2 : tie.Need-returns-2
-returns-2 c = (all-steps (c .before .before .args .p) (search needs) (c .if1 .left), omega arith)
+returns-2 c = (all-steps (c .before .before .args .p) (search needs) (c .if1 .left), omega arith, cut-more (c .before .before .args .p) (c .if1 .left))
 
 pub within-spec : {M : Type 1} → statement M
 within-spec = tie.close (tie.spec returns returns-2)

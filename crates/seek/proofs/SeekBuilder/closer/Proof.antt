@@ -1,9 +1,11 @@
-use mathlib.Core.Path.{refl, sym, ap, _∙_}
+use Rattle.seek.proofs.Parts.{part-is}
+use Rattle.records.proofs.Places.{part-written}
+use mathlib.Core.Bool.{true}
+use mathlib.Core.Path.{refl, sym, _∙_}
 use Rattle.rules.specs.Plan as Plan
 use Rattle.rules.specs.Placement.{SeekKeyPart}
 use Rattle.rules.specs.Constant.{term}
 use Rattle.state.specs.Ops.{isBytes, partText}
-use Rattle.seek.specs.Seek.{stateOf}
 use Rattle.seek.proofs.Narrows.{close-over, close-none, close-part}
 use borrow.Author.Tests.{not-true, not-false}
 use borrow.Author.Needs.{needs}
@@ -36,8 +38,10 @@ unfolding isBytes partText Plan.part Plan.text Plan.u16
 returns-3 c =
     λ T e w s h.
     let p = c .before .before .before .before .before .before .before .before .before .before .part in
+    let head = c .before .before .before .before .before .before .before .put-head in
     close-part (c .before .before .before .before .before .before .before .before .before .before .before .before .before .before .before .args .self) T e w _ s _ h (c .before .before .before .before .before .before .before .before .before .before .before .before .before .if1 .left) _ (sym (c .before .before .before .before .before .before .before .before .before .before .before .before .and .ensures) ∙ not-false _ (c .before .before .before .before .before .before .before .before .before .before .before .if2 .left))
-    (ap (stateOf T (p .result .level) e w) (c .before .before .before .put-byte-at .ensures ∙ c .before .before .before .before .before .before .before .put-head .ensures .0 term (λ _. refl)) ∙ p .ensures .0 T e w _ (SeekKeyPart.Bytes term) refl refl refl)
+    (part-is (c .before .before .before .before .before .before .before .before .before .before .before .before .before .before .before .args .self) T e w _ true true 1 3 (SeekKeyPart.Bytes term) (p .result) _ (p .ensures .0) refl refl refl
+    (part-written (p .result .place) (head .result) 1 term _ _ _ (head .ensures .0) (head .ensures .1) (c .before .before .before .put-byte-at .ensures) (λ _. refl)))
 
 pub closer-spec : {M : Type 1} → statement M
 closer-spec =

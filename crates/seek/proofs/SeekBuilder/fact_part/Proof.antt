@@ -1,9 +1,11 @@
-use mathlib.Core.Path.{refl, ap, _∙_}
+use Rattle.seek.proofs.Parts.{part-is}
+use Rattle.records.proofs.Places.{apart-written}
+use mathlib.Core.Bool.{false}
+use mathlib.Core.Path.{refl}
 use Rattle.rules.specs.Plan as Plan
 use Rattle.rules.specs.Placement.{SeekKeyPart}
 use Rattle.state.specs.Ops.{isBytes, partText}
 use Rattle.records.specs.Records.{formOf}
-use Rattle.seek.specs.Seek.{stateOf}
 use borrow.Author.Needs.{needs}
 use Rattle.seek.proofs.SeekBuilder.fact_part.Statement.{statement}
 use Rattle.seek.proofs.SeekBuilder.fact_part.Tie as tie
@@ -26,7 +28,8 @@ returns c =
     λ T e w.
     let p = c .before .before .before .before .before .before .before .part in
     let x : SeekKeyPart = SeekKeyPart.RegisterFactId (c .before .before .before .before .before .before .before .before .before .args .address .0) in
-    ap (stateOf T (p .result .level) e w) (c .before .before .before .put-fact .ensures ∙ c .before .before .before .before .apart .ensures .0 (Plan.part x) _) ∙ p .ensures .0 T e w _ x refl refl refl
+    part-is (c .before .before .before .before .before .before .before .before .before .args .self) T e w _ false false 0 3 x (p .result) _ (p .ensures .0) refl refl refl
+    (apart-written (p .result .place) _ (Plan.part x) _ _ (c .before .before .before .before .apart .ensures .0) (c .before .before .before .put-fact .ensures))
 
 pub fact-part-spec : {M : Type 1} → statement M
 fact-part-spec =

@@ -1,7 +1,7 @@
-use Rattle.rules.proofs.Cases.{true≢false}
-use mathlib.Core.Path.{refl, sym, _∙_}
+use mathlib.Core.Path.{sym, _∙_}
 use Rattle.seek.proofs.Fits.{fits-below}
-use Rattle.seek.proofs.Grows.{grown-yes, grown-no}
+use Rattle.seek.specs.Seek.{recounted}
+use Rattle.seek.proofs.Grows.{grown-fit, grown-over}
 use borrow.Author.Needs.{needs}
 use Rattle.seek.proofs.SeekBuilder.grown.Statement.{statement}
 use Rattle.seek.proofs.SeekBuilder.grown.Tie as tie
@@ -16,10 +16,11 @@ stopped-requires : tie.Need-stopped-requires
 stopped-requires c κs = search needs
 
 returns : tie.Need-returns
-returns c = (λ T e w p bytes. grown-yes (c .before .before .before .before .args .self) _ _ _ T e w p bytes _ (c .counts .ensures) (sym (c .before .before .fits2 .ensures) ∙ c .before .if1 .taken), refl, refl, λ _. sym (c .before .before .fits2 .ensures) ∙ c .before .if1 .taken)
+unfolding recounted
+returns c = grown-fit (c .before .before .before .before .args .self) _ _ _ _ (c .counts .ensures) (sym (c .before .before .fits2 .ensures) ∙ c .before .if1 .taken)
 
 returns-2 : tie.Need-returns-2
-returns-2 c = (λ T e w p bytes. grown-no (c .before .before .before .before .args .self) _ _ _ T e w p bytes _ _ refl (c .stopped .ensures .0 T e w) (sym (c .before .before .fits2 .ensures) ∙ c .before .if1 .left), refl, refl, λ h. absurd (true≢false (sym h)))
+returns-2 c = grown-over (c .before .before .before .before .args .self) _ _ _ _ (c .stopped .ensures) (sym (c .before .before .fits2 .ensures) ∙ c .before .if1 .left)
 
 pub grown-spec : {M : Type 1} → statement M
 grown-spec = tie.close (tie.spec fits-requires counts-requires stopped-requires returns returns-2)

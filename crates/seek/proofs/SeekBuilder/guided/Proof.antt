@@ -32,7 +32,7 @@ returns c =
 returns-2 : tie.Need-returns-2
 unfolding withGuide levelOf
 returns-2 c =
-    λ T e w p. stops (c .before .before .before .before .before .before .args .self) _ _ _ T e w p refl (c .before .before .before .with-narrowing .ensures .0) (c .before .before .before .before .sums .ensures .0) _ _ refl refl (c .stopped .ensures .0 T e w p) (sym (c .before .before .fits2 .ensures) ∙ c .before .if1 .left)
+    λ T e w p. stops (c .before .before .before .before .before .before .args .self) _ _ _ T e w p refl (c .before .before .before .with-narrowing .ensures .0) (c .before .before .before .before .sums .ensures .0) _ _ refl refl (c .stopped .ensures) (sym (c .before .before .fits2 .ensures) ∙ c .before .if1 .left)
 
 pub guided-spec : {M : Type 1} → statement M
 guided-spec =

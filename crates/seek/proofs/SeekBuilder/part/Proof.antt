@@ -1,5 +1,5 @@
 use native.Mathlib.Omega.{arith}
-use Rattle.seek.proofs.Parts.{part-placed, part-fits}
+use Rattle.seek.proofs.Parts.{part-by, grown-place}
 use borrow.Author.Needs.{needs}
 use Rattle.seek.proofs.SeekBuilder.part.Statement.{statement}
 use Rattle.seek.proofs.SeekBuilder.part.Tie as tie
@@ -20,12 +20,11 @@ grown-requires : tie.Need-grown-requires
 grown-requires c κs = search needs
 
 returns : tie.Need-returns
-returns c = (
-  λ T e w p part eb et ef. part-placed (c .before .before .before .before .before .before .args .self) T e w p _ _ _ _ _ _ _ _ _ _ _ (c .before .before .and .ensures) (c .before .before .before .with-part .ensures .0) (c .before .before .before .before .sums .ensures .0)
-      (c .before .part-at .ensures .0 T e w p) (c .grown .ensures .2) eb et ef (c .grown .ensures .0 T e w p _),
-  omega (arith, c .before .part-at .ensures .1, c .grown .ensures .1),
-  λ h. part-fits _ _ _ _ _ _ (c .before .before .before .with-part .ensures .0) (c .grown .ensures .3 h),
-)
+returns c =
+    let a = c .before .before .before .before .before .before .args in (
+      part-by (a .self) (a .closer) (a .bytes) (a .text) (a .frame) _ _ _ _ _ (c .grown .ensures) (c .before .before .and .ensures) (c .before .before .before .with-part .ensures .0) (c .before .before .before .before .sums .ensures .0) (c .before .part-at .ensures .0),
+      omega (arith, c .before .part-at .ensures .1, grown-place (a .self) _ _ _ _ (c .grown .ensures)),
+    )
 
 pub part-spec : {M : Type 1} → statement M
 part-spec =

@@ -14,7 +14,7 @@ add-base : tie.Need-add-base
 add-base c = search needs
 
 returns : tie.Need-returns
-returns c = (λ T e w p. at-joined (c .before .before .before .before .before .args .self) T e w p _ _ (c .if1 .taken) (c .before .before .wide32 .ensures .0) (c .before .wide322 .ensures .0), omega arith)
+returns c = (at-joined (c .before .before .before .before .before .args .self) _ _ (c .if1 .taken) (c .before .before .wide32 .ensures .0) (c .before .wide322 .ensures .0), omega arith)
 
 wide32-requires-3 : tie.Need-wide32-requires-3
 wide32-requires-3 c κs = search needs
@@ -23,7 +23,7 @@ add-result : tie.Need-add-result
 add-result c = search needs
 
 returns-2 : tie.Need-returns-2
-returns-2 c = (λ T e w p. at-parted (c .before .before .before .before .before .before .args .self) T e w p _ _ _ (c .before .if1 .left) (c .before .before .before .wide32 .ensures .0) (c .before .before .wide322 .ensures .0) (c .wide323 .ensures .0), omega arith)
+returns-2 c = (at-parted (c .before .before .before .before .before .before .args .self) _ _ _ (c .before .if1 .left) (c .before .before .before .wide32 .ensures .0) (c .before .before .wide322 .ensures .0) (c .wide323 .ensures .0), omega arith)
 
 pub part-at-spec : {M : Type 1} → statement M
 part-at-spec =

@@ -1,10 +1,12 @@
-use mathlib.Core.Path.{refl, ap, _∙_}
+use Rattle.seek.proofs.Parts.{part-is}
+use Rattle.records.proofs.Places.{apart-written}
+use mathlib.Core.Bool.{false}
+use mathlib.Core.Path.{refl}
 use Rattle.rules.specs.Plan as Plan
 use Rattle.rules.specs.Placement.{SeekKeyPart}
 use Rattle.state.specs.Ops.{isBytes, partText}
 use Rattle.records.specs.Records.{formOf}
 use Rattle.paths.specs.Paths.{pathOf}
-use Rattle.seek.specs.Seek.{stateOf}
 use Rattle.seek.proofs.Narrows.{register-size}
 use borrow.Author.Needs.{needs}
 use Rattle.seek.proofs.SeekBuilder.register_part.Statement.{statement}
@@ -35,7 +37,8 @@ returns c =
     let p = c .before .before .before .before .before .before .before .part in
     let args = c .before .before .before .before .before .before .before .before .before .before .args in
     let x : SeekKeyPart = SeekKeyPart.RegisterField (args .address .0) (pathOf (args .at)) in
-    ap (stateOf T (p .result .level) e w) (c .before .before .before .put-register .ensures ∙ c .before .before .before .before .apart .ensures .0 (Plan.part x) _) ∙ p .ensures .0 T e w _ x refl refl (register-size (args .address .0) (pathOf (args .at)) _ (c .before .before .before .before .before .before .before .before .path-size .ensures .0))
+    part-is (args .self) T e w _ false false 0 _ x (p .result) _ (p .ensures .0) refl refl (register-size (args .address .0) (pathOf (args .at)) _ (c .before .before .before .before .before .before .before .before .path-size .ensures .0))
+    (apart-written (p .result .place) _ (Plan.part x) _ _ (c .before .before .before .before .apart .ensures .0) (c .before .before .before .put-register .ensures))
 
 pub register-part-spec : {M : Type 1} → statement M
 register-part-spec =

@@ -1,8 +1,8 @@
+use Rattle.seek.proofs.Parts.{residual-is}
 use mathlib.Core.Path.{sym, ap, _∙_}
 use Rattle.rules.specs.Plan as Plan
 use Rattle.rules.specs.Events.{Narrowing}
 use Rattle.paths.specs.Paths.{pathOf}
-use Rattle.seek.specs.Seek.{stateOf}
 use Rattle.seek.proofs.Narrows.{residual-size, residual-put, register-op}
 use Prim.Native.Nat.{min}
 use native.Mathlib.Nat.{add-assoc}
@@ -41,8 +41,9 @@ returns c =
     let p = c .before .before .before .before .before .before .before .before .before .before .residual in
     let args = c .before .before .before .before .before .before .before .before .before .before .before .before .before .before .args in
     let x : Narrowing = Narrowing.RegisterField (args .address .0) (pathOf (args .at)) in
-    ap (stateOf T (p .result .level) e w) (residual-put (pathOf (args .path)) x _ _ _ _ _ (c .before .before .before .put-register .ensures) (c .before .before .before .before .before .before .before .put-path-at .ensures .0 (Plan.op x)))
-    ∙ p .ensures .0 T e w _ (pathOf (args .path)) x (ap (min 16385) (residual-size (pathOf (args .path)) x _ _ (c .before .before .before .before .before .before .before .before .before .before .before .before .path-size .ensures .0) (register-op (args .address .0) (pathOf (args .at)) _ (c .before .before .before .before .before .before .before .before .before .before .before .path-size2 .ensures .0)) ∙ sym (add-assoc _ 3 _)))
+    let h = c .before .before .before .before .before .before .before .put-path-at .ensures in
+    residual-is (args .self) T e w _ _ (pathOf (args .path)) x (p .result) _ (p .ensures .0) (ap (min 16385) (residual-size (pathOf (args .path)) x _ _ (c .before .before .before .before .before .before .before .before .before .before .before .before .path-size .ensures .0) (register-op (args .address .0) (pathOf (args .at)) _ (c .before .before .before .before .before .before .before .before .before .before .before .path-size2 .ensures .0)) ∙ sym (add-assoc _ 3 _)))
+    (residual-put (pathOf (args .path)) x (p .result .place) _ _ _ _ (h .0) (h .1) (c .before .before .before .put-register .ensures))
 
 pub register-residual-spec : {M : Type 1} → statement M
 register-residual-spec =

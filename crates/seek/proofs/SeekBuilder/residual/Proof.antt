@@ -1,6 +1,5 @@
 use native.Mathlib.Omega.{arith}
-use mathlib.Core.Path.{refl}
-use Rattle.seek.proofs.Parts.{residual-placed, residual-fits}
+use Rattle.seek.proofs.Parts.{residual-by, at-rest, grown-place}
 use borrow.Author.Needs.{needs}
 use Rattle.seek.proofs.SeekBuilder.residual.Statement.{statement}
 use Rattle.seek.proofs.SeekBuilder.residual.Tie as tie
@@ -24,12 +23,11 @@ grown-requires : tie.Need-grown-requires
 grown-requires c κs = search needs
 
 returns : tie.Need-returns
-returns c = (
-  λ T e w p path op el. residual-placed (c .before .before .before .before .before .before .before .args .self) T e w p _ _ _ _ _ _ _ _ _ (c .before .before .before .with-residual .ensures .0) (c .before .before .before .before .sums .ensures .0)
-      (c .before .before .wide32 .ensures .0) (c .before .wide322 .ensures .0) refl el (c .grown .ensures .0 T e w p _),
-  omega (arith, c .before .before .wide32 .ensures .1, c .before .wide322 .ensures .1, c .grown .ensures .1),
-  λ h. residual-fits _ _ _ _ (c .before .before .before .with-residual .ensures .0) (c .grown .ensures .3 h),
-)
+returns c =
+    let a = c .before .before .before .before .before .before .before .args in (
+      residual-by (a .self) (a .size) _ _ _ _ (c .grown .ensures) (c .before .before .before .with-residual .ensures .0) (c .before .before .before .before .sums .ensures .0) (at-rest (a .self) _ _ (c .before .before .wide32 .ensures .0) (c .before .wide322 .ensures .0)),
+      omega (arith, c .before .before .wide32 .ensures .1, c .before .wide322 .ensures .1, grown-place (a .self) _ _ _ _ (c .grown .ensures)),
+    )
 
 pub residual-spec : {M : Type 1} → statement M
 residual-spec =

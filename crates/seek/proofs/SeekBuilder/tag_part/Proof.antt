@@ -1,9 +1,11 @@
-use mathlib.Core.Path.{refl, ap, _∙_}
+use Rattle.seek.proofs.Parts.{part-is}
+use Rattle.records.proofs.Places.{part-written}
+use mathlib.Core.Bool.{true, false}
+use mathlib.Core.Path.{refl}
 use Rattle.rules.specs.Plan as Plan
 use Rattle.rules.specs.Placement.{SeekKeyPart}
 use Rattle.rules.specs.Constant.{unionTag, bigEndian32}
 use Rattle.state.specs.Ops.{isBytes, partText}
-use Rattle.seek.specs.Seek.{stateOf}
 use borrow.Author.Needs.{needs}
 use Rattle.seek.proofs.SeekBuilder.tag_part.Statement.{statement}
 use Rattle.seek.proofs.SeekBuilder.tag_part.Tie as tie
@@ -26,7 +28,9 @@ returns c =
     λ T e w.
     let p = c .before .before .before .before .before .before .before .before .before .before .part in
     let x = unionTag (c .before .before .before .before .before .before .before .before .before .before .before .before .args .disc) in
-    ap (stateOf T (p .result .level) e w) (c .before .before .before .put-tag-at .ensures ∙ c .before .before .before .before .before .before .before .put-head .ensures .0 x (λ _. refl)) ∙ p .ensures .0 T e w _ (SeekKeyPart.Bytes x) refl refl refl
+    let h = c .before .before .before .before .before .before .before .put-head in
+    part-is (c .before .before .before .before .before .before .before .before .before .before .before .before .args .self) T e w _ false true 5 3 (SeekKeyPart.Bytes x) (p .result) _ (p .ensures .0) refl refl refl
+    (part-written (p .result .place) (h .result) 5 x _ _ _ (h .ensures .0) (h .ensures .1) (c .before .before .before .put-tag-at .ensures) (λ _. refl))
 
 pub tag-part-spec : {M : Type 1} → statement M
 tag-part-spec =

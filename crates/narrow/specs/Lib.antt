@@ -1,2 +1,0 @@
--- A level narrowed by a constant.
-pub mod Narrow

@@ -1,2 +1,0 @@
-pub mod Consts
-pub mod Folds
