@@ -193,7 +193,7 @@ pub rooms-of : (T : Tables) (a : Answer) → a .some ≡ true → Rooms T (given
 rooms-of T a e h = h (slotOf (a .slot)) (ap (λ (b : Bool). maybe b (slotOf (a .slot))) e)
 
 -- a node by what it reads of
-abbrev stepBy : Tables → (ℕ → Resolver State) → ℕ → Node → Base → Resolver State
+abbrev pub stepBy : Tables → (ℕ → Resolver State) → ℕ → Node → Base → Resolver State
 stepBy T f n node Bs.Nothing = λ s. record { slot = leafSlot T (ops T .lookup s) n node; walk = s }
 stepBy T f n node (Bs.Of read b) = f b >>= readPast T n read
 
@@ -217,19 +217,13 @@ by-base T f n (Node.Fact p b) s = refl
 by-base T f n Node.Arith s = refl
 by-base T f n Node.Error s = refl
 
-module _ (T : Tables) (lower : Lower T) (n : ℕ) {l : Lists} {w : List ℕ} {r : Answer} {w′ : List ℕ} where
-  pub constant-is : isConstant T n ≡ true → Answers (give (some (File.Slot.Const n))) l w r w′ → Answers (resolve (ops T) T n) l w r w′
-  constant-is e h =
-      record { is = λ level target plan. h .is level target plan ∙ ap (λ (b : Bool). chosen T n b (stateWith l level target w plan)) (sym e) ∙ sym (resolve-step (ops T) T lower n (stateWith l level target w plan)) }
+-- `resolve` of a node by its constancy
+module _ (T : Tables) (lower : Lower T) (n : ℕ) (s : State) where
+  pub resolve-constant : isConstant T n ≡ true → resolve (ops T) T n s ≡ give (some (File.Slot.Const n)) s
+  resolve-constant e = resolve-step (ops T) T lower n s ∙ ap (λ (b : Bool). chosen T n b s) e
 
-  pub node-is : (b : Base) → isConstant T n ≡ false → b ≡ baseOf (nodeAt T n) → Answers (stepBy T (resolve (ops T) T) n (nodeAt T n) b) l w r w′ → Answers (resolve (ops T) T n) l w r w′
-  node-is b e g h =
-      record {
-        is = λ level target plan.
-            h .is level target plan ∙ ap (λ (b : Base). stepBy T (resolve (ops T) T) n (nodeAt T n) b (stateWith l level target w plan)) g
-            ∙ by-base T (resolve (ops T) T) n (nodeAt T n) (stateWith l level target w plan)
-            ∙ ap (λ (b : Bool). chosen T n b (stateWith l level target w plan)) (sym e) ∙ sym (resolve-step (ops T) T lower n (stateWith l level target w plan));
-      }
+  pub resolve-other : isConstant T n ≡ false → resolve (ops T) T n s ≡ stepBy T (resolve (ops T) T) n (nodeAt T n) (baseOf (nodeAt T n)) s
+  resolve-other e = resolve-step (ops T) T lower n s ∙ ap (λ (b : Bool). chosen T n b s) e ∙ sym (by-base T (resolve (ops T) T) n (nodeAt T n) s)
 
 -- a node that was seen as a view
 module _ {f : List ℕ} {node : Node} {v : NodeView} (w : NodeView) where
@@ -260,7 +254,7 @@ read-at T n s {x} {y} {l} {w} {r} {w′} e h = subst (λ (x : Read). Answers (re
 pub rooms-from : (T : Tables) {g : Resolver State} {l : Lists} {w : List ℕ} {r : Answer} {w′ : List ℕ} → Answers g l w r w′ → ((s : State) → Rooms T (g s .slot)) → Rooms T (given r)
 rooms-from T {g} {l} {w} {r} {w′} h k s e = k (stateWith l newLevel measuring w []) s (sym (ap (λ (a : Rules.Answer State). a .slot) (h .is newLevel measuring [])) ∙ e)
 
-no-base : {read : Read} {b : ℕ} → Bs.Of read b ≡ Bs.Nothing → ⊥
+pub no-base : {read : Read} {b : ℕ} → Bs.Of read b ≡ Bs.Nothing → ⊥
 no-base e = let z : _≡_ {A = ℕ} 0 1 = cc in omega arith
 
 same-base : {read read′ : Read} {b c : ℕ} → Bs.Of read b ≡ Bs.Of read′ c → b ≡ c

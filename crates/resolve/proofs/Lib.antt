@@ -1,3 +1,4 @@
 pub mod Rooms
 pub mod Steps
 pub mod Answers
+pub mod Chains

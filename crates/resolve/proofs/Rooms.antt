@@ -23,6 +23,9 @@ use Rattle.file.proofs.Readers.{lt-or-le}
 use Rattle.state.specs.State.{State}
 use Rattle.state.specs.Ops as State
 use Rattle.slots.specs.Slots.{Room, Roomy}
+use Rattle.resolve.specs.Resolved.{readSlot, readPast}
+use Rattle.resolve.specs.declared.Read.{Read}
+use Rattle.resolve.specs.declared.Read.the-variants.{Key, Value, Select}
 
 -- a slot that was tested
 tested-room : (T : Tables) (s : Slot) → State.roomy T s ≡ true → Roomy T s
@@ -214,3 +217,13 @@ module _ {T : Tables} (W : Sound T) where
   -- and so with the lists in the work area
   pub resolved-room : (n : ℕ) (w : State) → Given (resolve (State.ops T) T n w .slot)
   resolved-room n w = resolve-room (State.ops T) (λ w x s e. fitting-room T _ s e) n w
+
+  -- a read past a reference keeps the room
+  past-room : (n : ℕ) (read : Read) (s : Slot) (w : State) → Roomy T s → Gives (State.ops T) (readSlot T n read s w)
+  past-room n (Key x) s w h = field-room (State.ops T) n s x w h
+  past-room n Value s w h = value-room (State.ops T) s w
+  past-room n (Select x) s w h = select-room (State.ops T) n s x w h
+
+  pub read-room : (n : ℕ) (read : Read) (a : Answer State) → Given (a .slot) → Given (follow a (readPast T n read) .slot)
+  unfolding _>>=_
+  read-room n read a h = follows (State.ops T) a _ h (λ s w r. follows (State.ops T) _ _ (dereference-room (State.ops T) n s w r) (λ s′ w′ r′. past-room n read s′ w′ r′))

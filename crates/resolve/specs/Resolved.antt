@@ -35,6 +35,10 @@ pub record Answers (g : Resolver State) (l : Lists) (w : List ℕ) (r : Answer) 
 pub record Follows (g : File.Slot → Resolver State) (a : Answer) (w : List ℕ) (r : Answer) (w′ : List ℕ) : Type 0 where
   pub is : (level : Level) (target : Target) (plan : List ℕ) → answerOf r level target w′ plan ≡ follow (answerOf a level target w plan) g
 
+-- the same of what f makes of the answer a
+pub record Climbs (f : Rules.Answer State → Rules.Answer State) (a : Answer) (w : List ℕ) (r : Answer) (w′ : List ℕ) : Type 0 where
+  pub is : (level : Level) (target : Target) (plan : List ℕ) → answerOf r level target w′ plan ≡ f (answerOf a level target w plan)
+
 -- a slot that was given has room for the steps below its type
 abbrev pub Rooms : Tables → Option File.Slot → Type 0
 Rooms T o = (s : File.Slot) → o ≡ some s → Roomy T s

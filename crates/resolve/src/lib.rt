@@ -2,8 +2,9 @@
 ghost use mathlib.Core.Path.{_≡_};
 ghost use mathlib.Core.List.{List};
 ghost use mathlib.Core.Option.{some};
-ghost use Prim.Native.Nat.{ℕ, _<_};
-ghost use lib.ListN.{length};
+ghost use Prim.Native.Nat.{ℕ, _≤_, _<_};
+ghost use lib.ListN.{length, take};
+ghost use lib.Seq.{sets};
 ghost use Rattle.rules.specs.Limits.{stepLimit};
 ghost use Rattle.rules.specs.File as File;
 ghost use Rattle.rules.specs.File.{Tables, nodeAt, isConstant};
@@ -19,7 +20,8 @@ ghost use Rattle.slots.specs.Slots.{slotOf, slotOption, Room, Roomy};
 ghost use Rattle.lists.specs.Lists.{codeOf, stateWith};
 ghost use Rattle.fields.specs.Found.{addressOption};
 ghost use Rattle.tables.specs.Tables.{alternativeOption};
-ghost use Rattle.resolve.specs.Resolved.{given, Answers, Follows, Rooms, baseOf, readSlot, readPast, leafSlot, leafAt};
+ghost use Rattle.resolve.specs.Resolved.{given, Answers, Follows, Climbs, Rooms, baseOf, readSlot, readPast, leafSlot, leafAt};
+ghost use Rattle.resolve.specs.Chains.{readOf, chain, bottom, readUp, climb};
 use entries::node_of;
 use fields::MaybeAddress;
 use fields::MaybeName;
@@ -31,6 +33,7 @@ use fields::key_field;
 use fields::path_field;
 use fields::row_field;
 use fields::row_value;
+use file::wide16;
 use lists::Code;
 use lists::Lists;
 use lists::lookup;
@@ -71,6 +74,12 @@ pub enum Read {
 pub enum Base {
     Nothing,
     Of(Read, usize),
+}
+
+// How many nodes of a chain of reads were passed, and the node below them.
+pub struct Chain {
+    pub passed: usize,
+    pub node: usize,
 }
 
 // A read that adds nothing.
@@ -481,18 +490,114 @@ fn leaf_answer(file: &[u8], index: &[u16], work: &mut [u8], node: usize, lists: 
     }
 }
 
-// A chain of accesses is as long as a file has nodes, so the frame is kept small: what is no call of itself stands in functions of its own, and the
-// one that is called twice is not drawn into this one.
-pub fn resolve(file: &[u8], index: &[u16], work: &mut [u8], node: usize, lists: Lists) -> Answer
+// What a node reads of which node below it: a constant is its own location, and reads of none.
+fn read_of(file: &[u8], index: &[u16], node: usize) -> Base
     requires { ⌜ Ready (now file) (now index) ⌝ }
-    ensures { λ r. ⌜ Answers (Rules.resolve (ops (tablesOf (now (file .entry)))) (tablesOf (now (file .entry))) node) lists (now (work .entry)) r (now (work .exit)) ⌝ }
+    ensures { λ r. ⌜ r ≡ readOf (tablesOf (now (file .entry))) node ⌝ }
 {
     if constant_node(file, index, node) {
-        return leaf_answer(file, index, work, node, lists);
+        return Base::Nothing;
     }
-    let Base::Of(read, base) = base_of(file, index, node) else {
-        return leaf_answer(file, index, work, node, lists);
-    };
-    let below = resolve(file, index, work, base, lists);
-    read_past(file, index, work, node, read, below)
+    base_of(file, index, node)
+}
+
+// Goes down a chain of reads, from each node to the one that it reads of, and writes the nodes that it passes to the trail: until one reads of no
+// other, or the trail is full.
+fn descend(file: &[u8], index: &[u16], node: usize, trail: &mut [u16]) -> Chain
+    requires { ⌜ Ready (now file) (now index) ⌝ }
+    ensures passes { λ r. ⌜ (
+        let T = tablesOf (now (file .entry)) in
+        let most = length (now (trail .entry)) in
+        r ≡ record { passed = length (chain T most node); node = bottom T most node }
+        ) ⌝ }
+    ensures writes { λ r. ⌜ (
+        let T = tablesOf (now (file .entry)) in
+        let before = now (trail .entry) in
+        now (trail .exit) ≡ sets before 0 (chain T (length before) node)
+        ) ⌝ }
+{
+    let mut n = node;
+    let mut k: usize = 0;
+    while k < trail.len() {
+        let Base::Of(_, base) = read_of(file, index, n) else {
+            return Chain { passed: k, node: n };
+        };
+        trail[k] = n as u16;
+        n = base;
+        k += 1;
+    }
+    Chain { passed: k, node: n }
+}
+
+// What a node reads, of the answer of the node below it.
+fn read_up(file: &[u8], index: &[u16], work: &mut [u8], node: usize, below: Answer) -> Answer
+    requires { ⌜ Ready (now file) (now index) ⌝ }
+    requires { ⌜ Rooms (tablesOf (now file)) (given below) ⌝ }
+    ensures { λ r. ⌜ (
+        let T = tablesOf (now (file .entry)) in
+        Climbs (readUp T node) below (now (work .entry)) r (now (work .exit))
+        ) ⌝ }
+{
+    match base_of(file, index, node) {
+        Base::Nothing => below,
+        Base::Of(read, _) => read_past(file, index, work, node, read, below),
+    }
+}
+
+// Goes up again from the answer at a chain's end: each node of the trail reads of the one after it.
+fn ascend(
+    file: &[u8],
+    index: &[u16],
+    work: &mut [u8],
+    trail: &[u16],
+    passed: usize,
+    end: Answer,
+) -> Answer
+    requires { ⌜ Ready (now file) (now index) ⌝ }
+    requires { ⌜ Rooms (tablesOf (now file)) (given end) ⌝ }
+    requires { ⌜ passed ≤ length (now trail) ⌝ }
+    ensures { λ r. ⌜ (
+        let T = tablesOf (now (file .entry)) in
+        Climbs (climb T (take passed (now (trail .entry)))) end (now (work .entry)) r (now (work .exit))
+        ) ⌝ }
+{
+    let mut below = end;
+    let mut k = passed;
+    while k > 0 {
+        k -= 1;
+        below = read_up(file, index, work, wide16(trail[k]), below);
+    }
+    below
+}
+
+// A chain of any length: a file has no more nodes than the trail has places. The trail is large, so it stands here and in no other frame.
+fn resolve_long(file: &[u8], index: &[u16], work: &mut [u8], node: usize, lists: Lists) -> Answer
+    requires { ⌜ Ready (now file) (now index) ⌝ }
+    ensures { λ r. ⌜ (
+        let T = tablesOf (now (file .entry)) in
+        Answers (Rules.resolve (ops T) T node) lists (now (work .entry)) r (now (work .exit))
+        ) ⌝ }
+{
+    let mut trail = [0u16; 2048];
+    let chain = descend(file, index, node, &mut trail);
+    let end = leaf_answer(file, index, work, chain.node, lists);
+    ascend(file, index, work, &trail, chain.passed, end)
+}
+
+// Where a pattern's value lives. A chain of reads may be as long as a file has nodes, so it is walked by loops, down and up again; nearly every chain
+// is short, and is done with a short trail.
+pub fn resolve(file: &[u8], index: &[u16], work: &mut [u8], node: usize, lists: Lists) -> Answer
+    requires { ⌜ Ready (now file) (now index) ⌝ }
+    ensures { λ r. ⌜ (
+        let T = tablesOf (now (file .entry)) in
+        Answers (Rules.resolve (ops T) T node) lists (now (work .entry)) r (now (work .exit))
+        ) ⌝ }
+{
+    let mut trail = [0u16; 8];
+    let chain = descend(file, index, node, &mut trail);
+    if chain.passed == 8 {
+        return resolve_long(file, index, work, node, lists);
+    }
+    let end = leaf_answer(file, index, work, chain.node, lists);
+    ascend(file, index, work, &trail, chain.passed, end)
 }
