@@ -1,1 +1,3 @@
 pub mod Diagnoses
+-- A walk's level and its lists.
+pub mod Parts

@@ -6,13 +6,37 @@ use Rattle.rules.specs.File.{Tables}
 use Rattle.rules.specs.Events.{Code}
 use Rattle.state.specs.State.{State}
 use Rattle.state.specs.Ops.{report, skip}
-use Rattle.seek.specs.Seek.{levelOf, targetOf}
-use Rattle.lists.specs.Lists.{stateWith}
+use Rattle.seek.specs.Seek.{stateOf}
+use Rattle.lists.specs.Lists.{endsOf}
+use Rattle.lists.specs.declared.Lists.{Lists}
 use Rattle.step.specs.declared.Walk.{Walk}
 
--- the lists say whether the plan is too long; the level's own word is set from theirs where it is placed on
 unfoldable pub walkState : Tables → Walk → List ℕ → List ℕ → State
-walkState T w work plan = stateWith (w .lists) (levelOf T (w .level)) (targetOf (w .level .target)) work plan
+walkState T w work plan = stateOf T (w .level) (endsOf (w .ends)) work plan
+
+-- a walk's lists
+abbrev pub listsOf : Walk → Lists
+listsOf w = record { over = w .level .over; ends = w .ends }
+
+-- the walk with other lists: the level says that the plan is too long where they do
+abbrev pub withLists : Walk → Lists → Walk
+withLists w l =
+    record {
+      ends = l .ends;
+      level = record {
+        over = l .over;
+        building = w .level .building;
+        plain = w .level .plain;
+        counts = w .level .counts;
+        path = w .level .path;
+        range = w .level .range;
+        guide = w .level .guide;
+        lo = w .level .lo;
+        hi = w .level .hi;
+        folded = w .level .folded;
+        target = w .level .target;
+      };
+    }
 
 -- a diagnostic, and whether building falls with it
 abbrev pub diagnosed : ℕ → Code → Bool → State → State

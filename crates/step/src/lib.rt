@@ -8,10 +8,10 @@ ghost use Rattle.state.specs.State.{State};
 ghost use Rattle.state.specs.Ops as Ops;
 ghost use Rattle.paths.specs.Paths.{pathOf};
 ghost use Rattle.slots.specs.Slots.{slotOf};
-ghost use Rattle.seek.specs.Seek.{stateOf};
-ghost use Rattle.lists.specs.Lists.{codeOf, endsOf, stateWith};
-ghost use Rattle.step.specs.Step.{walkState, diagnosed};
+ghost use Rattle.lists.specs.Lists.{codeOf};
+ghost use Rattle.step.specs.Step.{walkState, listsOf, withLists, diagnosed};
 use lists::Code;
+use lists::Ends;
 use lists::Lists;
 use lists::bind;
 use lists::constrained;
@@ -22,54 +22,70 @@ use paths::FieldPath;
 use seek::SeekBuilder;
 use slots::Slot;
 
+// Whether the plan is too long is the level's word; the lists beside it are where each of them ends.
 pub struct Walk {
-    pub lists: Lists,
+    pub ends: Ends,
     pub level: SeekBuilder,
 }
 
 impl Walk {
-    // The level, which stays as it is once the lists are over.
-    pub fn builder(self) -> SeekBuilder
-        ensures { λ r. ⌜ ((T : Tables) (w p : List ℕ) → stateOf T r (endsOf (self .lists .ends)) w p ≡ walkState T self w p) ⌝ }
+    // The lists, for an append or a read.
+    pub fn lists(self) -> Lists
+        ensures { λ r. ⌜ r ≡ listsOf self ⌝ }
     {
-        let lists = self.lists;
-        let mut l = self.level;
-        l.over = lists.over;
-        l
-    }
-
-    // The walk with the level as a placement handed it back.
-    pub fn placed(self, level: SeekBuilder) -> Walk
-        ensures { λ r. ⌜ ((T : Tables) (w p : List ℕ) → walkState T r w p ≡ stateOf T level (endsOf (self .lists .ends)) w p) ⌝ }
-    {
-        let mut lists = self.lists;
-        lists.over = level.over;
-        Walk { lists, level }
+        let level = self.level;
+        let ends = self.ends;
+        Lists {
+            over: level.over,
+            ends,
+        }
     }
 
     // The walk with the lists as an append or a read handed them back.
     pub fn listed(self, lists: Lists) -> Walk
-        ensures { λ r. ⌜ ((T : Tables) (w p : List ℕ) → walkState T r w p ≡ stateWith lists (walkState T self w p .level) (walkState T self w p .target) w p) ⌝ }
+        ensures { λ r. ⌜ r ≡ withLists self lists ⌝ }
     {
-        let level = self.level;
-        Walk { lists, level }
+        let mut level = self.level;
+        level.over = lists.over;
+        let ends = lists.ends;
+        Walk { ends, level }
+    }
+
+    // The walk with the level as a placement handed it back.
+    pub fn placed(self, level: SeekBuilder) -> Walk
+        ensures { λ r. ⌜ r ≡ record { ends = self .ends; level = level } ⌝ }
+    {
+        let ends = self.ends;
+        Walk { ends, level }
     }
 
     // Building falls.
     pub fn skip(self) -> Walk
-        ensures { λ r. ⌜ ((T : Tables) (w p : List ℕ) → walkState T r w p ≡ Ops.skip (walkState T self w p)) ⌝ }
+        ensures { λ r. ⌜ (
+            (T : Tables) (w p : List ℕ) →
+            let before = walkState T self w p in
+            let after = walkState T r w p in
+            after ≡ Ops.skip before
+            ) ⌝ }
     {
-        let l = self.builder().skip();
-        self.placed(l)
+        let level = self.level;
+        self.placed(level.skip())
     }
 
+    // A narrowing to a union's alternative.
     pub fn tag(self, path: FieldPath, disc: u32, plan: &mut [u8]) -> Walk
-        ensures { λ r. ⌜ ((T : Tables) (w : List ℕ) → walkState T r w (now (plan .exit)) ≡ Ops.narrow (pathOf path) (Narrowing.Tag disc) (walkState T self w (now (plan .entry)))) ⌝ }
+        ensures { λ r. ⌜ (
+            (T : Tables) (w : List ℕ) →
+            let before = walkState T self w (now (plan .entry)) in
+            let after = walkState T r w (now (plan .exit)) in
+            after ≡ Ops.narrow (pathOf path) (Narrowing.Tag disc) before
+            ) ⌝ }
     {
-        let l = tagged(disc, path, self.builder(), plan);
+        let l = tagged(disc, path, self.level, plan);
         self.placed(l)
     }
 
+    // A narrowing to the field of a register.
     pub fn register_field(
         self,
         path: FieldPath,
@@ -77,54 +93,93 @@ impl Walk {
         at: FieldPath,
         plan: &mut [u8],
     ) -> Walk
-        ensures { λ r. ⌜ ((T : Tables) (w : List ℕ) → walkState T r w (now (plan .exit)) ≡ Ops.narrow (pathOf path) (Narrowing.RegisterField (address .0) (pathOf at)) (walkState T self w (now (plan .entry)))) ⌝ }
+        ensures { λ r. ⌜ (
+            (T : Tables) (w : List ℕ) →
+            let before = walkState T self w (now (plan .entry)) in
+            let after = walkState T r w (now (plan .exit)) in
+            after ≡ Ops.narrow (pathOf path) (Narrowing.RegisterField (address .0) (pathOf at)) before
+            ) ⌝ }
     {
-        let l = self.builder().register_field(path, address, at, plan);
+        let level = self.level;
+        let l = level.register_field(path, address, at, plan);
         self.placed(l)
     }
 
+    // A narrowing to the fact of a register.
     pub fn fact_id(self, path: FieldPath, address: Address, plan: &mut [u8]) -> Walk
-        ensures { λ r. ⌜ ((T : Tables) (w : List ℕ) → walkState T r w (now (plan .exit)) ≡ Ops.narrow (pathOf path) (Narrowing.FactId (address .0)) (walkState T self w (now (plan .entry)))) ⌝ }
+        ensures { λ r. ⌜ (
+            (T : Tables) (w : List ℕ) →
+            let before = walkState T self w (now (plan .entry)) in
+            let after = walkState T r w (now (plan .exit)) in
+            after ≡ Ops.narrow (pathOf path) (Narrowing.FactId (address .0)) before
+            ) ⌝ }
     {
-        let l = self.builder().fact_id(path, address, plan);
+        let level = self.level;
+        let l = level.fact_id(path, address, plan);
         self.placed(l)
     }
 
-    // `held` says whether the level built before the tag.
+    // The end of an alternative. `held` says whether the level built before the tag, where the state was `opening`.
     pub fn closer(self, held: bool, plan: &mut [u8]) -> Walk
-        ensures { λ r. ⌜ ((T : Tables) (w : List ℕ) (before : State) → before .level .building ≡ held → walkState T r w (now (plan .exit)) ≡ Ops.closer before (walkState T self w (now (plan .entry)))) ⌝ }
+        ensures { λ r. ⌜ (
+            (T : Tables) (w : List ℕ) (opening : State) → opening .level .building ≡ held →
+            let before = walkState T self w (now (plan .entry)) in
+            let after = walkState T r w (now (plan .exit)) in
+            after ≡ Ops.closer opening before
+            ) ⌝ }
     {
-        let l = self.builder().closer(held, plan);
+        let level = self.level;
+        let l = level.closer(held, plan);
         self.placed(l)
     }
 
+    // A name bound to a slot.
     pub fn bind(self, work: &mut [u8], name: usize, slot: Slot) -> Walk
-        ensures { λ r. ⌜ ((T : Tables) (p : List ℕ) → walkState T r (now (work .exit)) p ≡ Ops.bind name (slotOf slot) (walkState T self (now (work .entry)) p)) ⌝ }
+        ensures { λ r. ⌜ (
+            (T : Tables) (p : List ℕ) →
+            let before = walkState T self (now (work .entry)) p in
+            let after = walkState T r (now (work .exit)) p in
+            after ≡ Ops.bind name (slotOf slot) before
+            ) ⌝ }
     {
-        let lists = bind(work, self.lists, name, slot);
-        let level = self.level;
-        Walk { lists, level }
+        let lists = bind(work, self.lists(), name, slot);
+        self.listed(lists)
     }
 
+    // A name that patterns constrain.
     pub fn constrained(self, work: &mut [u8], name: usize) -> Walk
-        ensures { λ r. ⌜ ((T : Tables) (p : List ℕ) → walkState T r (now (work .exit)) p ≡ Ops.constrained name (walkState T self (now (work .entry)) p)) ⌝ }
+        ensures { λ r. ⌜ (
+            (T : Tables) (p : List ℕ) →
+            let before = walkState T self (now (work .entry)) p in
+            let after = walkState T r (now (work .exit)) p in
+            after ≡ Ops.constrained name before
+            ) ⌝ }
     {
-        let lists = constrained(work, self.lists, name);
-        let level = self.level;
-        Walk { lists, level }
+        let lists = constrained(work, self.lists(), name);
+        self.listed(lists)
     }
 
+    // A diagnostic, with the level as it is.
     pub fn report(self, work: &mut [u8], node: usize, code: Code) -> Walk
-        ensures { λ r. ⌜ ((T : Tables) (p : List ℕ) → walkState T r (now (work .exit)) p ≡ Ops.report node (codeOf code) (walkState T self (now (work .entry)) p)) ⌝ }
+        ensures { λ r. ⌜ (
+            (T : Tables) (p : List ℕ) →
+            let before = walkState T self (now (work .entry)) p in
+            let after = walkState T r (now (work .exit)) p in
+            after ≡ Ops.report node (codeOf code) before
+            ) ⌝ }
     {
-        let lists = report(work, self.lists, node, code);
-        let level = self.level;
-        Walk { lists, level }
+        let lists = report(work, self.lists(), node, code);
+        self.listed(lists)
     }
 
     // A diagnostic. `falls` says whether building falls with it.
     pub fn diagnose(self, work: &mut [u8], node: usize, code: Code, falls: bool) -> Walk
-        ensures { λ r. ⌜ ((T : Tables) (p : List ℕ) → walkState T r (now (work .exit)) p ≡ diagnosed node (codeOf code) falls (walkState T self (now (work .entry)) p)) ⌝ }
+        ensures { λ r. ⌜ (
+            (T : Tables) (p : List ℕ) →
+            let before = walkState T self (now (work .entry)) p in
+            let after = walkState T r (now (work .exit)) p in
+            after ≡ diagnosed node (codeOf code) falls before
+            ) ⌝ }
     {
         if falls {
             return self.skip().report(work, node, code);

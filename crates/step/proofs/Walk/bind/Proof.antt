@@ -1,20 +1,23 @@
-use Rattle.step.specs.Step.{walkState}
+use Rattle.state.specs.Ops as Ops
+use Rattle.step.proofs.Parts.{listed-is}
 use borrow.Author.Needs.{needs}
 use Rattle.step.proofs.Walk.bind.Statement.{statement}
 use Rattle.step.proofs.Walk.bind.Tie as tie
-use Rattle.step.proofs.Walk.bind.Reads as reads
-use Rattle.step.proofs.Walk.bind.Lts as lts
-use Rattle.lists.proofs.bind.Reads as bind-reads
+
+lists-requires : tie.Need-lists-requires
+lists-requires c κs = search needs
 
 bind-requires : tie.Need-bind-requires
 bind-requires c κs = search needs
+
+listed-requires : tie.Need-listed-requires
+listed-requires c κs = search needs
 
 same-length : tie.Need-same-length
 same-length c = search needs
 
 returns : tie.Need-returns
-unfolding walkState
-returns c = λ T p. c .before .before .before .bind .ensures _ _ p
+returns c = λ T p. listed-is T _ _ _ _ _ _ p (Ops.bind _ _) (c .before .before .before .before .lists .ensures) (c .listed .ensures) (c .before .before .before .bind .ensures)
 
 pub bind-spec : {M : Type 1} → statement M
-bind-spec = tie.close (tie.spec bind-requires same-length returns)
+bind-spec = tie.close (tie.spec lists-requires bind-requires listed-requires same-length returns)

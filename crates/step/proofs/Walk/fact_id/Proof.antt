@@ -1,16 +1,9 @@
-use mathlib.Core.Path.{_∙_, ap}
-use Rattle.state.specs.Ops.{narrow}
+use mathlib.Core.Path.{_∙_}
+use Rattle.step.proofs.Parts.{placed-is}
+use Rattle.step.specs.Step.{walkState}
 use borrow.Author.Needs.{needs}
 use Rattle.step.proofs.Walk.fact_id.Statement.{statement}
 use Rattle.step.proofs.Walk.fact_id.Tie as tie
-use Rattle.step.proofs.Walk.fact_id.Reads as reads
-use Rattle.step.proofs.Walk.fact_id.Lts as lts
-use Rattle.seek.proofs.SeekBuilder.fact_id.Reads as fact-id-reads
-use Rattle.step.proofs.Walk.builder.Reads as builder-reads
-use Rattle.step.proofs.Walk.placed.Reads as placed-reads
-
-builder-requires : tie.Need-builder-requires
-builder-requires c κs = search needs
 
 fact-id-requires : tie.Need-fact-id-requires
 fact-id-requires c κs = search needs
@@ -22,8 +15,8 @@ same-length : tie.Need-same-length
 same-length c = search needs
 
 returns : tie.Need-returns
-returns c = λ T w. c .placed .ensures T w _ ∙ c .before .before .before .fact-id .ensures T _ w ∙ ap (narrow _ _) (c .before .before .before .before .before .builder .ensures T w _)
+unfolding walkState
+returns c = λ T w. placed-is T _ _ _ w _ (c .placed .ensures) ∙ c .before .before .before .fact-id .ensures T _ w
 
 pub fact-id-spec : {M : Type 1} → statement M
-fact-id-spec =
-    tie.close (tie.spec builder-requires fact-id-requires placed-requires same-length returns)
+fact-id-spec = tie.close (tie.spec fact-id-requires placed-requires same-length returns)

@@ -1,16 +1,9 @@
-use mathlib.Core.Path.{_∙_, ap}
-use Rattle.state.specs.Ops.{narrow}
+use mathlib.Core.Path.{_∙_}
+use Rattle.step.proofs.Parts.{placed-is}
+use Rattle.step.specs.Step.{walkState}
 use borrow.Author.Needs.{needs}
 use Rattle.step.proofs.Walk.register_field.Statement.{statement}
 use Rattle.step.proofs.Walk.register_field.Tie as tie
-use Rattle.step.proofs.Walk.register_field.Reads as reads
-use Rattle.step.proofs.Walk.register_field.Lts as lts
-use Rattle.seek.proofs.SeekBuilder.register_field.Reads as register-field-reads
-use Rattle.step.proofs.Walk.builder.Reads as builder-reads
-use Rattle.step.proofs.Walk.placed.Reads as placed-reads
-
-builder-requires : tie.Need-builder-requires
-builder-requires c κs = search needs
 
 register-field-requires : tie.Need-register-field-requires
 register-field-requires c κs = search needs
@@ -22,9 +15,8 @@ same-length : tie.Need-same-length
 same-length c = search needs
 
 returns : tie.Need-returns
-returns c = λ T w. c .placed .ensures T w _ ∙ c .before .before .before .register-field .ensures T _ w ∙ ap (narrow _ _) (c .before .before .before .before .before .builder .ensures T w _)
+unfolding walkState
+returns c = λ T w. placed-is T _ _ _ w _ (c .placed .ensures) ∙ c .before .before .before .register-field .ensures T _ w
 
 pub register-field-spec : {M : Type 1} → statement M
-register-field-spec =
-    tie.close
-    (tie.spec builder-requires register-field-requires placed-requires same-length returns)
+register-field-spec = tie.close (tie.spec register-field-requires placed-requires same-length returns)

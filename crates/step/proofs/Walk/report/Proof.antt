@@ -1,20 +1,23 @@
-use Rattle.step.specs.Step.{walkState}
+use Rattle.state.specs.Ops as Ops
+use Rattle.step.proofs.Parts.{listed-is}
 use borrow.Author.Needs.{needs}
 use Rattle.step.proofs.Walk.report.Statement.{statement}
 use Rattle.step.proofs.Walk.report.Tie as tie
-use Rattle.step.proofs.Walk.report.Reads as reads
-use Rattle.step.proofs.Walk.report.Lts as lts
-use Rattle.lists.proofs.report.Reads as report-reads
+
+lists-requires : tie.Need-lists-requires
+lists-requires c κs = search needs
 
 report-requires : tie.Need-report-requires
 report-requires c κs = search needs
+
+listed-requires : tie.Need-listed-requires
+listed-requires c κs = search needs
 
 same-length : tie.Need-same-length
 same-length c = search needs
 
 returns : tie.Need-returns
-unfolding walkState
-returns c = λ T p. c .before .before .before .report .ensures _ _ p
+returns c = λ T p. listed-is T _ _ _ _ _ _ p (Ops.report _ _) (c .before .before .before .before .lists .ensures) (c .listed .ensures) (c .before .before .before .report .ensures)
 
 pub report-spec : {M : Type 1} → statement M
-report-spec = tie.close (tie.spec report-requires same-length returns)
+report-spec = tie.close (tie.spec lists-requires report-requires listed-requires same-length returns)

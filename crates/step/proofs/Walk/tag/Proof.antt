@@ -1,11 +1,9 @@
-use mathlib.Core.Path.{_∙_, ap}
-use Rattle.state.specs.Ops.{narrow}
+use mathlib.Core.Path.{_∙_}
+use Rattle.step.proofs.Parts.{placed-is}
+use Rattle.step.specs.Step.{walkState}
 use borrow.Author.Needs.{needs}
 use Rattle.step.proofs.Walk.tag.Statement.{statement}
 use Rattle.step.proofs.Walk.tag.Tie as tie
-
-builder-requires : tie.Need-builder-requires
-builder-requires c κs = search needs
 
 tagged-requires : tie.Need-tagged-requires
 tagged-requires c κs = search needs
@@ -17,7 +15,8 @@ same-length : tie.Need-same-length
 same-length c = search needs
 
 returns : tie.Need-returns
-returns c = λ T w. c .placed .ensures T w _ ∙ c .before .before .before .tagged .ensures T _ w ∙ ap (narrow _ _) (c .before .before .before .before .before .builder .ensures T w _)
+unfolding walkState
+returns c = λ T w. placed-is T _ _ _ w _ (c .placed .ensures) ∙ c .before .before .before .tagged .ensures T _ w
 
 pub tag-spec : {M : Type 1} → statement M
-tag-spec = tie.close (tie.spec builder-requires tagged-requires placed-requires same-length returns)
+tag-spec = tie.close (tie.spec tagged-requires placed-requires same-length returns)
