@@ -9,20 +9,20 @@ use Rattle.rules.specs.File.{Tables, Node, typeAt, nodeAt, varName}
 use Rattle.rules.specs.Constant as Rules
 use Rattle.rules.specs.Constant.{constant, constantNode}
 use Rattle.rules.specs.Events.{Code}
-use Rattle.rules.specs.Walk.{FieldWalk, narrowing, narrowBy, ranged}
+use Rattle.rules.specs.Walk.{FieldWalk, narrowBy, ranged}
 use Rattle.rules.proofs.Cases.{true≢false}
 use Rattle.rules.proofs.Sound.{Sound}
 use Rattle.state.specs.State.{State}
-use Rattle.state.specs.Ops.{ops, narrow}
+use Rattle.state.specs.Ops.{ops}
 use Rattle.tables.proofs.Searches.{stands-self}
 use Rattle.ready.proofs.Constants.{constant-is}
 use Rattle.constant.specs.Sizes.{viewOf, constView}
 use Rattle.constant.specs.declared.Const.{Const}
 use Rattle.constant.specs.declared.Const.the-variants as Co
 use Rattle.constant.proofs.Known.{known-nothing}
-use Rattle.seek.specs.Narrow.{constOf, narrowedBy}
+use Rattle.seek.specs.Narrow.{narrowedBy}
 use Rattle.step.specs.Step.{diagnosed}
-use Rattle.constrain.specs.Constrain.{isNothing, orElse, Narrows, narrowOr}
+use Rattle.constrain.specs.Constrain.{isNothing, isSome, narrowOr}
 
 -- a number past the nodes is no constant
 error-at : (T : Tables) (n : ℕ) → length (T .nodes) ≤ n → nodeAt T n ≡ Node.Error
@@ -49,43 +49,57 @@ view-none : (T : Tables) (n t : ℕ) → constant T n t ≡ none → constView T
 unfolding constView
 view-none T n t e = ap (viewOf T n t) e
 
-by-some : (T : Tables) (path : File.FieldPath) (c : Rules.Const) (s : State) → narrowedBy T (some c) path s ≡ narrow path (narrowing c) s
-unfolding narrowedBy narrowBy
-by-some T path c s = refl
+-- there is none
+module _ (T : Tables) (n t : ℕ) where
+  pub none-past : Sound T → t < length (T .types) → length (T .nodes) ≤ n → constant T n t ≡ none
+  none-past S h g = past-nodes T S n t h g
+
+  pub none-known : (r : Const) → r ≡ constView T n t → isNothing r ≡ true → constant T n t ≡ none
+  none-known r e q = known-nothing T n t (sym e ∙ nothing-is r q)
+
+  pub none-told : constant T n t ≡ none → false ≡ isSome (constant T n t)
+  none-told e = ap isSome (sym e)
+
+  pub none-narrows : (path : File.FieldPath) (s : State) → constant T n t ≡ none → s ≡ narrowedBy T (constant T n t) path s
+  unfolding narrowedBy
+  none-narrows path s e = ap (λ (o : Option Rules.Const). narrowedBy T o path s) (sym e)
+
+  -- there is one
+  pub some-told : (r : Const) → r ≡ constView T n t → isNothing r ≡ false → true ≡ isSome (constant T n t)
+  some-told r v h = go (constant T n t) refl
+    where
+      go : (o : Option Rules.Const) → constant T n t ≡ o → true ≡ isSome o
+      go none g = absurd (true≢false (sym (something r (v ∙ view-none T n t g)) ∙ h))
+      go (some c) g = refl
+
+-- what follows a narrowing: f where there was a constant, k where there was none
+module _ {A : Type 0} (T : Tables) (n t : ℕ) (path : File.FieldPath) (s₀ : State) (b : Bool) (s : State) (told : b ≡ isSome (constant T n t)) (is : s ≡ narrowedBy T (constant T n t) path s₀) (f k : State → A) where
+  abbrev told-by : Bool → A
+  told-by x = elim x [ true ↦ f s | false ↦ k s ]
+
+  abbrev by : Option Rules.Const → A
+  by o = elim o [ some c ↦ f (narrowBy (ops T) T c path s₀) | none ↦ k s₀ ]
+
+  follows : (o : Option Rules.Const) → b ≡ isSome o → s ≡ narrowedBy T o path s₀ → told-by b ≡ by o
+  unfolding narrowedBy
+  follows none eb es = ap told-by eb ∙ ap k es
+  follows (some c) eb es = ap told-by eb ∙ ap f es
+
+  pub after-constant : b ≡ true → f s ≡ elim (constant T n t) [ some c ↦ f (narrowBy (ops T) T c path s₀) | none ↦ k s₀ ]
+  after-constant e = ap told-by (sym e) ∙ follows (constant T n t) told is
+
+  pub after-none : b ≡ false → k s ≡ elim (constant T n t) [ some c ↦ f (narrowBy (ops T) T c path s₀) | none ↦ k s₀ ]
+  after-none e = ap told-by (sym e) ∙ follows (constant T n t) told is
 
 module _ (T : Tables) (n t : ℕ) (path : File.FieldPath) (s₀ : State) where
-  abbrev after : (State → State) → Option Rules.Const → State
-  after k o = elim o [ some c ↦ narrowBy (ops T) T c path s₀ | none ↦ k s₀ ]
+  module _ (b : Bool) (s : State) (told : b ≡ isSome (constant T n t)) (is : s ≡ narrowedBy T (constant T n t) path s₀) (falls : Bool) where
+    pub or-yes : b ≡ true → s ≡ narrowOr T n t path falls s₀
+    unfolding narrowOr
+    or-yes e = after-constant T n t path s₀ b s told is (λ x. x) (diagnosed n Code.RejectTypeMismatch falls) e
 
-  narrows-none : constant T n t ≡ none → Narrows T n t path s₀ false s₀
-  unfolding orElse
-  narrows-none e = record { is = λ k. sym (ap (after k) e) }
-
-  narrows-by : (c : Rules.Const) (s : State) → constant T n t ≡ some c → s ≡ narrow path (narrowing c) s₀ → Narrows T n t path s₀ true s
-  unfolding orElse narrowBy
-  narrows-by c s e q = record { is = λ k. q ∙ sym (ap (after k) e) }
-
-  pub narrows-past : Sound T → t < length (T .types) → length (T .nodes) ≤ n → Narrows T n t path s₀ false s₀
-  narrows-past S h g = narrows-none (past-nodes T S n t h g)
-
-  pub narrows-nothing : (r : Const) → r ≡ constView T n t → isNothing r ≡ true → Narrows T n t path s₀ false s₀
-  narrows-nothing r e q = narrows-none (known-nothing T n t (sym e ∙ nothing-is r q))
-
-  pub narrows-constant : (r : Const) → r ≡ constView T n t → constOf T r ≡ constant T n t → isNothing r ≡ false → (s s₁ : State) → s ≡ narrowedBy T (constOf T r) path s₁ → s₁ ≡ s₀ → Narrows T n t path s₀ true s
-  narrows-constant r v e h s s₁ q w = go (constant T n t) refl
-    where
-      go : (o : Option Rules.Const) → constant T n t ≡ o → Narrows T n t path s₀ true s
-      go none g = absurd (true≢false (sym (something r (v ∙ view-none T n t g)) ∙ h))
-      go (some c) g = narrows-by c s g (q ∙ ap (λ (x : Option Rules.Const). narrowedBy T x path s₁) (e ∙ g) ∙ by-some T path c s₁ ∙ ap (narrow path (narrowing c)) w)
-
-  module _ (b : Bool) (s : State) (g : Narrows T n t path s₀ b s) where
-    pub or-yes : b ≡ true → (falls : Bool) → s ≡ narrowOr T n t path falls s₀
-    unfolding narrowOr orElse
-    or-yes e falls = sym (ap (λ x. orElse x (diagnosed n Code.RejectTypeMismatch falls) s) e) ∙ g .is (diagnosed n Code.RejectTypeMismatch falls)
-
-    pub or-no : b ≡ false → (falls : Bool) (s′ : State) → s′ ≡ diagnosed n Code.RejectTypeMismatch falls s → s′ ≡ narrowOr T n t path falls s₀
-    unfolding narrowOr orElse
-    or-no e falls s′ q = q ∙ sym (ap (λ x. orElse x (diagnosed n Code.RejectTypeMismatch falls) s) e) ∙ g .is (diagnosed n Code.RejectTypeMismatch falls)
+    pub or-no : b ≡ false → (s′ : State) → s′ ≡ diagnosed n Code.RejectTypeMismatch falls s → s′ ≡ narrowOr T n t path falls s₀
+    unfolding narrowOr
+    or-no e s′ q = q ∙ after-none T n t path s₀ b s told is (λ x. x) (diagnosed n Code.RejectTypeMismatch falls) e
 
   pub ranged-is : (s : State) → s ≡ narrowOr T n t path false s₀ → (a : ℕ) (below : FieldWalk State) → s ≡ ranged (ops T) T a below n t path s₀
   unfolding ranged narrowOr

@@ -1,6 +1,5 @@
 -- What narrows a walk: a pattern's constant, and the patterns that constrain a variable.
 use Prim.Native.Nat.{ℕ}
-use mathlib.Core.Path.{_≡_}
 use mathlib.Core.Bool.{Bool, true, false}
 use mathlib.Core.Option.{Option, none, some}
 use lib.Dec.{eqb}
@@ -22,22 +21,26 @@ isNothing (Co.Bytes n t len) = false
 isNothing (Co.Prefix x) = false
 isNothing (Co.Fuzzy x d a) = false
 
--- what is done where nothing narrowed the walk
-unfoldable pub orElse : Bool → (State → State) → State → State
-orElse true k s = s
-orElse false k s = k s
-
--- s is s₀ narrowed by the constant of node n at type t; b says whether there is one
-pub record Narrows (T : Tables) (n t : ℕ) (path : File.FieldPath) (s₀ : State) (b : Bool) (s : State) : Type 0 where
-  pub is : (k : State → State) → orElse b k s ≡ elim (constant T n t) [ some c ↦ narrowBy (ops T) T c path s₀ | none ↦ k s₀ ]
+-- whether there is a constant
+abbrev pub isSome : {A : Type 0} → Option A → Bool
+isSome none = false
+isSome (some c) = true
 
 -- a pattern that is no constant at the type of its field is reported; the flag says whether building falls there
 unfoldable pub narrowOr : Tables → ℕ → ℕ → File.FieldPath → Bool → State → State
-narrowOr T n t path falls s = elim (constant T n t) [ some c ↦ narrowBy (ops T) T c path s | none ↦ diagnosed n Code.RejectTypeMismatch falls s ]
+narrowOr T n t path falls s =
+    elim (constant T n t) [
+      | some c ↦ narrowBy (ops T) T c path s
+      | none ↦ diagnosed n Code.RejectTypeMismatch falls s
+    ]
 
 -- the pattern of a constraint, if it constrains name x and has rank r
 unfoldable pub patternFor : Tables → ℕ → ℕ → Constraint → Option ℕ
-patternFor T x r k = elim (eqb (k .name) x) [ true ↦ elim (eqb (rank (nodeAt T (k .node))) r) [ true ↦ some (k .node) | false ↦ none ] | false ↦ none ]
+patternFor T x r k =
+    elim (eqb (k .name) x) [
+      | true ↦ elim (eqb (rank (nodeAt T (k .node))) r) [ true ↦ some (k .node) | false ↦ none ]
+      | false ↦ none
+    ]
 
 unfoldable pub isConstrained : Tables → ℕ → Bool
 isConstrained T x = elim (first (λ k. eqb (k .name) x) (T .constraints)) [ none ↦ false | some k ↦ true ]

@@ -4,6 +4,7 @@ ghost use mathlib.Core.List.{List};
 ghost use Prim.Native.Nat.{ℕ, _<_};
 ghost use lib.ListN.{length};
 ghost use Rattle.rules.specs.File.{nodeAt};
+ghost use Rattle.rules.specs.Constant as Constants;
 ghost use Rattle.rules.specs.Walk as Rules;
 ghost use Rattle.rules.specs.Walk.{FieldWalk};
 ghost use Rattle.state.specs.State.{State};
@@ -13,8 +14,9 @@ ghost use Rattle.paths.specs.Paths.{pathOf};
 ghost use Rattle.views.specs.Views.{anchorOf, constraintAt};
 ghost use Rattle.ready.specs.Ready.{Ready};
 ghost use Rattle.tables.specs.Tables.{foundOption};
+ghost use Rattle.seek.specs.Narrow.{narrowedBy};
 ghost use Rattle.step.specs.Step.{walkState};
-ghost use Rattle.constrain.specs.Constrain.{isNothing, Narrows, narrowOr, patternFor, isConstrained};
+ghost use Rattle.constrain.specs.Constrain.{isNothing, isSome, narrowOr, patternFor, isConstrained};
 use constant::Const;
 use constant::constant;
 use entries::node_of;
@@ -57,7 +59,14 @@ pub fn narrow(
 ) -> Narrowed
     requires { ⌜ Ready (now file) (now index) ⌝ }
     requires { ⌜ ty < length (tablesOf (now file) .types) ⌝ }
-    ensures { λ r. ⌜ ((work : List ℕ) → Narrows (tablesOf (now (file .entry))) node ty (pathOf path) (walkState (tablesOf (now (file .entry))) w work (now (plan .entry))) (r .some) (walkState (tablesOf (now (file .entry))) (r .walk) work (now (plan .exit)))) ⌝ }
+    ensures tells { λ r. ⌜ r .some ≡ isSome (Constants.constant (tablesOf (now (file .entry))) node ty) ⌝ }
+    ensures narrows { λ r. ⌜ (
+        (work : List ℕ) →
+        let T = tablesOf (now (file .entry)) in
+        let before = walkState T w work (now (plan .entry)) in
+        let after = walkState T (r .walk) work (now (plan .exit)) in
+        after ≡ narrowedBy T (Constants.constant T node ty) (pathOf path) before
+        ) ⌝ }
 {
     if node >= count_of(file, index, 3) {
         return Narrowed {
@@ -72,7 +81,7 @@ pub fn narrow(
             walk: w,
         };
     }
-    let l = narrowed(file, index, c, path, w.builder(), plan);
+    let l = narrowed(file, index, c, path, w.level, plan);
     let walk = w.placed(l);
     Narrowed { some: true, walk }
 }
@@ -91,7 +100,12 @@ fn narrow_or_report(
 ) -> Walk
     requires { ⌜ Ready (now file) (now index) ⌝ }
     requires { ⌜ ty < length (tablesOf (now file) .types) ⌝ }
-    ensures { λ r. ⌜ walkState (tablesOf (now (file .entry))) r (now (work .exit)) (now (plan .exit)) ≡ narrowOr (tablesOf (now (file .entry))) node ty (pathOf path) falls (walkState (tablesOf (now (file .entry))) w (now (work .entry)) (now (plan .entry))) ⌝ }
+    ensures { λ r. ⌜ (
+        let T = tablesOf (now (file .entry)) in
+        let before = walkState T w (now (work .entry)) (now (plan .entry)) in
+        let after = walkState T r (now (work .exit)) (now (plan .exit)) in
+        after ≡ narrowOr T node ty (pathOf path) falls before
+        ) ⌝ }
 {
     let n = narrow(file, index, plan, node, ty, path, w);
     let walk = n.walk;
@@ -114,7 +128,13 @@ pub fn ranged(
 ) -> Walk
     requires { ⌜ Ready (now file) (now index) ⌝ }
     requires { ⌜ ty < length (tablesOf (now file) .types) ⌝ }
-    ensures { λ r. ⌜ ((address : ℕ) (below : FieldWalk State) → walkState (tablesOf (now (file .entry))) r (now (work .exit)) (now (plan .exit)) ≡ Rules.ranged (ops (tablesOf (now (file .entry)))) (tablesOf (now (file .entry))) address below node ty (pathOf path) (walkState (tablesOf (now (file .entry))) w (now (work .entry)) (now (plan .entry)))) ⌝ }
+    ensures { λ r. ⌜ (
+        (address : ℕ) (below : FieldWalk State) →
+        let T = tablesOf (now (file .entry)) in
+        let before = walkState T w (now (work .entry)) (now (plan .entry)) in
+        let after = walkState T r (now (work .exit)) (now (plan .exit)) in
+        after ≡ Rules.ranged (ops T) T address below node ty (pathOf path) before
+        ) ⌝ }
 {
     narrow_or_report(file, index, work, plan, node, ty, path, false, w)
 }
@@ -144,7 +164,10 @@ fn rank_of(file: &[u8], index: &[u16], node: usize) -> usize
 fn pattern_for(file: &[u8], index: &[u16], name: usize, rank: usize, k: usize) -> Found
     requires { ⌜ Indexed (now file) (now index) ⌝ }
     requires { ⌜ k < length (tablesOf (now file) .constraints) ⌝ }
-    ensures { λ r. ⌜ foundOption r ≡ patternFor (tablesOf (now (file .entry))) name rank (constraintAt (tablesOf (now (file .entry))) k) ⌝ }
+    ensures { λ r. ⌜ (
+        let T = tablesOf (now (file .entry)) in
+        foundOption r ≡ patternFor T name rank (constraintAt T k)
+        ) ⌝ }
 {
     let c = constraint_at(file, index, k);
     if c.name != name {
@@ -171,7 +194,12 @@ fn constrain_rank(
 ) -> Walk
     requires { ⌜ Ready (now file) (now index) ⌝ }
     requires { ⌜ ty < length (tablesOf (now file) .types) ⌝ }
-    ensures { λ r. ⌜ walkState (tablesOf (now (file .entry))) r (now (work .exit)) (now (plan .exit)) ≡ Rules.constrainEach (ops (tablesOf (now (file .entry)))) (tablesOf (now (file .entry))) (Rules.constraintsOf (tablesOf (now (file .entry))) name rank) ty (pathOf path) (walkState (tablesOf (now (file .entry))) w (now (work .entry)) (now (plan .entry))) ⌝ }
+    ensures { λ r. ⌜ (
+        let T = tablesOf (now (file .entry)) in
+        let before = walkState T w (now (work .entry)) (now (plan .entry)) in
+        let after = walkState T r (now (work .exit)) (now (plan .exit)) in
+        after ≡ Rules.constrainEach (ops T) T (Rules.constraintsOf T name rank) ty (pathOf path) before
+        ) ⌝ }
 {
     let n = count_of(file, index, 7);
     let mut l = w;
@@ -216,7 +244,12 @@ pub fn constrain(
 ) -> Walk
     requires { ⌜ Ready (now file) (now index) ⌝ }
     requires { ⌜ ty < length (tablesOf (now file) .types) ⌝ }
-    ensures { λ r. ⌜ walkState (tablesOf (now (file .entry))) r (now (work .exit)) (now (plan .exit)) ≡ Rules.constrain (ops (tablesOf (now (file .entry)))) (tablesOf (now (file .entry))) name ty (pathOf path) (walkState (tablesOf (now (file .entry))) w (now (work .entry)) (now (plan .entry))) ⌝ }
+    ensures { λ r. ⌜ (
+        let T = tablesOf (now (file .entry)) in
+        let before = walkState T w (now (work .entry)) (now (plan .entry)) in
+        let after = walkState T r (now (work .exit)) (now (plan .exit)) in
+        after ≡ Rules.constrain (ops T) T name ty (pathOf path) before
+        ) ⌝ }
 {
     if is_constrained(file, index, name) {
         let a = w.constrained(work, name);
@@ -225,7 +258,7 @@ pub fn constrain(
         let d = constrain_rank(file, index, work, plan, name, 2, ty, path, c);
         return constrain_rank(file, index, work, plan, name, 3, ty, path, d);
     }
-    let level = w.builder();
+    let level = w.level;
     let l = level.bound(file, index, name, ty);
     let fallen = l.skip();
     w.placed(fallen)

@@ -1,4 +1,4 @@
-use Rattle.state.specs.Ops.{bound, skip}
+use Rattle.state.specs.Ops.{skip}
 use Rattle.constrain.proofs.Ranks.{constrain-none, constrain-some}
 use mathlib.Core.Path.{sym, ap, _∙_}
 use borrow.Author.Needs.{needs}
@@ -9,7 +9,8 @@ use Rattle.constrain.proofs.constrain.Lts as lts
 use Rattle.constrain.proofs.constrain_rank.Reads as constrain-rank-reads
 use Rattle.constrain.proofs.is_constrained.Reads as is-constrained-reads
 use Rattle.seek.proofs.SeekBuilder.bound.Reads as bound-reads
-use Rattle.step.proofs.Walk.builder.Reads as builder-reads
+use Rattle.step.specs.Step.{walkState}
+use Rattle.step.proofs.Parts.{placed-is}
 use Rattle.step.proofs.Walk.constrained.Reads as constrained-reads
 use Rattle.step.proofs.Walk.placed.Reads as placed-reads
 use Rattle.seek.proofs.SeekBuilder.skip.Reads as skip-reads
@@ -42,9 +43,6 @@ returns : tie.Need-returns
 returns c =
     constrain-some _ _ _ _ (sym (c .before .before .before .before .before .before .before .before .before .before .before .before .before .before .before .before .before .before .before .before .before .before .before .before .before .before .before .before .before .before .before .before .before .is-constrained .ensures) ∙ c .before .before .before .before .before .before .before .before .before .before .before .before .before .before .before .before .before .before .before .before .before .before .before .before .before .before .before .before .before .before .before .before .if1 .taken) _ _ _ _ _ _ (c .before .before .before .before .before .before .before .before .before .before .before .before .before .before .before .before .before .before .before .before .before .before .before .before .before .before .before .before .before .before .constrained .ensures _ _) (c .before .before .before .before .before .before .before .before .before .before .before .before .before .before .before .before .before .before .before .before .before .before .before .before .before .constrain-rank .ensures) (c .before .before .before .before .before .before .before .before .before .before .before .before .before .before .before .before .before .before .constrain-rank2 .ensures) (c .before .before .before .before .before .before .before .before .before .before .before .constrain-rank3 .ensures) (c .before .before .before .before .constrain-rank4 .ensures)
 
-builder-requires : tie.Need-builder-requires
-builder-requires c κs = search needs
-
 bound-requires : tie.Need-bound-requires
 bound-requires c κs = search needs
 
@@ -55,9 +53,10 @@ placed-requires : tie.Need-placed-requires
 placed-requires c κs = search needs
 
 returns-2 : tie.Need-returns-2
+unfolding walkState
 returns-2 c =
     constrain-none _ _ _ _ (sym (c .before .before .before .before .before .is-constrained .ensures) ∙ c .before .before .before .before .if1 .left) _ _
-    (c .placed .ensures _ _ _ ∙ c .before .skip .ensures _ _ _ _ ∙ ap skip (c .before .before .bound .ensures _ _ _ ∙ ap (bound _ _ _) (c .before .before .before .builder .ensures _ _ _)))
+    (placed-is _ _ _ _ _ _ (c .placed .ensures) ∙ c .before .skip .ensures _ _ _ _ ∙ ap skip (c .before .before .bound .ensures _ _ _))
 
 pub constrain-spec : {M : Type 1} → statement M
 constrain-spec =
@@ -72,7 +71,6 @@ constrain-spec =
     same-length
     same-length-2
     returns
-    builder-requires
     bound-requires
     skip-requires
     placed-requires

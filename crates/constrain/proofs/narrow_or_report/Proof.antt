@@ -14,7 +14,7 @@ same-length : tie.Need-same-length
 same-length c = search needs
 
 returns : tie.Need-returns
-returns c = or-yes _ _ _ _ _ _ _ (c .before .before .before .before .narrow .ensures _) (c .if1 .taken) _
+returns c = or-yes _ _ _ _ _ _ _ (c .before .before .before .before .narrow .ensures .0) (c .before .before .before .before .narrow .ensures .1 _) _ (c .if1 .taken)
 
 diagnose-requires : tie.Need-diagnose-requires
 diagnose-requires c κs = search needs
@@ -26,7 +26,7 @@ same-length-3 : tie.Need-same-length-3
 same-length-3 c = search needs
 
 returns-2 : tie.Need-returns-2
-returns-2 c = or-no _ _ _ _ _ _ _ (c .before .before .before .before .before .before .before .before .narrow .ensures _) (c .before .before .before .before .if1 .left) _ _ (c .before .before .diagnose .ensures _ _)
+returns-2 c = or-no _ _ _ _ _ _ _ (c .before .before .before .before .before .before .before .before .narrow .ensures .0) (c .before .before .before .before .before .before .before .before .narrow .ensures .1 _) _ (c .before .before .before .before .if1 .left) _ (c .before .before .diagnose .ensures _ _)
 
 pub narrow-or-report-spec : {M : Type 1} → statement M
 narrow-or-report-spec =
