@@ -8,3 +8,5 @@ pub mod Starts
 pub mod Meetings
 -- What `inject` goes on with.
 pub mod Choices
+-- What is begun, finished: the written walk.
+pub mod Finishes

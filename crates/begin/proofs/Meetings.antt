@@ -9,7 +9,8 @@ use borrow.Author.Tests.{eq-eqb, ne-eqb}
 use Rattle.rules.specs.File as File
 use Rattle.rules.specs.File.{Tables, typeAt, factTy}
 use Rattle.rules.specs.Events.{Code, Narrowing}
-use Rattle.rules.specs.Walk.{FieldWalk, refersTo, partial, matched}
+use Rattle.rules.specs.Constant.{constant}
+use Rattle.rules.specs.Walk.{FieldWalk, refersTo, matched}
 use Rattle.state.specs.State.{State}
 use Rattle.state.specs.Ops.{ops, narrow, report, skip}
 use Rattle.views.specs.Views.{predicateOption}
@@ -24,8 +25,11 @@ use Rattle.slots.specs.declared.SlotKind.{SlotKind}
 use Rattle.slots.specs.declared.SlotKind.the-variants as Sk
 use Rattle.step.specs.Step.{walkState}
 use Rattle.step.specs.declared.Walk.{Walk}
-use Rattle.constrain.specs.Constrain.{orElse, Narrows}
-use Rattle.begin.specs.Begin.{opened, Meets}
+use Rattle.tables.specs.declared.Found.the-variants as Fo
+use Rattle.narrow.specs.Narrow.{narrowedBy}
+use Rattle.constrain.specs.Constrain.{isSome}
+use Rattle.constrain.proofs.Narrowings.{after-constant, after-none}
+use Rattle.begin.specs.Begin.{still, Meeting, settled, meetingOf, meeting}
 use Rattle.begin.specs.declared.Met.{Met}
 
 -- a row's predicate
@@ -69,54 +73,51 @@ module _ (T : Tables) (a : ℕ) (below : FieldWalk State) (n from t : ℕ) (path
     unfolding matched
     field-other e s g = g ∙ ap own (sym (ne-eqb _ _ e))
 
-module _ (T : Tables) (a t : ℕ) (path : File.FieldPath) where
-  pub meets-done : (g : FieldWalk State → State) (r : Met) (w : Walk) (work plan : List ℕ) → (r .partial ≡ false) × (r .walk ≡ w) → ((below : FieldWalk State) → walkState T w work plan ≡ g below) → Meets T a t path g r (walkState T (r .walk) work plan)
-  unfolding opened
-  meets-done g r w work plan e h =
-      record {
-        is = λ below.
-            ap (λ x. opened T a below x (r .node) t path (walkState T (r .walk) work plan)) (e .0) ∙ ap (λ (v : Walk). walkState T v work plan) (e .1) ∙ h below;
-      }
+-- a walk that goes on with nothing
+pub settled-is : (T : Tables) (r : Met) (w : Walk) (work plan : List ℕ) → r ≡ record { opens = Fo.Nothing; walk = w } → meetingOf r (walkState T (r .walk) work plan) ≡ settled (walkState T w work plan)
+settled-is T r w work plan e = ap (λ (x : Met). meetingOf x (walkState T (x .walk) work plan)) e
 
+module _ (T : Tables) (a n t : ℕ) (path : File.FieldPath) (s₀ : State) where
   -- a constant: its bytes, or its pieces
-  module _ (n folded : ℕ) (s₀ s : State) (b : Bool) (g : Narrows T folded t path s₀ b s) where
-    const-is : (below : FieldWalk State) (x : Bool) → b ≡ x → orElse x (partial (ops T) T a below folded t path) s ≡ matched (ops T) T a below n (File.Slot.Const folded) t path s₀
-    unfolding matched
-    const-is below x e = ap (λ y. orElse y (partial (ops T) T a below folded t path) s) (sym e) ∙ g .is (partial (ops T) T a below folded t path)
+  module _ (folded : ℕ) (b : Bool) (s : State) (told : b ≡ isSome (constant T folded t)) (is : s ≡ narrowedBy T (constant T folded t) path s₀) where
+    abbrev pieces : State → Meeting
+    pieces x = record { opens = some folded; state = x }
 
-    pub const-bytes : b ≡ true → (below : FieldWalk State) → s ≡ matched (ops T) T a below n (File.Slot.Const folded) t path s₀
-    unfolding orElse
-    const-bytes e below = const-is below true e
+    pub const-bytes : b ≡ true → settled s ≡ meeting T a n (File.Slot.Const folded) t path s₀
+    unfolding meeting
+    const-bytes e = after-constant T folded t path s₀ b s told is settled pieces e
 
-    pub const-pieces : b ≡ false → (w : Walk) → Meets T a t path (λ below. matched (ops T) T a below n (File.Slot.Const folded) t path s₀) (record { partial = true; node = folded; walk = w }) s
-    unfolding orElse opened
-    const-pieces e w = record { is = λ below. const-is below false e }
+    pub const-pieces : b ≡ false → record { opens = some folded; state = s } ≡ meeting T a n (File.Slot.Const folded) t path s₀
+    unfolding meeting
+    const-pieces e = after-none T folded t path s₀ b s told is settled pieces e
 
   -- the slot by its kind
-  module _ (n : ℕ) (slot : Slot) (s₀ : State) where
-    abbrev meets : FieldWalk State → State
-    meets below = matched (ops T) T a below n (slotOf slot) t path s₀
+  module _ (slot : Slot) where
+    abbrev whole : Meeting
+    whole = meeting T a n (slotOf slot) t path s₀
 
-    by-kind : (kind : SlotKind) → slot .kind ≡ kind → (below : FieldWalk State) → matched (ops T) T a below n (slotWith kind (slot .path)) t path s₀ ≡ meets below
-    by-kind kind e below = ap (λ (x : SlotKind). matched (ops T) T a below n (slotWith x (slot .path)) t path s₀) (sym e)
+    by-kind : (kind : SlotKind) → slot .kind ≡ kind → meeting T a n (slotWith kind (slot .path)) t path s₀ ≡ whole
+    by-kind kind e = ap (λ (x : SlotKind). meeting T a n (slotWith x (slot .path)) t path s₀) (sym e)
 
-    pub of-row : (from : Address) (p : MaybePredicate) → slot .kind ≡ Sk.Row from p → (s : State) → ((b : ℕ) (below : FieldWalk State) → s ≡ matched (ops T) T b below n (File.Slot.Row (from .0) (predicateOption p)) t path s₀) → (below : FieldWalk State) → s ≡ meets below
-    of-row from p e s g below = g a below ∙ by-kind (Sk.Row from p) e below
+    pub of-row : (from : Address) (p : MaybePredicate) → slot .kind ≡ Sk.Row from p → (s : State) → ((b : ℕ) (below : FieldWalk State) → s ≡ matched (ops T) T b below n (File.Slot.Row (from .0) (predicateOption p)) t path s₀) → settled s ≡ whole
+    unfolding meeting
+    of-row from p e s g = ap settled (g a still) ∙ by-kind (Sk.Row from p) e
 
-    pub of-key : (from : Address) (u : ℕ) → slot .kind ≡ Sk.Key from u → (s : State) → s ≡ report n Code.NyiWholeKey (skip s₀) → (below : FieldWalk State) → s ≡ meets below
-    unfolding matched
-    of-key from u e s g below = g ∙ by-kind (Sk.Key from u) e below
+    pub of-key : (from : Address) (u : ℕ) → slot .kind ≡ Sk.Key from u → (s : State) → s ≡ report n Code.NyiWholeKey (skip s₀) → settled s ≡ whole
+    unfolding meeting matched
+    of-key from u e s g = ap settled g ∙ by-kind (Sk.Key from u) e
 
-    pub of-derived : (from : Address) → slot .kind ≡ Sk.Derived from → (s : State) → s ≡ report n Code.NyiValueMatch (skip s₀) → (below : FieldWalk State) → s ≡ meets below
-    unfolding matched
-    of-derived from e s g below = g ∙ by-kind (Sk.Derived from) e below
+    pub of-derived : (from : Address) → slot .kind ≡ Sk.Derived from → (s : State) → s ≡ report n Code.NyiValueMatch (skip s₀) → settled s ≡ whole
+    unfolding meeting matched
+    of-derived from e s g = ap settled g ∙ by-kind (Sk.Derived from) e
 
-    pub of-field : (from : Address) (u : ℕ) → slot .kind ≡ Sk.Field from u → (s : State) → ((below : FieldWalk State) (i j : ℕ) → s ≡ matched (ops T) T a below n (File.Slot.Field (from .0) (pathOf (slot .path)) i) j path s₀) → (below : FieldWalk State) → s ≡ meets below
-    of-field from u e s g below = g below u t ∙ by-kind (Sk.Field from u) e below
+    pub of-field : (from : Address) (u : ℕ) → slot .kind ≡ Sk.Field from u → (s : State) → ((below : FieldWalk State) (i j : ℕ) → s ≡ matched (ops T) T a below n (File.Slot.Field (from .0) (pathOf (slot .path)) i) j path s₀) → settled s ≡ whole
+    unfolding meeting
+    of-field from u e s g = ap settled (g still u t) ∙ by-kind (Sk.Field from u) e
 
-    pub of-value : (from : Address) (u : ℕ) → slot .kind ≡ Sk.Value from u → (s : State) → s ≡ report n Code.NyiValueMatch s₀ → (below : FieldWalk State) → s ≡ meets below
-    unfolding matched
-    of-value from u e s g below = g ∙ by-kind (Sk.Value from u) e below
+    pub of-value : (from : Address) (u : ℕ) → slot .kind ≡ Sk.Value from u → (s : State) → s ≡ report n Code.NyiValueMatch s₀ → settled s ≡ whole
+    unfolding meeting matched
+    of-value from u e s g = ap settled g ∙ by-kind (Sk.Value from u) e
 
-    pub of-const : (folded : ℕ) → slot .kind ≡ Sk.Const folded → (r : Met) (s : State) → Meets T a t path (λ below. matched (ops T) T a below n (File.Slot.Const folded) t path s₀) r s → Meets T a t path meets r s
-    of-const folded e r s g = record { is = λ below. g .is below ∙ by-kind (Sk.Const folded) e below }
+    pub of-const : (folded : ℕ) → slot .kind ≡ Sk.Const folded → (x : Meeting) → x ≡ meeting T a n (File.Slot.Const folded) t path s₀ → x ≡ whole
+    of-const folded e x g = g ∙ by-kind (Sk.Const folded) e

@@ -1,7 +1,6 @@
 -- A record pattern against a record type, as the code reads them: field by field, each at a lower type.
 use Prim.Native.Nat.{ℕ, _+_, _*_, _≤_, _<_}
 use mathlib.Core.Path.{_≡_, refl, sym, ap, _∙_, subst}
-use mathlib.Core.Bool.{true, false}
 use mathlib.Core.List.{List, []}
 use mathlib.Core.Option.{Option, none, some, Option·getD}
 use native.Mathlib.Omega.{arith}
@@ -17,7 +16,6 @@ use Rattle.views.specs.declared.FieldTy.{FieldTy}
 use Rattle.views.proofs.Runs.{run-at, length-run}
 use Rattle.tables.specs.Tables.{SeenRun, foundOption}
 use Rattle.tables.specs.declared.Found.{Found}
-use Rattle.tables.specs.declared.Found.the-variants as Fo
 use Rattle.tables.specs.declared.Run.{Run}
 use Rattle.tables.specs.declared.Run.the-variants as Ru
 use Rattle.begin.specs.Pieces.{Lower, patternsOf, openFields, fieldsFor, noField, Pieced}
@@ -78,11 +76,8 @@ module _ (f : List ℕ) (T : Tables) (n t : ℕ) (a : Run) (pairs : SeenRun f (p
           found-is : foundOption q ≡ fieldPattern (patternsOf T n) (getD (fieldsFor T n t) i noField .name)
           found-is = eq ∙ ap (λ ps. fieldPattern ps (v .name)) (sym patterns-are) ∙ ap (λ (x : File.FieldTy). fieldPattern (patternsOf T n) (x .name)) (sym field-is)
 
-          pub piece-some : (p : ℕ) → q ≡ Fo.At p → Pieced T n t i (record { some = true; node = p; ty = v .ty })
-          piece-some p e = record { type = ap (λ (x : File.FieldTy). x .type) (sym field-is); found = ap foundOption (sym e) ∙ found-is; lower = lower }
-
-          pub piece-none : q ≡ Fo.Nothing → Pieced T n t i (record { some = false; node = 0; ty = v .ty })
-          piece-none e = record { type = ap (λ (x : File.FieldTy). x .type) (sym field-is); found = ap foundOption (sym e) ∙ found-is; lower = lower }
+          pub piece-is : Pieced T n t i (record { pattern = q; ty = v .ty })
+          piece-is = record { type = ap (λ (x : File.FieldTy). x .type) (sym field-is); found = found-is; lower = lower }
 
 pub nothing-there : (T : Tables) (n t i : ℕ) (r : Piece) → i < length (fieldsFor T n t) → fieldsFor T n t ≡ [] → Pieced T n t i r
 nothing-there T n t i r h e = absurd (omega (arith, ap length e))

@@ -8,12 +8,11 @@ use types.Run.{OneOf, miss}
 use denote.Enum.Declared.{tagOf}
 use lib.Dec.{eqb}
 use borrow.Author.Tests.{eq-eqb, ne-eqb}
-use Rattle.rules.specs.File as File
 use Rattle.rules.specs.File.{Tables, Node, FieldPattern, nodeAt, recordFields}
 use Rattle.rules.specs.Events.{Code}
 use Rattle.rules.specs.Resolve as Rules
 use Rattle.rules.specs.Resolve.{resolve}
-use Rattle.rules.specs.Walk.{FieldWalk, deferred, unresolved, partial, matched, readAnswer, read}
+use Rattle.rules.specs.Walk.{deferred, unresolved}
 use Rattle.state.specs.State.{State}
 use Rattle.state.specs.Ops.{ops, report, skip}
 use Rattle.views.specs.Views.{nodeOf, patternAt, SeenNode}
@@ -21,16 +20,17 @@ use Rattle.views.specs.declared.NodeView.{NodeView}
 use Rattle.views.specs.declared.NodeView.the-variants as Nv
 use Rattle.views.proofs.NodeView as NodeViews
 use Rattle.slots.specs.Slots.{slotOf, maybe}
-use Rattle.slots.specs.declared.Slot.{Slot}
 use Rattle.tables.specs.Tables.{SeenRun}
 use Rattle.tables.specs.declared.Run.{Run}
 use Rattle.tables.specs.declared.Run.the-variants as Ru
-use Rattle.lists.specs.Lists.{stateWith}
+use Rattle.seek.specs.Seek.{stateOf}
+use Rattle.lists.specs.declared.Lists.{Lists}
 use Rattle.resolve.specs.Resolved.{given, Answers}
 use Rattle.resolve.specs.declared.Answer.{Answer}
-use Rattle.step.specs.Step.{walkState}
+use Rattle.step.specs.Step.{walkState, listsOf, withLists}
+use Rattle.step.proofs.Parts.{lists-of, lists-are}
 use Rattle.step.specs.declared.Walk.{Walk}
-use Rattle.begin.specs.Begin.{finish, Begins}
+use Rattle.begin.specs.Begin.{Start, startWith, startOf, piecesStart, readStart}
 use Rattle.begin.specs.declared.Next.the-variants as Nx
 use Rattle.begin.specs.declared.Begun.{Begun}
 
@@ -102,50 +102,49 @@ module _ (T : Tables) (n : ℕ) (before s : State) (b : Bool) (e : b ≡ deferre
     unresolved-told g s′ q = q ∙ sym (told ∙ ap (by false) (ne-eqb _ _ g))
 
 -- where the diagnostics end
-pub diagnostics-at : (T : Tables) (w : Walk) (work plan : List ℕ) → walkState T w work plan .ends .diagnostics ≡ w .lists .ends .diagnostics
-unfolding walkState
+pub diagnostics-at : (T : Tables) (w : Walk) (work plan : List ℕ) → walkState T w work plan .ends .diagnostics ≡ w .ends .diagnostics
+unfolding walkState stateOf
 diagnostics-at T w work plan = refl
 
-module _ (T : Tables) (a n t : ℕ) (path : File.FieldPath) where
-  -- a walk that is done
-  pub begins-done : (g : FieldWalk State → State) (r : Begun) (w : Walk) (work plan : List ℕ) → (r .next ≡ Nx.Done) × (r .walk ≡ w) → ((below : FieldWalk State) → walkState T w work plan ≡ g below) → Begins T a n t path g r (walkState T (r .walk) work plan)
-  unfolding finish
-  begins-done g r w work plan e h =
-      record {
-        is = λ below rest.
-            ap (λ x. finish T a below x (slotOf (r .slot)) n t path (walkState T (r .walk) work plan)) (e .0)
-            ∙ ap (λ (v : Walk). walkState T v work plan) (e .1)
-            ∙ h below;
-      }
+-- a walk that is done
+pub done-is : (T : Tables) (r : Begun) (w : Walk) (work plan : List ℕ) → (r .next ≡ Nx.Done) × (r .walk ≡ w) → startOf r (walkState T (r .walk) work plan) ≡ Start.Done (walkState T w work plan)
+done-is T r w work plan e =
+    ap (λ x. startWith x (slotOf (r .slot)) (walkState T (r .walk) work plan)) (e .0)
+    ∙ ap (λ (v : Walk). Start.Done (walkState T v work plan)) (e .1)
 
-  -- the pieces of a record, or nothing
-  module _ (before s : State) where
-    abbrev afterNone : FieldWalk State → Option (List FieldPattern) → State
-    afterNone below o = elim o [ some fields ↦ partial (ops T) T a below n t path s | none ↦ unresolved (ops T) T n before s ]
+-- an answer, with its lists put back into the walk
+pub answer-is : (T : Tables) (w r : Walk) (l : Lists) (ans : Answer) (work work′ plan : List ℕ) → l ≡ listsOf w → r ≡ withLists w (ans .lists) → (g : Rules.Resolver State) → Answers g l work ans work′ → record { slot = given ans; walk = walkState T r work′ plan } ≡ g (walkState T w work plan)
+answer-is T w r l ans work work′ plan el er g k =
+    ap (λ (x : State). record { slot = given ans; walk = x }) (lists-are T w r (ans .lists) work′ plan er)
+    ∙ k .is _ _ plan
+    ∙ ap g (lists-of T w l work plan el)
 
-    module _ (f : List ℕ) (run : Run) (k : SeenRun f (patternAt f) 4 (recordFields (nodeAt T n)) run) where
-      pub pieces-some : (i at : ℕ) → run ≡ Ru.Of i at → (slot : Slot) (w : Walk) → Begins T a n t path (λ below. readAnswer (ops T) T a below n none t path before s) (record { next = Nx.Partial; slot = slot; walk = w }) s
-      unfolding finish readAnswer
-      pieces-some i at e slot w = record { is = λ below rest. sym (ap (afterNone below) (sym (subst (SeenRun f (patternAt f) 4 (recordFields (nodeAt T n))) e k .is))) }
+-- a read, by what it resolves to
+module _ (T : Tables) (n : ℕ) where
+  module _ (before s : State) (f : List ℕ) (run : Run) (k : SeenRun f (patternAt f) 4 (recordFields (nodeAt T n)) run) where
+    abbrev by-fields : Option (List FieldPattern) → Start
+    by-fields o = elim o [ some fields ↦ Start.Partial s | none ↦ Start.Done (unresolved (ops T) T n before s) ]
 
-      pub pieces-none : run ≡ Ru.Nothing → (below : FieldWalk State) (s′ : State) → s′ ≡ unresolved (ops T) T n before s → s′ ≡ readAnswer (ops T) T a below n none t path before s
-      unfolding readAnswer
-      pieces-none e below s′ q = q ∙ sym (ap (afterNone below) (sym (subst (SeenRun f (patternAt f) 4 (recordFields (nodeAt T n))) e k .is)))
+    pub pieces-some : (i at : ℕ) → run ≡ Ru.Of i at → Start.Partial s ≡ piecesStart T n before s
+    unfolding piecesStart
+    pieces-some i at e = ap by-fields (subst (SeenRun f (patternAt f) 4 (recordFields (nodeAt T n))) e k .is)
 
-  -- a read, by what it resolves to
-  module _ (w r : Walk) (ans : Answer) (work work′ plan : List ℕ) (k : Answers (resolve (ops T) T n) (w .lists) work ans work′) (l : walkState T r work′ plan ≡ stateWith (ans .lists) (walkState T w work′ plan .level) (walkState T w work′ plan .target) work′ plan) where
-    read-is : (below : FieldWalk State) → readAnswer (ops T) T a below n (given ans) t path (walkState T w work plan) (walkState T r work′ plan) ≡ read (ops T) T a below n t path (walkState T w work plan)
-    unfolding read walkState
-    read-is below =
-        ap (readAnswer (ops T) T a below n (given ans) t path (walkState T w work plan)) l
-        ∙ ap (λ (x : Rules.Answer State). readAnswer (ops T) T a below n (x .slot) t path (walkState T w work plan) (x .walk)) (k .is _ _ plan)
+    pub pieces-none : run ≡ Ru.Nothing → (s′ : State) → s′ ≡ unresolved (ops T) T n before s → Start.Done s′ ≡ piecesStart T n before s
+    unfolding piecesStart
+    pieces-none e s′ q = ap Start.Done q ∙ ap by-fields (subst (SeenRun f (patternAt f) 4 (recordFields (nodeAt T n))) e k .is)
 
-    at-slot : (below : FieldWalk State) (b : Bool) → ans .some ≡ b → readAnswer (ops T) T a below n (maybe b (slotOf (ans .slot))) t path (walkState T w work plan) (walkState T r work′ plan) ≡ read (ops T) T a below n t path (walkState T w work plan)
-    at-slot below b e = ap (λ (x : Bool). readAnswer (ops T) T a below n (maybe x (slotOf (ans .slot))) t path (walkState T w work plan) (walkState T r work′ plan)) (sym e) ∙ read-is below
+  module _ (w r : Walk) (l : Lists) (ans : Answer) (work work′ plan : List ℕ) (el : l ≡ listsOf w) (er : r ≡ withLists w (ans .lists)) (k : Answers (resolve (ops T) T n) l work ans work′) where
+    abbrev by-answer : Rules.Answer State → Start
+    by-answer x = elim (x .slot) [ some slot ↦ Start.Matched slot (x .walk) | none ↦ piecesStart T n (walkState T w work plan) (x .walk) ]
 
-    pub read-some : ans .some ≡ true → Begins T a n t path (λ below. read (ops T) T a below n t path (walkState T w work plan)) (record { next = Nx.Matched; slot = ans .slot; walk = r }) (walkState T r work′ plan)
-    unfolding finish readAnswer
-    read-some e = record { is = λ below rest. at-slot below true e }
+    at-slot : (b : Bool) → ans .some ≡ b → by-answer (record { slot = maybe b (slotOf (ans .slot)); walk = walkState T r work′ plan }) ≡ readStart T n (walkState T w work plan)
+    unfolding readStart
+    at-slot b e =
+        ap (λ (x : Bool). by-answer (record { slot = maybe x (slotOf (ans .slot)); walk = walkState T r work′ plan })) (sym e)
+        ∙ ap by-answer (answer-is T w r l ans work work′ plan el er (resolve (ops T) T n) k)
 
-    pub read-none : ans .some ≡ false → (b : Begun) (s : State) → Begins T a n t path (λ below. readAnswer (ops T) T a below n none t path (walkState T w work plan) (walkState T r work′ plan)) b s → Begins T a n t path (λ below. read (ops T) T a below n t path (walkState T w work plan)) b s
-    read-none e b s g = record { is = λ below rest. g .is below rest ∙ at-slot below false e }
+    pub read-some : ans .some ≡ true → Start.Matched (slotOf (ans .slot)) (walkState T r work′ plan) ≡ readStart T n (walkState T w work plan)
+    read-some e = at-slot true e
+
+    pub read-none : ans .some ≡ false → (x : Start) → x ≡ piecesStart T n (walkState T w work plan) (walkState T r work′ plan) → x ≡ readStart T n (walkState T w work plan)
+    read-none e x q = q ∙ at-slot false e

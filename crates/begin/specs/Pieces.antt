@@ -9,7 +9,7 @@ use Rattle.rules.specs.File.{Tables, FieldTy, FieldPattern, typeAt, nodeAt, rec
 use Rattle.rules.specs.Constant.{fieldPattern}
 use Rattle.paths.specs.Paths.{pathOf}
 use Rattle.paths.specs.declared.FieldPath.{FieldPath}
-use Rattle.slots.specs.Slots.{maybe}
+use Rattle.tables.specs.Tables.{foundOption}
 use Rattle.begin.specs.declared.Piece.{Piece}
 
 -- a path by value at a type: its count is that of its steps, and there is room for every step below the type
@@ -42,5 +42,5 @@ noField = record { name = 0; type = 0 }
 -- field i with the first pattern of its name, if there is one
 pub record Pieced (T : Tables) (n t i : ℕ) (r : Piece) : Type 0 where
   pub type : r .ty ≡ getD (fieldsFor T n t) i noField .type
-  pub found : maybe (r .some) (r .node) ≡ fieldPattern (patternsOf T n) (getD (fieldsFor T n t) i noField .name)
+  pub found : foundOption (r .pattern) ≡ fieldPattern (patternsOf T n) (getD (fieldsFor T n t) i noField .name)
   pub lower : Lower T t (r .ty)

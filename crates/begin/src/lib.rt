@@ -1,8 +1,6 @@
 // What a member of the walk's cycle does before it goes on into the cycle: the cycle itself then holds the recursion and nothing else.
 ghost use mathlib.Core.Path.{_≡_};
-ghost use mathlib.Core.Bool.{false};
 ghost use mathlib.Core.List.{List};
-ghost use mathlib.Core.Option.{none};
 ghost use Prim.Native.Nat.{ℕ, _<_};
 ghost use lib.ListN.{length};
 ghost use Rattle.rules.specs.File as File;
@@ -19,7 +17,7 @@ ghost use Rattle.ready.specs.Ready.{Ready};
 ghost use Rattle.tables.specs.Tables.{SeenRun};
 ghost use Rattle.step.specs.Step.{walkState};
 ghost use Rattle.begin.specs.Pieces.{Fits, fieldsFor, Pieced};
-ghost use Rattle.begin.specs.Begin.{injectAt, injectFields, isInjection, placeWalk, Begins, Meets, Chooses};
+ghost use Rattle.begin.specs.Begin.{isInjection, startOf, piecesStart, readStart, variableStart, placeStart, start, meetingOf, meeting, choosingOf, alternativeChoice, choosing};
 use constrain::constrain;
 use constrain::narrow;
 use constrain::ranged;
@@ -60,33 +58,36 @@ pub struct Begun {
     pub walk: Walk,
 }
 
-// Whether `matched` goes on to `partial`, and with which node.
+// The node that `matched` goes on with, which `partial` opens; nothing where it is done.
 pub struct Met {
-    pub partial: bool,
-    pub node: usize,
+    pub opens: Found,
     pub walk: Walk,
 }
 
-// Whether `inject` goes on with an alternative: its payload's pattern and type, and its disc.
+// The alternative that `inject` goes on with, if any: its disc, its payload's pattern and type.
+pub enum Choice {
+    Nothing,
+    Payload(u32, usize, usize),
+}
+
 pub struct Chosen {
-    pub go: bool,
-    pub disc: u32,
-    pub node: usize,
-    pub ty: usize,
+    pub choice: Choice,
     pub walk: Walk,
 }
 
 // A field's type, and the pattern that it is given.
 pub struct Piece {
-    pub some: bool,
-    pub node: usize,
+    pub pattern: Found,
     pub ty: usize,
 }
 
 // A Record's pairs, of any node.
 pub fn pairs_of(file: &[u8], index: &[u16], node: usize) -> Run
     requires { ⌜ Indexed (now file) (now index) ⌝ }
-    ensures { λ r. ⌜ SeenRun (now (file .entry)) (patternAt (now (file .entry))) 4 (recordFields (nodeAt (tablesOf (now (file .entry))) node)) r ⌝ }
+    ensures { λ r. ⌜ (
+        let f = now (file .entry) in
+        SeenRun f (patternAt f) 4 (recordFields (nodeAt (tablesOf f) node)) r
+        ) ⌝ }
 {
     if let NodeView::Record(k, at) = node_of(file, index, node) {
         Run::Of(k, at)
@@ -99,7 +100,8 @@ pub fn pairs_of(file: &[u8], index: &[u16], node: usize) -> Run
 pub fn pieces(file: &[u8], index: &[u16], node: usize, ty: usize) -> usize
     requires { ⌜ Ready (now file) (now index) ⌝ }
     requires { ⌜ ty < length (tablesOf (now file) .types) ⌝ }
-    ensures { λ r. ⌜ (r ≡ length (fieldsFor (tablesOf (now (file .entry))) node ty)) × (r < 32768) ⌝ }
+    ensures counts { λ r. ⌜ r ≡ length (fieldsFor (tablesOf (now (file .entry))) node ty) ⌝ }
+    ensures bounded { λ r. ⌜ r < 32768 ⌝ }
 {
     let Run::Of(n, at) = pairs_of(file, index, node) else {
         return 0;
@@ -120,31 +122,21 @@ pub fn piece_at(file: &[u8], index: &[u16], node: usize, ty: usize, i: usize) ->
 {
     let Run::Of(n, at) = pairs_of(file, index, node) else {
         return Piece {
-            some: false,
-            node: 0,
+            pattern: Found::Nothing,
             ty: 0,
         };
     };
     let Run::Of(k, from) = record_ty(file, index, ty) else {
         return Piece {
-            some: false,
-            node: 0,
+            pattern: Found::Nothing,
             ty: 0,
         };
     };
     let f = field_ty_at(file, from, i);
-    if let Found::At(p) = field_pattern(file, at, n, f.name) {
-        Piece {
-            some: true,
-            node: p,
-            ty: f.ty,
-        }
-    } else {
-        Piece {
-            some: false,
-            node: 0,
-            ty: f.ty,
-        }
+    let pattern = field_pattern(file, at, n, f.name);
+    Piece {
+        pattern,
+        ty: f.ty,
     }
 }
 
@@ -176,13 +168,18 @@ fn is_deferred(file: &[u8], index: &[u16], node: usize) -> bool
 // A read that gave no slot is reported where nothing else told why: `mark` is where the diagnostics ended before it.
 fn unresolved(file: &[u8], index: &[u16], work: &mut [u8], node: usize, mark: u32, w: Walk) -> Walk
     requires { ⌜ Indexed (now file) (now index) ⌝ }
-    ensures { λ r. ⌜ ((plan : List ℕ) (before : State) → before .ends .diagnostics ≡ mark → (walkState (tablesOf (now (file .entry))) r (now (work .exit)) plan) ≡ Rules.unresolved (ops (tablesOf (now (file .entry)))) (tablesOf (now (file .entry))) node before (walkState (tablesOf (now (file .entry))) w (now (work .entry)) plan)) ⌝ }
+    ensures { λ r. ⌜ (
+        (plan : List ℕ) (earlier : State) → earlier .ends .diagnostics ≡ mark →
+        let T = tablesOf (now (file .entry)) in
+        let before = walkState T w (now (work .entry)) plan in
+        let after = walkState T r (now (work .exit)) plan in
+        after ≡ Rules.unresolved (ops T) T node earlier before
+        ) ⌝ }
 {
     if is_deferred(file, index, node) {
         return w.skip();
     }
-    let lists = w.lists;
-    let ends = lists.ends;
+    let ends = w.ends;
     if ends.diagnostics == mark {
         return w.diagnose(work, node, Code::RejectUnresolvedAccess, true);
     }
@@ -199,7 +196,13 @@ fn begin_pieces(
     w: Walk,
 ) -> Begun
     requires { ⌜ Indexed (now file) (now index) ⌝ }
-    ensures { λ r. ⌜ ((address ty : ℕ) (path : File.FieldPath) (plan : List ℕ) (before : State) → before .ends .diagnostics ≡ mark → Begins (tablesOf (now (file .entry))) address node ty path (λ below. Rules.readAnswer (ops (tablesOf (now (file .entry)))) (tablesOf (now (file .entry))) address below node none ty path before (walkState (tablesOf (now (file .entry))) w (now (work .entry)) plan)) r (walkState (tablesOf (now (file .entry))) (r .walk) (now (work .exit)) plan)) ⌝ }
+    ensures { λ r. ⌜ (
+        (plan : List ℕ) (earlier : State) → earlier .ends .diagnostics ≡ mark →
+        let T = tablesOf (now (file .entry)) in
+        let before = walkState T w (now (work .entry)) plan in
+        let after = walkState T (r .walk) (now (work .exit)) plan in
+        startOf r after ≡ piecesStart T node earlier before
+        ) ⌝ }
 {
     if let Run::Of(_, _) = pairs_of(file, index, node) {
         let slot = Slot::plain(SlotKind::Const(0));
@@ -215,12 +218,17 @@ fn begin_pieces(
 // A read: matched where it resolves.
 fn begin_read(file: &[u8], index: &[u16], work: &mut [u8], node: usize, w: Walk) -> Begun
     requires { ⌜ Ready (now file) (now index) ⌝ }
-    ensures { λ r. ⌜ ((address ty : ℕ) (path : File.FieldPath) (plan : List ℕ) → Begins (tablesOf (now (file .entry))) address node ty path (λ below. Rules.read (ops (tablesOf (now (file .entry)))) (tablesOf (now (file .entry))) address below node ty path (walkState (tablesOf (now (file .entry))) w (now (work .entry)) plan)) r (walkState (tablesOf (now (file .entry))) (r .walk) (now (work .exit)) plan)) ⌝ }
+    ensures { λ r. ⌜ (
+        (plan : List ℕ) →
+        let T = tablesOf (now (file .entry)) in
+        let before = walkState T w (now (work .entry)) plan in
+        let after = walkState T (r .walk) (now (work .exit)) plan in
+        startOf r after ≡ readStart T node before
+        ) ⌝ }
 {
-    let lists = w.lists;
-    let a = resolve(file, index, work, node, lists);
+    let a = resolve(file, index, work, node, w.lists());
     let after = a.lists;
-    let mark = lists.ends;
+    let mark = w.ends;
     let walk = w.listed(after);
     if a.some {
         let slot = a.slot;
@@ -240,7 +248,6 @@ fn begin_variable(
     work: &mut [u8],
     plan: &mut [u8],
     name: usize,
-    node: usize,
     ty: usize,
     address: Address,
     path: FieldPath,
@@ -248,10 +255,14 @@ fn begin_variable(
 ) -> Begun
     requires { ⌜ Ready (now file) (now index) ⌝ }
     requires { ⌜ ty < length (tablesOf (now file) .types) ⌝ }
-    requires { ⌜ nodeAt (tablesOf (now file)) node ≡ File.Node.Var name ⌝ }
-    ensures { λ r. ⌜ Begins (tablesOf (now (file .entry))) (address .0) node ty (pathOf path) (λ below. Rules.variable (ops (tablesOf (now (file .entry)))) (tablesOf (now (file .entry))) (address .0) below name node ty (pathOf path) (walkState (tablesOf (now (file .entry))) w (now (work .entry)) (now (plan .entry)))) r (walkState (tablesOf (now (file .entry))) (r .walk) (now (work .exit)) (now (plan .exit))) ⌝ }
+    ensures { λ r. ⌜ (
+        let T = tablesOf (now (file .entry)) in
+        let before = walkState T w (now (work .entry)) (now (plan .entry)) in
+        let after = walkState T (r .walk) (now (work .exit)) (now (plan .exit)) in
+        startOf r after ≡ variableStart T (address .0) name ty (pathOf path) before
+        ) ⌝ }
 {
-    let found = lookup(file, index, work, w.lists, name);
+    let found = lookup(file, index, work, w.lists(), name);
     if found.some {
         let slot = found.slot;
         return Begun {
@@ -269,7 +280,10 @@ fn begin_variable(
 fn is_injection(file: &[u8], index: &[u16], node: usize, ty: usize) -> bool
     requires { ⌜ Indexed (now file) (now index) ⌝ }
     requires { ⌜ ty < length (tablesOf (now file) .types) ⌝ }
-    ensures { λ r. ⌜ r ≡ isInjection (recordFields (nodeAt (tablesOf (now (file .entry))) node)) (unionTy (typeAt (tablesOf (now (file .entry))) ty)) ⌝ }
+    ensures { λ r. ⌜ (
+        let T = tablesOf (now (file .entry)) in
+        r ≡ isInjection (recordFields (nodeAt T node)) (unionTy (typeAt T ty))
+        ) ⌝ }
 {
     let Run::Of(_, _) = pairs_of(file, index, node) else {
         return false;
@@ -292,7 +306,13 @@ fn begin_place(
 ) -> Begun
     requires { ⌜ Ready (now file) (now index) ⌝ }
     requires { ⌜ ty < length (tablesOf (now file) .types) ⌝ }
-    ensures { λ r. ⌜ ((address : ℕ) (path : File.FieldPath) (plan : List ℕ) → Begins (tablesOf (now (file .entry))) address node ty path (λ below. placeWalk (tablesOf (now (file .entry))) address below node ty path (walkState (tablesOf (now (file .entry))) w (now (work .entry)) plan)) r (walkState (tablesOf (now (file .entry))) (r .walk) (now (work .exit)) plan)) ⌝ }
+    ensures { λ r. ⌜ (
+        (plan : List ℕ) →
+        let T = tablesOf (now (file .entry)) in
+        let before = walkState T w (now (work .entry)) plan in
+        let after = walkState T (r .walk) (now (work .exit)) plan in
+        startOf r after ≡ placeStart T node ty before
+        ) ⌝ }
 {
     if is_injection(file, index, node, ty) {
         let slot = Slot::plain(SlotKind::Const(0));
@@ -319,14 +339,19 @@ pub fn begin(
 ) -> Begun
     requires { ⌜ Ready (now file) (now index) ⌝ }
     requires { ⌜ Fits (tablesOf (now file)) path ty ⌝ }
-    ensures { λ r. ⌜ Begins (tablesOf (now (file .entry))) (address .0) node ty (pathOf path) (λ below. Rules.fieldNode (ops (tablesOf (now (file .entry)))) (tablesOf (now (file .entry))) (address .0) below (nodeAt (tablesOf (now (file .entry))) node) node ty (pathOf path) (walkState (tablesOf (now (file .entry))) w (now (work .entry)) (now (plan .entry)))) r (walkState (tablesOf (now (file .entry))) (r .walk) (now (work .exit)) (now (plan .exit))) ⌝ }
+    ensures { λ r. ⌜ (
+        let T = tablesOf (now (file .entry)) in
+        let before = walkState T w (now (work .entry)) (now (plan .entry)) in
+        let after = walkState T (r .walk) (now (work .exit)) (now (plan .exit)) in
+        startOf r after ≡ start T (address .0) node ty (pathOf path) before
+        ) ⌝ }
 {
-    let lists = w.lists;
-    if lists.over {
+    let level = w.level;
+    if level.over {
         return done(w);
     }
     match node_of(file, index, node) {
-        NodeView::Var(x) => begin_variable(file, index, work, plan, x, node, ty, address, path, w),
+        NodeView::Var(x) => begin_variable(file, index, work, plan, x, ty, address, path, w),
         NodeView::Wildcard => done(w.skip()),
         NodeView::Never => done(w.diagnose(work, node, Code::NyiNever, true)),
         NodeView::Prefix(_) => done(ranged(file, index, work, plan, node, ty, path, w)),
@@ -364,7 +389,14 @@ fn meet_row(
     w: Walk,
 ) -> Walk
     requires { ⌜ Indexed (now file) (now index) ⌝ }
-    ensures { λ r. ⌜ ((address : ℕ) (below : FieldWalk State) → (walkState (tablesOf (now (file .entry))) r (now (work .exit)) (now (plan .exit))) ≡ Rules.matched (ops (tablesOf (now (file .entry)))) (tablesOf (now (file .entry))) address below node (File.Slot.Row (from .0) (predicateOption predicate)) ty (pathOf path) (walkState (tablesOf (now (file .entry))) w (now (work .entry)) (now (plan .entry)))) ⌝ }
+    ensures { λ r. ⌜ (
+        (address : ℕ) (below : FieldWalk State) →
+        let T = tablesOf (now (file .entry)) in
+        let before = walkState T w (now (work .entry)) (now (plan .entry)) in
+        let after = walkState T r (now (work .exit)) (now (plan .exit)) in
+        let slot = File.Slot.Row (from .0) (predicateOption predicate) in
+        after ≡ Rules.matched (ops T) T address below node slot ty (pathOf path) before
+        ) ⌝ }
 {
     let referenced = fact_ty(file, index, ty);
     if refers_to(predicate, referenced) {
@@ -384,7 +416,13 @@ fn meet_field(
     path: FieldPath,
     w: Walk,
 ) -> Walk
-    ensures { λ r. ⌜ ((T : File.Tables) (below : FieldWalk State) (ty t : ℕ) → walkState T r (now (work .exit)) (now (plan .exit)) ≡ Rules.matched (ops T) T (address .0) below node (File.Slot.Field (from .0) (pathOf at) ty) t (pathOf path) (walkState T w (now (work .entry)) (now (plan .entry)))) ⌝ }
+    ensures { λ r. ⌜ (
+        (T : File.Tables) (below : FieldWalk State) (ty t : ℕ) →
+        let before = walkState T w (now (work .entry)) (now (plan .entry)) in
+        let after = walkState T r (now (work .exit)) (now (plan .exit)) in
+        let slot = File.Slot.Field (from .0) (pathOf at) ty in
+        after ≡ Rules.matched (ops T) T (address .0) below node slot t (pathOf path) before
+        ) ⌝ }
 {
     if from.0 == address.0 {
         return w.diagnose(work, node, Code::NyiRepeatedVariable, false);
@@ -393,11 +431,10 @@ fn meet_field(
 }
 
 fn unopened(w: Walk) -> Met
-    ensures { λ r. ⌜ (r .partial ≡ false) × (r .walk ≡ w) ⌝ }
+    ensures { λ r. ⌜ r ≡ record { opens = Found.Nothing; walk = w } ⌝ }
 {
     Met {
-        partial: false,
-        node: 0,
+        opens: Found::Nothing,
         walk: w,
     }
 }
@@ -414,7 +451,13 @@ fn meet_const(
 ) -> Met
     requires { ⌜ Ready (now file) (now index) ⌝ }
     requires { ⌜ ty < length (tablesOf (now file) .types) ⌝ }
-    ensures { λ r. ⌜ ((address node : ℕ) (work : List ℕ) → Meets (tablesOf (now (file .entry))) address ty (pathOf path) (λ below. Rules.matched (ops (tablesOf (now (file .entry)))) (tablesOf (now (file .entry))) address below node (File.Slot.Const folded) ty (pathOf path) (walkState (tablesOf (now (file .entry))) w work (now (plan .entry)))) r (walkState (tablesOf (now (file .entry))) (r .walk) work (now (plan .exit)))) ⌝ }
+    ensures { λ r. ⌜ (
+        (address node : ℕ) (work : List ℕ) →
+        let T = tablesOf (now (file .entry)) in
+        let before = walkState T w work (now (plan .entry)) in
+        let after = walkState T (r .walk) work (now (plan .exit)) in
+        meetingOf r after ≡ meeting T address node (File.Slot.Const folded) ty (pathOf path) before
+        ) ⌝ }
 {
     let n = narrow(file, index, plan, folded, ty, path, w);
     let walk = n.walk;
@@ -422,8 +465,7 @@ fn meet_const(
         return unopened(walk);
     }
     Met {
-        partial: true,
-        node: folded,
+        opens: Found::At(folded),
         walk,
     }
 }
@@ -443,7 +485,12 @@ pub fn meet(
 ) -> Met
     requires { ⌜ Ready (now file) (now index) ⌝ }
     requires { ⌜ ty < length (tablesOf (now file) .types) ⌝ }
-    ensures { λ r. ⌜ Meets (tablesOf (now (file .entry))) (address .0) ty (pathOf path) (λ below. Rules.matched (ops (tablesOf (now (file .entry)))) (tablesOf (now (file .entry))) (address .0) below node (slotOf slot) ty (pathOf path) (walkState (tablesOf (now (file .entry))) w (now (work .entry)) (now (plan .entry)))) r (walkState (tablesOf (now (file .entry))) (r .walk) (now (work .exit)) (now (plan .exit))) ⌝ }
+    ensures { λ r. ⌜ (
+        let T = tablesOf (now (file .entry)) in
+        let before = walkState T w (now (work .entry)) (now (plan .entry)) in
+        let after = walkState T (r .walk) (now (work .exit)) (now (plan .exit)) in
+        meetingOf r after ≡ meeting T (address .0) node (slotOf slot) ty (pathOf path) before
+        ) ⌝ }
 {
     let kind = slot.kind;
     let at = slot.path;
@@ -458,13 +505,10 @@ pub fn meet(
 }
 
 fn unchosen(w: Walk) -> Chosen
-    ensures { λ r. ⌜ (r .go ≡ false) × (r .walk ≡ w) ⌝ }
+    ensures { λ r. ⌜ r ≡ record { choice = Choice.Nothing; walk = w } ⌝ }
 {
     Chosen {
-        go: false,
-        disc: 0,
-        node: 0,
-        ty: 0,
+        choice: Choice::Nothing,
         walk: w,
     }
 }
@@ -480,7 +524,13 @@ fn choose_alternative(
 ) -> Chosen
     requires { ⌜ Ready (now file) (now index) ⌝ }
     requires { ⌜ ty < length (tablesOf (now file) .types) ⌝ }
-    ensures { λ r. ⌜ ((address : ℕ) (path : File.FieldPath) (plan : List ℕ) → Chooses (tablesOf (now (file .entry))) address ty path (λ below. injectFields (tablesOf (now (file .entry))) address below (recordFields (nodeAt (tablesOf (now (file .entry))) node)) (File.unionTy (File.typeAt (tablesOf (now (file .entry))) ty)) node path (walkState (tablesOf (now (file .entry))) w (now (work .entry)) plan)) r (walkState (tablesOf (now (file .entry))) (r .walk) (now (work .exit)) plan)) ⌝ }
+    ensures { λ r. ⌜ (
+        (plan : List ℕ) →
+        let T = tablesOf (now (file .entry)) in
+        let before = walkState T w (now (work .entry)) plan in
+        let after = walkState T (r .walk) (now (work .exit)) plan in
+        choosingOf r after ≡ alternativeChoice (recordFields (nodeAt T node)) (unionTy (typeAt T ty)) node before
+        ) ⌝ }
 {
     let Run::Of(k, at) = pairs_of(file, index, node) else {
         return unchosen(w);
@@ -495,13 +545,8 @@ fn choose_alternative(
     let MaybeAlternative::Just(a) = alternative_of(file, from, m, p.name) else {
         return unchosen(w.diagnose(work, node, Code::RejectUnknownAlternative, true));
     };
-    Chosen {
-        go: true,
-        disc: a.disc,
-        node: p.node,
-        ty: a.ty,
-        walk: w,
-    }
+    let choice = Choice::Payload(a.disc, p.node, a.ty);
+    Chosen { choice, walk: w }
 }
 
 // `inject`: the whole union's constant, or else the alternative that is walked.
@@ -517,7 +562,12 @@ pub fn choose(
 ) -> Chosen
     requires { ⌜ Ready (now file) (now index) ⌝ }
     requires { ⌜ ty < length (tablesOf (now file) .types) ⌝ }
-    ensures { λ r. ⌜ ((address : ℕ) → Chooses (tablesOf (now (file .entry))) address ty (pathOf path) (λ below. injectAt (tablesOf (now (file .entry))) address below node ty (pathOf path) (walkState (tablesOf (now (file .entry))) w (now (work .entry)) (now (plan .entry)))) r (walkState (tablesOf (now (file .entry))) (r .walk) (now (work .exit)) (now (plan .exit)))) ⌝ }
+    ensures { λ r. ⌜ (
+        let T = tablesOf (now (file .entry)) in
+        let before = walkState T w (now (work .entry)) (now (plan .entry)) in
+        let after = walkState T (r .walk) (now (work .exit)) (now (plan .exit)) in
+        choosingOf r after ≡ choosing T node ty (pathOf path) before
+        ) ⌝ }
 {
     let n = narrow(file, index, plan, node, ty, path, w);
     let walk = n.walk;

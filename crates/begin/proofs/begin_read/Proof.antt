@@ -2,11 +2,9 @@ use Rattle.begin.proofs.Reading.{read-some, read-none, diagnostics-at}
 use borrow.Author.Needs.{needs}
 use Rattle.begin.proofs.begin_read.Statement.{statement}
 use Rattle.begin.proofs.begin_read.Tie as tie
-use Rattle.begin.proofs.begin_read.Reads as reads
-use Rattle.begin.proofs.begin_read.Lts as lts
-use Rattle.begin.proofs.begin_pieces.Reads as begin-pieces-reads
-use Rattle.resolve.proofs.resolve.Reads as resolve-reads
-use Rattle.step.proofs.Walk.listed.Reads as listed-reads
+
+lists-requires : tie.Need-lists-requires
+lists-requires c κs = search needs
 
 resolve-requires : tie.Need-resolve-requires
 resolve-requires c κs = search needs
@@ -18,7 +16,7 @@ same-length : tie.Need-same-length
 same-length c = search needs
 
 returns : tie.Need-returns
-returns c = λ a ty path plan. read-some _ a _ ty path _ _ _ _ _ plan (c .before .before .before .before .before .before .before .resolve .ensures) (c .before .before .listed .ensures _ _ plan) (c .before .if1 .taken)
+returns c = λ plan. read-some _ _ _ _ _ _ _ _ plan (c .before .before .before .before .before .before .before .before .lists .ensures) (c .before .before .listed .ensures) (c .before .before .before .before .before .before .before .resolve .ensures) (c .before .if1 .taken)
 
 begin-pieces-requires : tie.Need-begin-pieces-requires
 begin-pieces-requires c κs = search needs
@@ -27,12 +25,13 @@ same-length-2 : tie.Need-same-length-2
 same-length-2 c = search needs
 
 returns-2 : tie.Need-returns-2
-returns-2 c = λ a ty path plan. read-none _ a _ ty path _ _ _ _ _ plan (c .before .before .before .before .before .before .before .before .before .before .resolve .ensures) (c .before .before .before .before .before .listed .ensures _ _ plan) (c .before .before .before .before .if1 .left) _ _ (c .before .before .begin-pieces .ensures a ty path plan _ (diagnostics-at _ _ _ plan))
+returns-2 c = λ plan. read-none _ _ _ _ _ _ _ _ plan (c .before .before .before .before .before .before .before .before .before .before .before .lists .ensures) (c .before .before .before .before .before .listed .ensures) (c .before .before .before .before .before .before .before .before .before .before .resolve .ensures) (c .before .before .before .before .if1 .left) _ (c .before .before .begin-pieces .ensures plan _ (diagnostics-at _ _ _ plan))
 
 pub begin-read-spec : {M : Type 1} → statement M
 begin-read-spec =
     tie.close
     (tie.spec
+    lists-requires
     resolve-requires
     listed-requires
     same-length

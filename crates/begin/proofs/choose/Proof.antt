@@ -1,12 +1,8 @@
-use Rattle.begin.proofs.Choices.{chooses-done, whole-constant, whole-other}
+use Rattle.begin.proofs.Choices.{unchosen-is, whole-constant, whole-other}
+use mathlib.Core.Path.{_∙_}
 use borrow.Author.Needs.{needs}
 use Rattle.begin.proofs.choose.Statement.{statement}
 use Rattle.begin.proofs.choose.Tie as tie
-use Rattle.begin.proofs.choose.Reads as reads
-use Rattle.begin.proofs.choose.Lts as lts
-use Rattle.begin.proofs.choose_alternative.Reads as choose-alternative-reads
-use Rattle.begin.proofs.unchosen.Reads as unchosen-reads
-use Rattle.constrain.proofs.narrow.Reads as narrow-reads
 
 narrow-requires : tie.Need-narrow-requires
 narrow-requires c κs = search needs
@@ -18,7 +14,7 @@ same-length : tie.Need-same-length
 same-length c = search needs
 
 returns : tie.Need-returns
-returns c = λ a. chooses-done _ a _ _ _ _ _ _ _ (c .unchosen .ensures) (whole-constant _ a _ _ _ _ _ _ (c .before .before .before .before .before .narrow .ensures _) (c .before .if1 .taken))
+returns c = unchosen-is _ _ _ _ _ (c .unchosen .ensures) ∙ whole-constant _ _ _ _ _ _ _ (c .before .before .before .before .before .narrow .ensures .0) (c .before .before .before .before .before .narrow .ensures .1 _) (c .before .if1 .taken)
 
 choose-alternative-requires : tie.Need-choose-alternative-requires
 choose-alternative-requires c κs = search needs
@@ -30,7 +26,7 @@ same-length-3 : tie.Need-same-length-3
 same-length-3 c = search needs
 
 returns-2 : tie.Need-returns-2
-returns-2 c = λ a. whole-other _ a _ _ _ _ _ _ (c .before .before .before .before .before .before .before .before .narrow .ensures _) (c .before .before .before .before .if1 .left) _ _ (c .before .before .choose-alternative .ensures a _ _)
+returns-2 c = whole-other _ _ _ _ _ _ _ (c .before .before .before .before .before .before .before .before .narrow .ensures .0) (c .before .before .before .before .before .before .before .before .narrow .ensures .1 _) (c .before .before .before .before .if1 .left) _ (c .before .before .choose-alternative .ensures _)
 
 pub choose-spec : {M : Type 1} → statement M
 choose-spec =

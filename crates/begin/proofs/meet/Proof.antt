@@ -1,14 +1,8 @@
-use Rattle.begin.proofs.Meetings.{meets-done, of-row, of-key, of-derived, of-field, of-value, of-const}
+use Rattle.begin.proofs.Meetings.{settled-is, of-row, of-key, of-derived, of-field, of-value, of-const}
+use mathlib.Core.Path.{_∙_}
 use borrow.Author.Needs.{needs}
 use Rattle.begin.proofs.meet.Statement.{statement}
 use Rattle.begin.proofs.meet.Tie as tie
-use Rattle.begin.proofs.meet.Reads as reads
-use Rattle.begin.proofs.meet.Lts as lts
-use Rattle.step.proofs.Walk.diagnose.Reads as diagnose-reads
-use Rattle.begin.proofs.meet_const.Reads as meet-const-reads
-use Rattle.begin.proofs.meet_field.Reads as meet-field-reads
-use Rattle.begin.proofs.meet_row.Reads as meet-row-reads
-use Rattle.begin.proofs.unopened.Reads as unopened-reads
 
 enum-known-kind : tie.Need-enum-known-kind
 enum-known-kind c = search needs
@@ -68,19 +62,19 @@ same-length-2 : tie.Need-same-length-2
 same-length-2 c = search needs
 
 returns : tie.Need-returns
-returns c = meets-done _ _ _ _ _ _ _ _ _ (c .unopened .ensures) (of-row _ _ _ _ _ (c .before .before .before .before .before .before .before .before .before .before .before .before .before .before .before .before .args .slot) _ _ _ (c .before .before .before .before .before .before .before .before .before .kind .given .1) _ (c .before .before .before .before .before .meet-row .ensures))
+returns c = settled-is _ _ _ _ _ (c .unopened .ensures) ∙ of-row _ _ _ _ _ _ (c .before .before .before .before .before .before .before .before .before .before .before .before .before .before .before .before .args .slot) _ _ (c .before .before .before .before .before .before .before .before .before .kind .given .1) _ (c .before .before .before .before .before .meet-row .ensures)
 
 same-length-3 : tie.Need-same-length-3
 same-length-3 c = search needs
 
 returns-2 : tie.Need-returns-2
-returns-2 c = meets-done _ _ _ _ _ _ _ _ _ (c .unopened2 .ensures) (of-key _ _ _ _ _ (c .before .before .before .before .before .before .before .before .before .before .before .before .args .slot) _ _ _ (c .before .before .before .before .before .enum-told .given .1) _ (c .before .before .before .diagnose .ensures _ _))
+returns-2 c = settled-is _ _ _ _ _ (c .unopened2 .ensures) ∙ of-key _ _ _ _ _ _ (c .before .before .before .before .before .before .before .before .before .before .before .before .args .slot) _ _ (c .before .before .before .before .before .enum-told .given .1) _ (c .before .before .before .diagnose .ensures _ _)
 
 same-length-4 : tie.Need-same-length-4
 same-length-4 c = search needs
 
 returns-3 : tie.Need-returns-3
-returns-3 c = meets-done _ _ _ _ _ _ _ _ _ (c .unopened3 .ensures) (of-derived _ _ _ _ _ (c .before .before .before .before .before .before .before .before .before .before .before .before .args .slot) _ _ (c .before .before .before .before .before .enum-told2 .given .1) _ (c .before .before .before .diagnose2 .ensures _ _))
+returns-3 c = settled-is _ _ _ _ _ (c .unopened3 .ensures) ∙ of-derived _ _ _ _ _ _ (c .before .before .before .before .before .before .before .before .before .before .before .before .args .slot) _ (c .before .before .before .before .before .enum-told2 .given .1) _ (c .before .before .before .diagnose2 .ensures _ _)
 
 same-length-5 : tie.Need-same-length-5
 same-length-5 c = search needs
@@ -89,19 +83,19 @@ same-length-6 : tie.Need-same-length-6
 same-length-6 c = search needs
 
 returns-4 : tie.Need-returns-4
-returns-4 c = meets-done _ _ _ _ _ _ _ _ _ (c .unopened4 .ensures) (of-field _ _ _ _ _ (c .before .before .before .before .before .before .before .before .before .before .before .before .before .before .before .before .args .slot) _ _ _ (c .before .before .before .before .before .before .before .before .before .kind2 .given .1) _ (c .before .before .before .before .before .meet-field .ensures _))
+returns-4 c = settled-is _ _ _ _ _ (c .unopened4 .ensures) ∙ of-field _ _ _ _ _ _ (c .before .before .before .before .before .before .before .before .before .before .before .before .before .before .before .before .args .slot) _ _ (c .before .before .before .before .before .before .before .before .before .kind2 .given .1) _ (c .before .before .before .before .before .meet-field .ensures _)
 
 same-length-7 : tie.Need-same-length-7
 same-length-7 c = search needs
 
 returns-5 : tie.Need-returns-5
-returns-5 c = meets-done _ _ _ _ _ _ _ _ _ (c .unopened5 .ensures) (of-value _ _ _ _ _ (c .before .before .before .before .before .before .before .before .before .before .before .before .args .slot) _ _ _ (c .before .before .before .before .before .enum-told3 .given .1) _ (c .before .before .before .diagnose3 .ensures _ _))
+returns-5 c = settled-is _ _ _ _ _ (c .unopened5 .ensures) ∙ of-value _ _ _ _ _ _ (c .before .before .before .before .before .before .before .before .before .before .before .before .args .slot) _ _ (c .before .before .before .before .before .enum-told3 .given .1) _ (c .before .before .before .diagnose3 .ensures _ _)
 
 same-length-8 : tie.Need-same-length-8
 same-length-8 c = search needs
 
 returns-6 : tie.Need-returns-6
-returns-6 c = of-const _ _ _ _ _ (c .before .before .before .before .before .before .before .before .before .before .before .before .args .slot) _ _ (c .before .before .before .before .before .kind3 .given .1) _ _ (c .before .before .meet-const .ensures _ _ _)
+returns-6 c = of-const _ _ _ _ _ _ (c .before .before .before .before .before .before .before .before .before .before .before .before .args .slot) _ (c .before .before .before .before .before .kind3 .given .1) _ (c .before .before .meet-const .ensures _ _ _)
 
 pub meet-spec : {M : Type 1} → statement M
 meet-spec =

@@ -1,15 +1,9 @@
 use native.Mathlib.Omega.{arith}
 use Rattle.ready.proofs.Given.{sound-tables}
-use Rattle.begin.proofs.Opens.{no-pairs, run-inside, no-fields, count-is, piece-some, piece-none, nothing-there}
+use Rattle.begin.proofs.Opens.{no-pairs, run-inside, no-fields, count-is, piece-is, nothing-there}
 use borrow.Author.Needs.{needs}
 use Rattle.begin.proofs.piece_at.Statement.{statement}
 use Rattle.begin.proofs.piece_at.Tie as tie
-use Rattle.begin.proofs.piece_at.Reads as reads
-use Rattle.begin.proofs.piece_at.Lts as lts
-use Rattle.begin.proofs.pairs_of.Reads as pairs-of-reads
-use Rattle.tables.proofs.field_pattern.Reads as field-pattern-reads
-use Rattle.tables.proofs.record_ty.Reads as record-ty-reads
-use Rattle.views.proofs.field_ty_at.Reads as field-ty-at-reads
 
 pairs-of-requires : tie.Need-pairs-of-requires
 pairs-of-requires c κs = search needs
@@ -44,21 +38,10 @@ field-ty-at-requires c κs =
 field-pattern-requires : tie.Need-field-pattern-requires
 field-pattern-requires c κs = run-inside _ _ _ _ _ (c .before .before .before .before .before .before .before .before .pairs-of .ensures) _ _ (c .before .before .before .before .before .before .n .given .1)
 
-enum-known-p : tie.Need-enum-known-p
-enum-known-p c = search needs
-
-enum-told-3 : tie.Need-enum-told-3
-enum-told-3 c = search needs
-
 returns-3 : tie.Need-returns-3
 returns-3 c =
-    let s = c .before .before .before .before .before .before .before .before .before .before .before .before .before .before .before .pre in
-    piece-some _ _ _ _ _ (c .before .before .before .before .before .before .before .before .before .before .before .before .pairs-of .ensures) _ (c .before .before .before .before .before .before .before .before .record-ty .ensures) _ _ _ _ (c .before .before .before .before .before .before .before .before .before .before .n .given .1) (c .before .before .before .before .before .before .k .given .1) (sound-tables _ _ (s .0)) (s .1 .0) _ (s .1 .1) _ (c .before .before .before .before .field-ty-at .ensures) _ (c .before .before .before .field-pattern .ensures) _ (c .before .p .given .1)
-
-returns-4 : tie.Need-returns-4
-returns-4 c =
-    let s = c .before .before .before .before .before .before .before .before .before .before .before .before .before .before .pre in
-    piece-none _ _ _ _ _ (c .before .before .before .before .before .before .before .before .before .before .before .pairs-of .ensures) _ (c .before .before .before .before .before .before .before .record-ty .ensures) _ _ _ _ (c .before .before .before .before .before .before .before .before .before .n .given .1) (c .before .before .before .before .before .k .given .1) (sound-tables _ _ (s .0)) (s .1 .0) _ (s .1 .1) _ (c .before .before .before .field-ty-at .ensures) _ (c .before .before .field-pattern .ensures) (c .enum-told3 .given .1)
+    let s = c .before .before .before .before .before .before .before .before .before .before .before .before .pre in
+    piece-is _ _ _ _ _ (c .before .before .before .before .before .before .before .before .before .pairs-of .ensures) _ (c .before .before .before .before .before .record-ty .ensures) _ _ _ _ (c .before .before .before .before .before .before .before .n .given .1) (c .before .before .before .k .given .1) (sound-tables _ _ (s .0)) (s .1 .0) _ (s .1 .1) _ (c .before .field-ty-at .ensures) _ (c .field-pattern .ensures)
 
 pub piece-at-spec : {M : Type 1} → statement M
 piece-at-spec =
@@ -74,7 +57,4 @@ piece-at-spec =
     returns-2
     field-ty-at-requires
     field-pattern-requires
-    enum-known-p
-    enum-told-3
-    returns-3
-    returns-4)
+    returns-3)

@@ -2,11 +2,6 @@ use Rattle.begin.proofs.Reading.{unresolved-deferred, unresolved-quiet,
 use borrow.Author.Needs.{needs}
 use Rattle.begin.proofs.unresolved.Statement.{statement}
 use Rattle.begin.proofs.unresolved.Tie as tie
-use Rattle.begin.proofs.unresolved.Reads as reads
-use Rattle.begin.proofs.unresolved.Lts as lts
-use Rattle.step.proofs.Walk.diagnose.Reads as diagnose-reads
-use Rattle.begin.proofs.is_deferred.Reads as is-deferred-reads
-use Rattle.step.proofs.Walk.skip.Reads as skip-reads
 
 is-deferred-requires : tie.Need-is-deferred-requires
 is-deferred-requires c κs = search needs
@@ -24,13 +19,13 @@ same-length : tie.Need-same-length
 same-length c = search needs
 
 returns-2 : tie.Need-returns-2
-returns-2 c = λ plan before e. unresolved-quiet _ _ _ _ _ (c .before .before .before .before .before .before .before .before .before .is-deferred .ensures) (c .before .before .before .before .before .before .before .before .if1 .left) _ _ (diagnostics-at _ _ _ _) e (c .before .before .before .before .if2 .taken) _ (c .before .before .diagnose .ensures _ plan)
+returns-2 c = λ plan before e. unresolved-quiet _ _ _ _ _ (c .before .before .before .before .before .before .before .before .is-deferred .ensures) (c .before .before .before .before .before .before .before .if1 .left) _ _ (diagnostics-at _ _ _ _) e (c .before .before .before .before .if2 .taken) _ (c .before .before .diagnose .ensures _ plan)
 
 skip-requires-2 : tie.Need-skip-requires-2
 skip-requires-2 c κs = search needs
 
 returns-3 : tie.Need-returns-3
-returns-3 c = λ plan before e. unresolved-told _ _ _ _ _ (c .before .before .before .before .before .before .is-deferred .ensures) (c .before .before .before .before .before .if1 .left) _ _ (diagnostics-at _ _ _ _) e (c .before .if2 .left) _ (c .skip2 .ensures _ _ plan)
+returns-3 c = λ plan before e. unresolved-told _ _ _ _ _ (c .before .before .before .before .before .is-deferred .ensures) (c .before .before .before .before .if1 .left) _ _ (diagnostics-at _ _ _ _) e (c .before .if2 .left) _ (c .skip2 .ensures _ _ plan)
 
 pub unresolved-spec : {M : Type 1} → statement M
 unresolved-spec =
