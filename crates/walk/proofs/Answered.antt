@@ -14,11 +14,12 @@ use Rattle.rules.specs.Walk.{matched, field, wholeFields, wholeRead}
 use Rattle.state.specs.State.{State}
 use Rattle.state.specs.Ops.{ops, skip}
 use Rattle.slots.specs.Slots.{slotOf, maybe}
-use Rattle.lists.specs.Lists.{stateWith}
-use Rattle.resolve.specs.Resolved.{given, Answers}
+use Rattle.lists.specs.declared.Lists.{Lists}
+use Rattle.resolve.specs.Resolved.{Answers}
 use Rattle.resolve.specs.declared.Answer.{Answer}
-use Rattle.step.specs.Step.{walkState}
+use Rattle.step.specs.Step.{walkState, listsOf, withLists}
 use Rattle.step.specs.declared.Walk.{Walk}
+use Rattle.begin.proofs.Reading.{answer-is}
 use Rattle.walk.specs.Walks.{Gives, wholeField}
 
 -- building falls where there is no slot
@@ -26,16 +27,14 @@ abbrev goOn : (File.Slot → State → State) → Rules.Answer State → State
 goOn found x = elim (x .slot) [ none ↦ skip (x .walk) | some slot ↦ found slot (x .walk) ]
 
 -- r is the walk w with the lists of an answer
-module _ (T : Tables) (w r : Walk) (ans : Answer) (work work′ plan : List ℕ) (l : walkState T r work′ plan ≡ stateWith (ans .lists) (walkState T w work′ plan .level) (walkState T w work′ plan .target) work′ plan) (s : State) where
-  module _ (found : File.Slot → State → State) (g : Resolver State) (k : Answers g (w .lists) work ans work′) where
+module _ (T : Tables) (w r : Walk) (ans : Answer) (work work′ plan : List ℕ) (l : Lists) (el : l ≡ listsOf w) (er : r ≡ withLists w (ans .lists)) (s : State) where
+  module _ (found : File.Slot → State → State) (g : Resolver State) (k : Answers g l work ans work′) where
     answered : (b : Bool) → ans .some ≡ b → goOn found (record { slot = maybe b (slotOf (ans .slot)); walk = walkState T r work′ plan }) ≡ goOn found (g (walkState T w work plan))
-    unfolding walkState
     answered b e =
         ap (λ (x : Bool). goOn found (record { slot = maybe x (slotOf (ans .slot)); walk = walkState T r work′ plan })) (sym e)
-        ∙ ap (λ (x : State). goOn found (record { slot = given ans; walk = x })) l
-        ∙ ap (goOn found) (k .is _ _ plan)
+        ∙ ap (goOn found) (answer-is T w r l ans work work′ plan el er g k)
 
-  module _ (a n : ℕ) (fs : List FieldTy) (k : Answers (resolve (ops T) T n) (w .lists) work ans work′) where
+  module _ (a n : ℕ) (fs : List FieldTy) (k : Answers (resolve (ops T) T n) l work ans work′) where
     pub read-none : ans .some ≡ false → s ≡ skip (walkState T r work′ plan) → s ≡ wholeRead (ops T) T a n fs (walkState T w work plan)
     unfolding wholeRead
     read-none e q = q ∙ answered (λ slot x. wholeFields (ops T) T a n slot 0 fs x) (resolve (ops T) T n) k false e
@@ -44,7 +43,7 @@ module _ (T : Tables) (w r : Walk) (ans : Answer) (work work′ plan : List ℕ)
     unfolding wholeRead
     read-some e q = q ∙ answered (λ slot x. wholeFields (ops T) T a n slot 0 fs x) (resolve (ops T) T n) k true e
 
-  module _ (a n : ℕ) (slot : File.Slot) (name t : ℕ) (path : File.FieldPath) (k : Answers (fieldSlot (ops T) T n slot name) (w .lists) work ans work′) where
+  module _ (a n : ℕ) (slot : File.Slot) (name t : ℕ) (path : File.FieldPath) (k : Answers (fieldSlot (ops T) T n slot name) l work ans work′) where
     pub field-none : ans .some ≡ false → s ≡ skip (walkState T r work′ plan) → s ≡ wholeField T a n slot name t path (walkState T w work plan)
     unfolding wholeField
     field-none e q = q ∙ answered (λ found x. matched (ops T) T a (field (ops T) T a) n found t path x) (fieldSlot (ops T) T n slot name) k false e

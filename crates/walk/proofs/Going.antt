@@ -2,7 +2,6 @@
 -- is done for one that no pattern names.
 use Prim.Native.Nat.{ℕ, _+_, _≤_, _<_}
 use mathlib.Core.Path.{_≡_, refl, sym, ap, _∙_}
-use mathlib.Core.Bool.{Bool, true, false}
 use mathlib.Core.List.{List}
 use mathlib.Core.Option.{Option}
 use native.Mathlib.Omega.{arith}
@@ -14,7 +13,9 @@ use Rattle.state.specs.State.{State}
 use Rattle.state.specs.Ops.{ops}
 use Rattle.paths.specs.Paths.{pathOf, Holds}
 use Rattle.paths.specs.declared.FieldPath.{FieldPath}
-use Rattle.slots.specs.Slots.{maybe}
+use Rattle.tables.specs.Tables.{foundOption}
+use Rattle.tables.specs.declared.Found.{Found}
+use Rattle.tables.specs.declared.Found.the-variants as Fo
 use Rattle.begin.specs.Pieces.{patternsOf, fieldsFor, noField, Pieced}
 use Rattle.begin.specs.declared.Piece.{Piece}
 use Rattle.walk.specs.Walks.{Walks}
@@ -39,37 +40,37 @@ module _ (T : Tables) (a n t : ℕ) (missing : State → State) (place : ℕ →
     one m o c = turn (fieldBelow (ops T) T a m) missing place (patternsOf T n) (fieldsFor T n t) i s o c
 
     -- one field more, by what was found of it
-    next : (m : ℕ) → t ≤ m → (b : Bool) → r .some ≡ b → eachField (fieldBelow (ops T) T a m) missing place (patternsOf T n) 0 (fieldsFor T n t) s₀ ≡ left T a n t missing place m (i + 1) (one m (maybe b (r .node)) (r .ty))
-    next m l b e =
+    next : (m : ℕ) → t ≤ m → (o : Found) → r .pattern ≡ o → eachField (fieldBelow (ops T) T a m) missing place (patternsOf T n) 0 (fieldsFor T n t) s₀ ≡ left T a n t missing place m (i + 1) (one m (foundOption o) (r .ty))
+    next m l o e =
         v .is m l
         ∙ each-more (fieldBelow (ops T) T a m) missing place (patternsOf T n) (fieldsFor T n t) i s h
         ∙ ap (left T a n t missing place m (i + 1))
-        (ap (λ (o : Option ℕ). one m o (getD (fieldsFor T n t) i noField .type)) (sym (k .found))
-        ∙ ap (one m (maybe (r .some) (r .node))) (sym (k .type))
-        ∙ ap (λ (x : Bool). one m (maybe x (r .node)) (r .ty)) e)
+        (ap (λ (x : Option ℕ). one m x (getD (fieldsFor T n t) i noField .type)) (sym (k .found))
+        ∙ ap (one m (foundOption (r .pattern))) (sym (k .type))
+        ∙ ap (λ (x : Found). one m (foundOption x) (r .ty)) e)
 
     module _ (s′ : State) (w′ p′ : List ℕ) (ew : length w′ ≡ length w) (ep : length p′ ≡ length p) where
-      pub going-missing : r .some ≡ false → s′ ≡ missing s → Going T a n t missing place (i + 1) s₀ s′ w₀ p₀ w′ p′
+      pub going-missing : r .pattern ≡ Fo.Nothing → s′ ≡ missing s → Going T a n t missing place (i + 1) s₀ s′ w₀ p₀ w′ p′
       unfolding turn
       going-missing e q =
           record {
             low = omega arith;
             work-long = ew ∙ v .work-long;
             plan-long = ep ∙ v .plan-long;
-            is = λ m l. next m l false e ∙ ap (left T a n t missing place m (i + 1)) (sym q);
+            is = λ m l. next m l Fo.Nothing e ∙ ap (left T a n t missing place m (i + 1)) (sym q);
           }
 
-      pub going-given : r .some ≡ true → (q : FieldPath) → Holds q (place i) → Walks T a (r .node) (r .ty) (pathOf q) s s′ → Going T a n t missing place (i + 1) s₀ s′ w₀ p₀ w′ p′
+      pub going-given : (j : ℕ) → r .pattern ≡ Fo.At j → (q : FieldPath) → Holds q (place i) → Walks T a j (r .ty) (pathOf q) s s′ → Going T a n t missing place (i + 1) s₀ s′ w₀ p₀ w′ p′
       unfolding turn
-      going-given e q o x =
+      going-given j e q o x =
           record {
             low = omega arith;
             work-long = ew ∙ v .work-long;
             plan-long = ep ∙ v .plan-long;
             is = λ m l.
-                next m l true e
+                next m l (Fo.At j) e
                 ∙ ap (left T a n t missing place m (i + 1))
-                (ap (λ (y : File.FieldPath). fieldBelow (ops T) T a m (r .node) (r .ty) y s) (sym (o .is)) ∙ sym (x .is m (omega (arith, k .lower .lower))));
+                (ap (λ (y : File.FieldPath). fieldBelow (ops T) T a m j (r .ty) y s) (sym (o .is)) ∙ sym (x .is m (omega (arith, k .lower .lower))));
           }
 
   pub going-end : length (fieldsFor T n t) ≤ i → (m : ℕ) → t ≤ m → s ≡ eachField (fieldBelow (ops T) T a m) missing place (patternsOf T n) 0 (fieldsFor T n t) s₀

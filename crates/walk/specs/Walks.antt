@@ -26,4 +26,7 @@ fieldsOf T t = Option·getD (recordTy (typeAt T t)) []
 unfoldable pub wholeField : Tables → ℕ → ℕ → File.Slot → ℕ → ℕ → File.FieldPath → State → State
 wholeField T address n slot name t path s =
     let a = fieldSlot (ops T) T n slot name s in
-    elim (a .slot) [ none ↦ skip (a .walk) | some found ↦ matched (ops T) T address (field (ops T) T address) n found t path (a .walk) ]
+    elim (a .slot) [
+      | none ↦ skip (a .walk)
+      | some found ↦ matched (ops T) T address (field (ops T) T address) n found t path (a .walk)
+    ]

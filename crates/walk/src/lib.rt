@@ -13,6 +13,7 @@ ghost use Rattle.step.specs.Step.{walkState};
 ghost use Rattle.begin.specs.Pieces.{Fits, patternsOf, fieldsFor};
 ghost use Rattle.begin.specs.Begin.{injectAt};
 ghost use Rattle.walk.specs.Walks.{Walks, Gives, fieldsOf, wholeField};
+use begin::Choice;
 use begin::Next;
 use begin::begin;
 use begin::choose;
@@ -29,6 +30,7 @@ use resolve::resolve;
 use slots::Slot;
 use slots::SlotKind;
 use step::Walk;
+use tables::Found;
 use tables::Run;
 use tables::record_ty;
 use views::FieldTy;
@@ -49,7 +51,12 @@ pub fn field(
 ) -> Walk
     requires { ⌜ Ready (now file) (now index) ⌝ }
     requires { ⌜ Fits (tablesOf (now file)) path ty ⌝ }
-    ensures { λ r. ⌜ Walks (tablesOf (now (file .entry))) (address .0) node ty (pathOf path) (walkState (tablesOf (now (file .entry))) w (now (work .entry)) (now (plan .entry))) (walkState (tablesOf (now (file .entry))) r (now (work .exit)) (now (plan .exit))) ⌝ }
+    ensures { λ r. ⌜ (
+        let T = tablesOf (now (file .entry)) in
+        let before = walkState T w (now (work .entry)) (now (plan .entry)) in
+        let after = walkState T r (now (work .exit)) (now (plan .exit)) in
+        Walks T (address .0) node ty (pathOf path) before after
+        ) ⌝ }
 {
     let b = begin(file, index, work, plan, node, ty, address, path, w);
     let next = b.next;
@@ -87,13 +94,21 @@ pub fn matched(
 ) -> Walk
     requires { ⌜ Ready (now file) (now index) ⌝ }
     requires { ⌜ Fits (tablesOf (now file)) path ty ⌝ }
-    ensures { λ r. ⌜ Gives (tablesOf (now (file .entry))) (address .0) ty (λ below. Rules.matched (ops (tablesOf (now (file .entry)))) (tablesOf (now (file .entry))) (address .0) below node (slotOf slot) ty (pathOf path) (walkState (tablesOf (now (file .entry))) w (now (work .entry)) (now (plan .entry)))) (walkState (tablesOf (now (file .entry))) r (now (work .exit)) (now (plan .exit))) ⌝ }
+    ensures { λ r. ⌜ (
+        let T = tablesOf (now (file .entry)) in
+        let before = walkState T w (now (work .entry)) (now (plan .entry)) in
+        let after = walkState T r (now (work .exit)) (now (plan .exit)) in
+        Gives T (address .0) ty
+        (λ below. Rules.matched (ops T) T (address .0) below node (slotOf slot) ty (pathOf path) before)
+        after
+        ) ⌝ }
 {
     let m = meet(file, index, work, plan, node, slot, ty, address, path, w);
-    if m.partial {
-        return partial(file, index, work, plan, m.node, ty, address, path, m.walk);
-    }
-    m.walk
+    let opens = m.opens;
+    let Found::At(n) = opens else {
+        return m.walk;
+    };
+    partial(file, index, work, plan, n, ty, address, path, m.walk)
 }
 
 // A record pattern that gives some of its fields: building falls, and each piece is matched one step deeper.
@@ -110,18 +125,26 @@ pub fn partial(
 ) -> Walk
     requires { ⌜ Ready (now file) (now index) ⌝ }
     requires { ⌜ Fits (tablesOf (now file)) path ty ⌝ }
-    ensures { λ r. ⌜ Gives (tablesOf (now (file .entry))) (address .0) ty (λ below. Rules.partial (ops (tablesOf (now (file .entry)))) (tablesOf (now (file .entry))) (address .0) below node ty (pathOf path) (walkState (tablesOf (now (file .entry))) w (now (work .entry)) (now (plan .entry)))) (walkState (tablesOf (now (file .entry))) r (now (work .exit)) (now (plan .exit))) ⌝ }
+    ensures { λ r. ⌜ (
+        let T = tablesOf (now (file .entry)) in
+        let before = walkState T w (now (work .entry)) (now (plan .entry)) in
+        let after = walkState T r (now (work .exit)) (now (plan .exit)) in
+        Gives T (address .0) ty
+        (λ below. Rules.partial (ops T) T (address .0) below node ty (pathOf path) before)
+        after
+        ) ⌝ }
 {
-    let n = pieces(file, index, node, ty);
+    let count = pieces(file, index, node, ty);
     let mut l = w.skip();
     let mut i: usize = 0;
-    while i < n {
+    while i < count {
         let p = piece_at(file, index, node, ty, i);
+        let pattern = p.pattern;
         let step = i as u32;
         i += 1;
-        if p.some {
+        if let Found::At(n) = pattern {
             let q = path.then(step);
-            l = field(file, index, work, plan, p.node, p.ty, address, q, l);
+            l = field(file, index, work, plan, n, p.ty, address, q, l);
         }
     }
     l
@@ -141,18 +164,26 @@ pub fn inject(
 ) -> Walk
     requires { ⌜ Ready (now file) (now index) ⌝ }
     requires { ⌜ Fits (tablesOf (now file)) path ty ⌝ }
-    ensures { λ r. ⌜ Gives (tablesOf (now (file .entry))) (address .0) ty (λ below. injectAt (tablesOf (now (file .entry))) (address .0) below node ty (pathOf path) (walkState (tablesOf (now (file .entry))) w (now (work .entry)) (now (plan .entry)))) (walkState (tablesOf (now (file .entry))) r (now (work .exit)) (now (plan .exit))) ⌝ }
+    ensures { λ r. ⌜ (
+        let T = tablesOf (now (file .entry)) in
+        let before = walkState T w (now (work .entry)) (now (plan .entry)) in
+        let after = walkState T r (now (work .exit)) (now (plan .exit)) in
+        Gives T (address .0) ty
+        (λ below. injectAt T (address .0) below node ty (pathOf path) before)
+        after
+        ) ⌝ }
 {
     let c = choose(file, index, work, plan, node, ty, path, w);
     let open = c.walk;
-    if c.go {
-        let level = open.level;
-        let q = path.payload(c.disc);
-        let tagged = open.tag(path, c.disc, plan);
-        let walked = field(file, index, work, plan, c.node, c.ty, address, q, tagged);
-        return walked.closer(level.building, plan);
-    }
-    open
+    let choice = c.choice;
+    let Choice::Payload(disc, n, t) = choice else {
+        return open;
+    };
+    let level = open.level;
+    let q = path.payload(disc);
+    let tagged = open.tag(path, disc, plan);
+    let walked = field(file, index, work, plan, n, t, address, q, tagged);
+    walked.closer(level.building, plan)
 }
 
 // A Record against a Record type: a field that no pattern names closes the seek.
@@ -168,17 +199,24 @@ fn record_key(
 ) -> Walk
     requires { ⌜ Ready (now file) (now index) ⌝ }
     requires { ⌜ ty < length (tablesOf (now file) .types) ⌝ }
-    ensures { λ r. ⌜ walkState (tablesOf (now (file .entry))) r (now (work .exit)) (now (plan .exit)) ≡ Rules.eachField (Rules.field (ops (tablesOf (now (file .entry)))) (tablesOf (now (file .entry))) (address .0)) skip fieldPath (patternsOf (tablesOf (now (file .entry))) node) 0 (fieldsFor (tablesOf (now (file .entry))) node ty) (walkState (tablesOf (now (file .entry))) w (now (work .entry)) (now (plan .entry))) ⌝ }
+    ensures { λ r. ⌜ (
+        let T = tablesOf (now (file .entry)) in
+        let before = walkState T w (now (work .entry)) (now (plan .entry)) in
+        let after = walkState T r (now (work .exit)) (now (plan .exit)) in
+        let field = Rules.field (ops T) T (address .0) in
+        after ≡ Rules.eachField field skip fieldPath (patternsOf T node) 0 (fieldsFor T node ty) before
+        ) ⌝ }
 {
-    let n = pieces(file, index, node, ty);
+    let count = pieces(file, index, node, ty);
     let mut l = w;
     let mut i: usize = 0;
-    while i < n {
+    while i < count {
         let p = piece_at(file, index, node, ty, i);
+        let pattern = p.pattern;
         let path = FieldPath::field(i as u16);
         i += 1;
-        if p.some {
-            l = field(file, index, work, plan, p.node, p.ty, address, path, l);
+        if let Found::At(n) = pattern {
+            l = field(file, index, work, plan, n, p.ty, address, path, l);
         } else {
             l = l.skip();
         }
@@ -202,9 +240,14 @@ fn whole_field(
     requires { ⌜ Ready (now file) (now index) ⌝ }
     requires { ⌜ Roomy (tablesOf (now file)) (slotOf slot) ⌝ }
     requires { ⌜ Fits (tablesOf (now file)) path (field .ty) ⌝ }
-    ensures { λ r. ⌜ walkState (tablesOf (now (file .entry))) r (now (work .exit)) (now (plan .exit)) ≡ wholeField (tablesOf (now (file .entry))) (address .0) node (slotOf slot) (field .name) (field .ty) (pathOf path) (walkState (tablesOf (now (file .entry))) w (now (work .entry)) (now (plan .entry))) ⌝ }
+    ensures { λ r. ⌜ (
+        let T = tablesOf (now (file .entry)) in
+        let before = walkState T w (now (work .entry)) (now (plan .entry)) in
+        let after = walkState T r (now (work .exit)) (now (plan .exit)) in
+        after ≡ wholeField T (address .0) node (slotOf slot) (field .name) (field .ty) (pathOf path) before
+        ) ⌝ }
 {
-    let a = field_slot(file, index, work, node, slot, field.name, w.lists);
+    let a = field_slot(file, index, work, node, slot, field.name, w.lists());
     let l = w.listed(a.lists);
     if a.some {
         return matched(
@@ -237,7 +280,12 @@ fn whole_fields(
     requires { ⌜ Ready (now file) (now index) ⌝ }
     requires { ⌜ ty < length (tablesOf (now file) .types) ⌝ }
     requires { ⌜ Roomy (tablesOf (now file)) (slotOf slot) ⌝ }
-    ensures { λ r. ⌜ walkState (tablesOf (now (file .entry))) r (now (work .exit)) (now (plan .exit)) ≡ Rules.wholeFields (ops (tablesOf (now (file .entry)))) (tablesOf (now (file .entry))) (address .0) node (slotOf slot) 0 (fieldsOf (tablesOf (now (file .entry))) ty) (walkState (tablesOf (now (file .entry))) w (now (work .entry)) (now (plan .entry))) ⌝ }
+    ensures { λ r. ⌜ (
+        let T = tablesOf (now (file .entry)) in
+        let before = walkState T w (now (work .entry)) (now (plan .entry)) in
+        let after = walkState T r (now (work .exit)) (now (plan .exit)) in
+        after ≡ Rules.wholeFields (ops T) T (address .0) node (slotOf slot) 0 (fieldsOf T ty) before
+        ) ⌝ }
 {
     let Run::Of(n, at) = record_ty(file, index, ty) else {
         return w;
@@ -266,9 +314,14 @@ fn whole_read(
 ) -> Walk
     requires { ⌜ Ready (now file) (now index) ⌝ }
     requires { ⌜ ty < length (tablesOf (now file) .types) ⌝ }
-    ensures { λ r. ⌜ walkState (tablesOf (now (file .entry))) r (now (work .exit)) (now (plan .exit)) ≡ Rules.wholeRead (ops (tablesOf (now (file .entry)))) (tablesOf (now (file .entry))) (address .0) node (fieldsOf (tablesOf (now (file .entry))) ty) (walkState (tablesOf (now (file .entry))) w (now (work .entry)) (now (plan .entry))) ⌝ }
+    ensures { λ r. ⌜ (
+        let T = tablesOf (now (file .entry)) in
+        let before = walkState T w (now (work .entry)) (now (plan .entry)) in
+        let after = walkState T r (now (work .exit)) (now (plan .exit)) in
+        after ≡ Rules.wholeRead (ops T) T (address .0) node (fieldsOf T ty) before
+        ) ⌝ }
 {
-    let a = resolve(file, index, work, node, w.lists);
+    let a = resolve(file, index, work, node, w.lists());
     let l = w.listed(a.lists);
     if a.some {
         return whole_fields(file, index, work, plan, node, a.slot, ty, address, l);
@@ -290,9 +343,14 @@ fn whole_variable(
 ) -> Walk
     requires { ⌜ Ready (now file) (now index) ⌝ }
     requires { ⌜ ty < length (tablesOf (now file) .types) ⌝ }
-    ensures { λ r. ⌜ walkState (tablesOf (now (file .entry))) r (now (work .exit)) (now (plan .exit)) ≡ Rules.wholeVariable (ops (tablesOf (now (file .entry)))) (tablesOf (now (file .entry))) (address .0) name node ty (fieldsOf (tablesOf (now (file .entry))) ty) (walkState (tablesOf (now (file .entry))) w (now (work .entry)) (now (plan .entry))) ⌝ }
+    ensures { λ r. ⌜ (
+        let T = tablesOf (now (file .entry)) in
+        let before = walkState T w (now (work .entry)) (now (plan .entry)) in
+        let after = walkState T r (now (work .exit)) (now (plan .exit)) in
+        after ≡ Rules.wholeVariable (ops T) T (address .0) name node ty (fieldsOf T ty) before
+        ) ⌝ }
 {
-    let found = lookup(file, index, work, w.lists, name);
+    let found = lookup(file, index, work, w.lists(), name);
     if found.some {
         return whole_read(file, index, work, plan, node, ty, address, w);
     }
@@ -313,7 +371,12 @@ fn whole_key(
 ) -> Walk
     requires { ⌜ Ready (now file) (now index) ⌝ }
     requires { ⌜ ty < length (tablesOf (now file) .types) ⌝ }
-    ensures { λ r. ⌜ walkState (tablesOf (now (file .entry))) r (now (work .exit)) (now (plan .exit)) ≡ Rules.wholeKey (ops (tablesOf (now (file .entry)))) (tablesOf (now (file .entry))) (address .0) (nodeAt (tablesOf (now (file .entry))) node) node ty (fieldsOf (tablesOf (now (file .entry))) ty) (walkState (tablesOf (now (file .entry))) w (now (work .entry)) (now (plan .entry))) ⌝ }
+    ensures { λ r. ⌜ (
+        let T = tablesOf (now (file .entry)) in
+        let before = walkState T w (now (work .entry)) (now (plan .entry)) in
+        let after = walkState T r (now (work .exit)) (now (plan .exit)) in
+        after ≡ Rules.wholeKey (ops T) T (address .0) (nodeAt T node) node ty (fieldsOf T ty) before
+        ) ⌝ }
 {
     match node_of(file, index, node) {
         NodeView::Var(x) => whole_variable(file, index, work, plan, x, node, ty, address, w),
@@ -335,7 +398,12 @@ pub fn key(
 ) -> Walk
     requires { ⌜ Ready (now file) (now index) ⌝ }
     requires { ⌜ ty < length (tablesOf (now file) .types) ⌝ }
-    ensures { λ r. ⌜ walkState (tablesOf (now (file .entry))) r (now (work .exit)) (now (plan .exit)) ≡ Rules.key (ops (tablesOf (now (file .entry)))) (tablesOf (now (file .entry))) (address .0) node ty (walkState (tablesOf (now (file .entry))) w (now (work .entry)) (now (plan .entry))) ⌝ }
+    ensures { λ r. ⌜ (
+        let T = tablesOf (now (file .entry)) in
+        let before = walkState T w (now (work .entry)) (now (plan .entry)) in
+        let after = walkState T r (now (work .exit)) (now (plan .exit)) in
+        after ≡ Rules.key (ops T) T (address .0) node ty before
+        ) ⌝ }
 {
     let Run::Of(_, _) = record_ty(file, index, ty) else {
         let path = FieldPath::field(0);

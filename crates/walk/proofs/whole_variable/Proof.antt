@@ -1,9 +1,12 @@
 use Rattle.walk.proofs.Whole.{whole-bound, whole-new}
 use Rattle.resolve.proofs.Answers.{kind-is}
-use Rattle.step.specs.Step.{walkState}
+use Rattle.begin.proofs.Starts.{looked-up}
 use borrow.Author.Needs.{needs}
 use Rattle.walk.proofs.whole_variable.Statement.{statement}
 use Rattle.walk.proofs.whole_variable.Tie as tie
+
+lists-requires : tie.Need-lists-requires
+lists-requires c κs = search needs
 
 lookup-requires : tie.Need-lookup-requires
 lookup-requires c κs = search needs
@@ -18,8 +21,7 @@ same-length-2 : tie.Need-same-length-2
 same-length-2 c = search needs
 
 returns : tie.Need-returns
-unfolding walkState
-returns c = whole-bound _ _ _ _ _ _ _ (c .before .before .before .before .before .before .before .before .lookup .result) (c .before .before .before .before .before .before .before .before .lookup .ensures _ _ _) _ (c .before .before .before .before .before .before .before .if1 .taken) (c .before .before .before .before .whole-read .ensures)
+returns c = whole-bound _ _ _ _ _ _ _ (c .before .before .before .before .before .before .before .before .lookup .result) (looked-up _ _ (c .before .before .before .before .before .before .before .before .lookup .result) _ _ _ _ (c .before .before .before .before .before .before .before .before .before .lists .ensures) (c .before .before .before .before .before .before .before .before .lookup .ensures)) _ (c .before .before .before .before .before .before .before .if1 .taken) (c .before .before .before .before .whole-read .ensures)
 
 plain-requires : tie.Need-plain-requires
 plain-requires c κs = search needs
@@ -34,13 +36,13 @@ same-length-3 : tie.Need-same-length-3
 same-length-3 c = search needs
 
 returns-2 : tie.Need-returns-2
-unfolding walkState
-returns-2 c = whole-new _ _ _ _ _ _ _ (c .before .before .before .before .before .before .before .lookup .result) (c .before .before .before .before .before .before .before .lookup .ensures _ _ _) _ (c .before .before .before .before .before .before .if1 .left) _ _ (kind-is _ _ (c .before .before .before .before .before .plain .ensures)) (c .before .before .before .before .skip .ensures _ _ _) (c .before .before .bind .ensures _ _)
+returns-2 c = whole-new _ _ _ _ _ _ _ (c .before .before .before .before .before .before .before .lookup .result) (looked-up _ _ (c .before .before .before .before .before .before .before .lookup .result) _ _ _ _ (c .before .before .before .before .before .before .before .before .lists .ensures) (c .before .before .before .before .before .before .before .lookup .ensures)) _ (c .before .before .before .before .before .before .if1 .left) _ _ (kind-is _ _ (c .before .before .before .before .before .plain .ensures)) (c .before .before .before .before .skip .ensures _ _ _) (c .before .before .bind .ensures _ _)
 
 pub whole-variable-spec : {M : Type 1} → statement M
 whole-variable-spec =
     tie.close
     (tie.spec
+    lists-requires
     lookup-requires
     whole-read-requires
     same-length
