@@ -21,7 +21,7 @@ use Rattle.tables.specs.declared.Run.{Run}
 use Rattle.tables.specs.declared.Run.the-variants as Ru
 use Rattle.step.specs.Step.{walkState}
 use Rattle.step.specs.declared.Walk.{Walk}
-use Rattle.narrow.specs.Narrow.{narrowedBy}
+use Rattle.seek.specs.Narrow.{narrowedBy}
 use Rattle.constrain.specs.Constrain.{isSome}
 use Rattle.constrain.proofs.Narrowings.{after-constant, after-none}
 use Rattle.begin.specs.Begin.{Choosing, unchosen, choosingOf, namedChoice, onlyChoice, alternativeChoice, choosing}

@@ -26,7 +26,7 @@ use Rattle.slots.specs.declared.SlotKind.the-variants as Sk
 use Rattle.step.specs.Step.{walkState}
 use Rattle.step.specs.declared.Walk.{Walk}
 use Rattle.tables.specs.declared.Found.the-variants as Fo
-use Rattle.narrow.specs.Narrow.{narrowedBy}
+use Rattle.seek.specs.Narrow.{narrowedBy}
 use Rattle.constrain.specs.Constrain.{isSome}
 use Rattle.constrain.proofs.Narrowings.{after-constant, after-none}
 use Rattle.begin.specs.Begin.{still, Meeting, settled, meetingOf, meeting}
