@@ -76,6 +76,7 @@ module _ (T : Tables) (a : ℕ) (below : FieldWalk State) where
         pieces : (o : Option (List FieldPattern)) (x : State) → done (elim o [ some fields ↦ Start.Partial x | none ↦ Start.Done (unresolved (ops T) T n s x) ]) ≡ elim o [ some fields ↦ partial (ops T) T a below n t path x | none ↦ unresolved (ops T) T n s x ]
         pieces none x = refl
         pieces (some fields) x = refl
+
         go : (o : Option File.Slot) (x : State) → done (elim o [ some slot ↦ Start.Matched slot x | none ↦ piecesStart T n s x ]) ≡ readAnswer (ops T) T a below n o t path s x
         go none x = pieces (recordFields (nodeAt T n)) x
         go (some slot) x = refl

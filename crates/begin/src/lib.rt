@@ -17,7 +17,8 @@ ghost use Rattle.ready.specs.Ready.{Ready};
 ghost use Rattle.tables.specs.Tables.{SeenRun};
 ghost use Rattle.step.specs.Step.{walkState};
 ghost use Rattle.begin.specs.Pieces.{Fits, fieldsFor, Pieced};
-ghost use Rattle.begin.specs.Begin.{isInjection, startOf, piecesStart, readStart, variableStart, placeStart, start, meetingOf, meeting, choosingOf, alternativeChoice, choosing};
+ghost use Rattle.begin.specs.Begin.{isInjection, startOf, piecesStart, readStart, variableStart, placeStart, start};
+ghost use Rattle.begin.specs.Begin.{meetingOf, meeting, choosingOf, alternativeChoice, choosing};
 use constrain::constrain;
 use constrain::narrow;
 use constrain::ranged;
@@ -134,10 +135,7 @@ pub fn piece_at(file: &[u8], index: &[u16], node: usize, ty: usize, i: usize) ->
     };
     let f = field_ty_at(file, from, i);
     let pattern = field_pattern(file, at, n, f.name);
-    Piece {
-        pattern,
-        ty: f.ty,
-    }
+    Piece { pattern, ty: f.ty }
 }
 
 fn done(w: Walk) -> Begun

@@ -30,7 +30,9 @@ use Rattle.seek.specs.Seek.{sumsOf, countsOf, levelOf, stateOf}
 use Rattle.seek.specs.declared.SeekBuilder.{SeekBuilder}
 use Rattle.lists.specs.Lists.{endsOf, stateWith}
 use Rattle.lists.specs.declared.Ends.{Ends}
-use Rattle.step.specs.Step.{walkState}
+use Rattle.lists.specs.declared.Lists.{Lists}
+use Rattle.step.specs.Step.{walkState, listsOf, withLists}
+use Rattle.step.proofs.Parts.{lists-are}
 use Rattle.step.specs.declared.Walk.{Walk}
 use Rattle.frame.specs.Frames.{frameOf}
 use Rattle.frame.specs.declared.Frame.{Frame}
@@ -60,9 +62,11 @@ pub key-in : (f ix : List ℕ) → Ready f ix → (k : ℕ) → k < length (tabl
 key-in f ix r k h v p el ep = rw (key-is (tablesOf f) v (levelAt (tablesOf f) k) p el ep) (key-sound (tablesOf f) (sound-tables f ix r) k h)
 
 -- a new level, with the lists as they were
-pub begun-is : (T : Tables) (o : Bool) (e : Ends) (b : SeekBuilder) (t : Memory.Target) (w p : List ℕ) → stateOf T b (endsOf e) w p ≡ state false (endsOf e) newLevel t w p → walkState T (record { lists = record { over = o; ends = e }; level = b }) w p ≡ state o (endsOf e) newLevel t w p
-unfolding walkState stateOf
-begun-is T o e b t w p q = ap (λ (s : State). state o (endsOf e) (s .level) (s .target) w p) q
+pub begun-is : (T : Tables) (o : Bool) (e : Ends) (b : SeekBuilder) (t : Memory.Target) (w p : List ℕ) → stateOf T b (endsOf e) w p ≡ state false (endsOf e) newLevel t w p → walkState T (withLists (record { ends = e; level = b }) (record { over = o; ends = e })) w p ≡ state o (endsOf e) newLevel t w p
+unfolding stateOf
+begun-is T o e b t w p q =
+    lists-are T (record { ends = e; level = b }) (withLists (record { ends = e; level = b }) (record { over = o; ends = e })) (record { over = o; ends = e }) w p refl
+    ∙ ap (λ (s : State). state o (endsOf e) (s .level) (s .target) w p) q
 
 -- a level's place in the plan
 pub target-is : (T : Tables) (l : SeekBuilder) (s parts rest : ℕ) → s ≡ Kept.seekOf (levelOf T l) → place (eqb s 0) parts rest ≡ place (Kept.joining (levelOf T l)) parts rest
@@ -70,9 +74,9 @@ target-is T l s parts rest e =
     ap (λ (j : Bool). place j parts rest) (ap (λ (n : ℕ). eqb n 0) e ∙ sym (joining-is l T))
 
 -- no level is kept of a walk that is done
-pub lists-left : (T : Tables) (r : Walk) (work plan : List ℕ) → unleveled (walkState T r work plan) ≡ stateWith (r .lists) newLevel measuring work plan
-unfolding unleveled walkState
-lists-left T r work plan = refl
+pub lists-left : (T : Tables) (r : Walk) (l : Lists) (work plan : List ℕ) → l ≡ listsOf r → stateWith l newLevel measuring work plan ≡ unleveled (walkState T r work plan)
+unfolding unleveled walkState stateOf
+lists-left T r l work plan e = ap (λ (x : Lists). stateWith x newLevel measuring work plan) e
 
 -- whether a level is bare
 some-parts : (n r : ℕ) → 0 < n → false ≡ both (eqb n 0) (eqb r 0)
@@ -90,12 +94,13 @@ unfolding Kept.bare levelOf countsOf sumsOf
 bare-is T l h = no-parts (l .counts .closers + l .counts .others) (l .counts .residuals) h
 
 -- a bare level: its frame written, the lists as the walk left them
-pub framed-is : (T : Tables) (v : File.LevelEntry) (e : Memory.Ends) (at : ℕ) (m : Walk) (work plan plan₁ : List ℕ) → plan₁ ≡ Kept.frame at (levelOf T (m .level)) plan → Kept.bare (levelOf T (m .level)) ≡ true
-    → stateWith (m .lists) newLevel measuring work plan₁ ≡ unleveled (Kept.rewritten T v e at (walkState T m work plan))
-unfolding Kept.rewritten Kept.framed walkState unleveled
-framed-is T v e at m work plan plan₁ ep q =
-    ap (stateWith (m .lists) newLevel measuring work) ep
-    ∙ by-test (λ (r : State). stateWith (m .lists) newLevel measuring work (Kept.frame at (levelOf T (m .level)) plan) ≡ unleveled r) (Kept.bare (levelOf T (m .level))) (λ _. refl) (λ p. absurd (true≢false (sym q ∙ p)))
+pub framed-is : (T : Tables) (v : File.LevelEntry) (e : Memory.Ends) (at : ℕ) (m : Walk) (x : Lists) (work plan plan₁ : List ℕ) → x ≡ listsOf m → plan₁ ≡ Kept.frame at (levelOf T (m .level)) plan → Kept.bare (levelOf T (m .level)) ≡ true
+    → stateWith x newLevel measuring work plan₁ ≡ unleveled (Kept.rewritten T v e at (walkState T m work plan))
+unfolding Kept.rewritten Kept.framed walkState stateOf unleveled
+framed-is T v e at m x work plan plan₁ ex ep q =
+    ap (λ (y : Lists). stateWith y newLevel measuring work plan₁) ex
+    ∙ ap (stateWith (listsOf m) newLevel measuring work) ep
+    ∙ by-test (λ (r : State). stateWith (listsOf m) newLevel measuring work (Kept.frame at (levelOf T (m .level)) plan) ≡ unleveled r) (Kept.bare (levelOf T (m .level))) (λ _. refl) (λ p. absurd (true≢false (sym q ∙ p)))
 
 -- the second walk
 module _ (T : Tables) (at : ℕ) (m : Walk) (f : Frame) (ef : f ≡ frameOf at (levelOf T (m .level))) (h : f .end ≤ planLimit) where
@@ -103,11 +108,11 @@ module _ (T : Tables) (at : ℕ) (m : Walk) (f : Frame) (ef : f ≡ frameOf at (
   l = levelOf T (m .level)
 
   pub rewritten-is : (v : File.LevelEntry) (e : Memory.Ends) (work plan plan₁ : List ℕ) → plan₁ ≡ Kept.frame at l plan → Kept.bare l ≡ false
-      → (t : Memory.Target) → t ≡ place (Kept.joining l) (f .parts) (f .rest) → (b r : State) → b ≡ state (m .lists .over) e newLevel t work plan₁ → r ≡ Kept.walked T v b
+      → (t : Memory.Target) → t ≡ place (Kept.joining l) (f .parts) (f .rest) → (b r : State) → b ≡ state (m .level .over) e newLevel t work plan₁ → r ≡ Kept.walked T v b
       → unleveled r ≡ unleveled (Kept.rewritten T v e at (walkState T m work plan))
-  unfolding Kept.rewritten Kept.framed Kept.begin walkState
+  unfolding Kept.rewritten Kept.framed Kept.begin walkState stateOf
   rewritten-is v e work plan plan₁ ep q t et b r eb er =
-      ap unleveled (er ∙ ap (Kept.walked T v) (eb ∙ ap (λ (x : Memory.Target). state (m .lists .over) e newLevel x work plan₁)
+      ap unleveled (er ∙ ap (Kept.walked T v) (eb ∙ ap (λ (x : Memory.Target). state (m .level .over) e newLevel x work plan₁)
       (et ∙ ap (λ (k : ℕ). place (Kept.joining l) k (f .rest)) (parts-is at l f ef) ∙ ap (λ (k : ℕ). place (Kept.joining l) (Kept.partsAt at l) k) (rest-is at l f ef h))
-      ∙ ap (λ (p : List ℕ). state (m .lists .over) e newLevel (place (Kept.joining l) (Kept.partsAt at l) (Kept.restAt at l)) work p) ep)
-      ∙ by-test (λ (x : State). Kept.walked T v (state (m .lists .over) e newLevel (place (Kept.joining l) (Kept.partsAt at l) (Kept.restAt at l)) work (Kept.frame at l plan)) ≡ x) (Kept.bare l) (λ p. absurd (true≢false (sym p ∙ q))) (λ _. refl))
+      ∙ ap (λ (p : List ℕ). state (m .level .over) e newLevel (place (Kept.joining l) (Kept.partsAt at l) (Kept.restAt at l)) work p) ep)
+      ∙ by-test (λ (x : State). Kept.walked T v (state (m .level .over) e newLevel (place (Kept.joining l) (Kept.partsAt at l) (Kept.restAt at l)) work (Kept.frame at l plan)) ≡ x) (Kept.bare l) (λ p. absurd (true≢false (sym p ∙ q))) (λ _. refl))

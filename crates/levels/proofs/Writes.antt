@@ -18,24 +18,20 @@ use Rattle.state.specs.Levels as Kept
 use Rattle.state.specs.Levels.{written}
 use Rattle.records.specs.Records.{put}
 use Rattle.records.proofs.Stores.{put-sets}
-use Rattle.lists.specs.Lists.{endsOf, stateWith}
+use Rattle.lists.specs.Lists.{endsOf, stateWith, overrun}
 use Rattle.lists.specs.declared.Lists.{Lists}
-use Rattle.lists.specs.declared.Ends.{Ends}
-use Rattle.seek.specs.Seek.{levelOf}
+use Rattle.seek.specs.Seek.{levelOf, targetOf, stateOf}
 use Rattle.runs.specs.Runs.{listsIn}
-use Rattle.step.specs.Step.{walkState}
+use Rattle.step.specs.Step.{walkState, listsOf}
 use Rattle.step.specs.declared.Walk.{Walk}
 use Rattle.levels.specs.Written.{unleveled, between, writtenOf}
 use Rattle.levels.specs.declared.Written.{Written}
 use Rattle.levels.proofs.Between.{settled}
 
 -- where the plan is too long, the lists stand as they were
-stopped-is : (r : Written) (l : Lists) (at : ℕ) (work plan : List ℕ) (level : Level) (t : Memory.Target) → (r .at ≡ at) × (r .lists .over ≡ true) × (r .lists .ends ≡ l .ends) → writtenOf r work plan ≡ between (written at (stop (stateWith l level t work plan)))
+stopped-is : (r : Written) (l : Lists) (at : ℕ) (work plan : List ℕ) (level : Level) (t : Memory.Target) → r ≡ record { at = at; lists = overrun l } → writtenOf r work plan ≡ between (written at (stop (stateWith l level t work plan)))
 unfolding writtenOf between unleveled stop
-stopped-is r l at work plan level t (ea, eo, ee) =
-    ap (λ (k : ℕ). written k (state (r .lists .over) (endsOf (r .lists .ends)) newLevel measuring work plan)) ea
-    ∙ ap (λ (o : Bool). written at (state o (endsOf (r .lists .ends)) newLevel measuring work plan)) eo
-    ∙ ap (λ (e : Ends). written at (state true (endsOf e) newLevel measuring work plan)) ee
+stopped-is r l at work plan level t e = ap (λ (x : Written). writtenOf x work plan) e
 
 module _ (T : Tables) (v : LevelEntry) (e : Memory.Ends) (at : ℕ) where
   measured-over : (m : State) → m .over ≡ true → Kept.measured T v e at m ≡ written at m
@@ -66,22 +62,30 @@ module _ (T : Tables) (v : LevelEntry) (e : Memory.Ends) (at : ℕ) where
     abbrev room : Bool
     room = leb (Kept.levelEnd at (levelOf T (m .level))) (min planLimit (length plan))
 
-    pub over-left : m .lists .over ≡ true → writtenOf (record { at = at; lists = m .lists }) work plan ≡ between (Kept.measured T v e at seen)
-    unfolding walkState writtenOf between unleveled
-    over-left o = ap between (sym (measured-over seen o))
+    module _ (l : Lists) (el : l ≡ listsOf m) where
+      over-of : (b : Bool) → l .over ≡ b → seen .over ≡ b
+      unfolding walkState stateOf
+      over-of b o = ap (λ (x : Lists). x .over) (sym el) ∙ o
 
-    pub long-left : (r : Written) → m .lists .over ≡ false → room ≡ false → (r .at ≡ at) × (r .lists .over ≡ true) × (r .lists .ends ≡ m .lists .ends) → writtenOf r work plan ≡ between (Kept.measured T v e at seen)
-    unfolding walkState
-    long-left r o b s = stopped-is r (m .lists) at work plan _ _ s ∙ ap between (sym (measured-long seen o b))
+      pub over-left : l .over ≡ true → writtenOf (record { at = at; lists = l }) work plan ≡ between (Kept.measured T v e at seen)
+      unfolding walkState stateOf writtenOf between unleveled
+      over-left o = ap (λ (x : Lists). written at (stateWith x newLevel measuring work plan)) el ∙ ap between (sym (measured-over seen (over-of true o)))
 
-    pub fits-left : (r : Written) (work₁ plan₁ : List ℕ) → m .lists .over ≡ false → room ≡ true → r .at ≡ Kept.levelEnd at (levelOf T (m .level))
-        → stateWith (r .lists) newLevel measuring work₁ plan₁ ≡ unleveled (Kept.rewritten T v e at seen)
-        → writtenOf r work₁ plan₁ ≡ between (Kept.measured T v e at seen)
-    unfolding walkState writtenOf between
-    fits-left r work₁ plan₁ o b ea s =
-        ap (λ (k : ℕ). written k (stateWith (r .lists) newLevel measuring work₁ plan₁)) ea
-        ∙ ap (written (Kept.levelEnd at (levelOf T (m .level)))) s
-        ∙ ap between (sym (measured-fits seen o b))
+      pub long-left : (r : Written) → l .over ≡ false → room ≡ false → r ≡ record { at = at; lists = overrun l } → writtenOf r work plan ≡ between (Kept.measured T v e at seen)
+      unfolding walkState stateOf
+      long-left r o b s =
+          stopped-is r l at work plan (levelOf T (m .level)) (targetOf (m .level .target)) s
+          ∙ ap (λ (x : Lists). between (written at (stop (stateWith x (levelOf T (m .level)) (targetOf (m .level .target)) work plan)))) el
+          ∙ ap between (sym (measured-long seen (over-of false o) b))
+
+      pub fits-left : (r : Written) (work₁ plan₁ : List ℕ) → l .over ≡ false → room ≡ true → r .at ≡ Kept.levelEnd at (levelOf T (m .level))
+          → stateWith (r .lists) newLevel measuring work₁ plan₁ ≡ unleveled (Kept.rewritten T v e at seen)
+          → writtenOf r work₁ plan₁ ≡ between (Kept.measured T v e at seen)
+      unfolding walkState stateOf writtenOf between
+      fits-left r work₁ plan₁ o b ea s =
+          ap (λ (k : ℕ). written k (stateWith (r .lists) newLevel measuring work₁ plan₁)) ea
+          ∙ ap (written (Kept.levelEnd at (levelOf T (m .level)))) s
+          ∙ ap between (sym (measured-fits seen (over-of false o) b))
 
 -- a level from what the one before left
 pub level-is : (T : Tables) (v : LevelEntry) (w : Written) (work plan : List ℕ) (b m : State) (r : Kept.Written) → b ≡ state (w .lists .over) (endsOf (w .lists .ends)) newLevel (record { writing = false; joining = false; partsAt = 0; restAt = 0 }) work plan → m ≡ Kept.walked T v b
@@ -110,7 +114,7 @@ module _ (w : Written) (work plan : List ℕ) where
       sym (settled w work plan)
       ∙ ap between (by-test (λ (r : Kept.Written). writtenOf w work plan ≡ r) (writtenOf w work plan .state .over) (λ q. refl) (λ q. absurd (true≢false (sym o ∙ q))))
 
-  pub finished-long : (r : Written) (n : ℕ) → n ≡ length bytes → w .lists .over ≡ false → min planLimit (length plan) < w .at + n → (r .at ≡ w .at) × (r .lists .over ≡ true) × (r .lists .ends ≡ w .lists .ends) → writtenOf r work plan ≡ between (Kept.finished (writtenOf w work plan))
+  pub finished-long : (r : Written) (n : ℕ) → n ≡ length bytes → w .lists .over ≡ false → min planLimit (length plan) < w .at + n → r ≡ record { at = w .at; lists = overrun (w .lists) } → writtenOf r work plan ≡ between (Kept.finished (writtenOf w work plan))
   finished-long r n en o h s =
       stopped-is r (w .lists) (w .at) work plan newLevel measuring s
       ∙ ap between (sym (finished-live o ∙ by-test (λ (r : Kept.Written). r ≡ written (w .at) (stop before)) (leb (w .at + length bytes) (min planLimit (length plan)))

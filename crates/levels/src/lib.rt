@@ -1,6 +1,7 @@
-// A level measured, then written at its place in the plan; the list of levels, each from exactly what the one before left; the four lists after them.
+// A level measured, then written at its place in the plan; the list of levels, each from exactly what the one before left;
+// the four lists after them.
 ghost use mathlib.Core.Path.{_≡_};
-ghost use mathlib.Core.Bool.{true, false};
+ghost use mathlib.Core.Bool.{true};
 ghost use mathlib.Core.List.{List};
 ghost use Prim.Native.Nat.{ℕ, _≤_, _<_};
 ghost use lib.ListN.{length};
@@ -12,7 +13,7 @@ ghost use Rattle.file.specs.Tables.{tablesOf};
 ghost use Rattle.views.specs.Views.{levelAt};
 ghost use Rattle.ready.specs.Ready.{Ready};
 ghost use Rattle.seek.specs.Seek.{levelOf, targetOf};
-ghost use Rattle.lists.specs.Lists.{endsOf, stateWith};
+ghost use Rattle.lists.specs.Lists.{endsOf, stateWith, overrun};
 ghost use Rattle.frame.specs.Frames.{frameOf};
 ghost use Rattle.step.specs.Step.{walkState};
 ghost use Rattle.levels.specs.Written.{unleveled, between, writtenOf};
@@ -46,16 +47,21 @@ pub struct Written {
 fn begun(over: bool, ends: Ends, target: Target) -> Walk
     ensures { λ r. ⌜ ((T : Tables) (w p : List ℕ) → walkState T r w p ≡ state over (endsOf ends) newLevel (targetOf target) w p) ⌝ }
 {
-    let level = SeekBuilder::new(target);
-    let lists = Lists { over, ends };
-    Walk { lists, level }
+    let mut level = SeekBuilder::new(target);
+    level.over = over;
+    Walk { ends, level }
 }
 
 // The walk of level k.
 fn walked(file: &[u8], index: &[u16], work: &mut [u8], plan: &mut [u8], k: usize, w: Walk) -> Walk
     requires { ⌜ Ready (now file) (now index) ⌝ }
     requires { ⌜ k < length (tablesOf (now file) .levels) ⌝ }
-    ensures { λ r. ⌜ walkState (tablesOf (now (file .entry))) r (now (work .exit)) (now (plan .exit)) ≡ Kept.walked (tablesOf (now (file .entry))) (levelAt (tablesOf (now (file .entry))) k) (walkState (tablesOf (now (file .entry))) w (now (work .entry)) (now (plan .entry))) ⌝ }
+    ensures { λ r. ⌜ (
+        let T = tablesOf (now (file .entry)) in
+        let before = walkState T w (now (work .entry)) (now (plan .entry)) in
+        let after = walkState T r (now (work .exit)) (now (plan .exit)) in
+        after ≡ Kept.walked T (levelAt T k) before
+        ) ⌝ }
 {
     let e = level_at(file, index, k);
     let p = predicate_of(file, index, e.predicate);
@@ -66,7 +72,11 @@ fn walked(file: &[u8], index: &[u16], work: &mut [u8], plan: &mut [u8], k: usize
 // A level's place in the plan, as it was measured.
 fn writing(f: Frame, l: SeekBuilder) -> Target
     requires { ⌜ (f .parts < 65536) × (f .rest < 65536) ⌝ }
-    ensures { λ r. ⌜ ((T : Tables) → targetOf r ≡ record { writing = true; joining = Kept.joining (levelOf T l); partsAt = f .parts; restAt = f .rest }) ⌝ }
+    ensures { λ r. ⌜ (
+        (T : Tables) →
+        let joining = Kept.joining (levelOf T l) in
+        targetOf r ≡ record { writing = true; joining = joining; partsAt = f .parts; restAt = f .rest }
+        ) ⌝ }
 {
     Target {
         writing: true,
@@ -102,22 +112,26 @@ fn rewritten(
     requires { ⌜ Ready (now file) (now index) ⌝ }
     requires { ⌜ k < length (tablesOf (now file) .levels) ⌝ }
     requires { ⌜ (f ≡ frameOf at (levelOf (tablesOf (now file)) (m .level))) × (f .end ≤ planLimit) ⌝ }
-    ensures { λ r. ⌜ stateWith r newLevel measuring (now (work .exit)) (now (plan .exit)) ≡ unleveled (Kept.rewritten (tablesOf (now (file .entry))) (levelAt (tablesOf (now (file .entry))) k) (endsOf ends) at (walkState (tablesOf (now (file .entry))) m (now (work .entry)) (now (plan .entry)))) ⌝ }
+    ensures { λ r. ⌜ (
+        let T = tablesOf (now (file .entry)) in
+        let before = walkState T m (now (work .entry)) (now (plan .entry)) in
+        let after = stateWith r newLevel measuring (now (work .exit)) (now (plan .exit)) in
+        after ≡ unleveled (Kept.rewritten T (levelAt T k) (endsOf ends) at before)
+        ) ⌝ }
 {
     let l = m.level;
-    let lists = m.lists;
     put_frame(file, index, plan, at, f, l);
     if bare(l) {
-        return lists;
+        return m.lists();
     }
-    let w = begun(lists.over, ends, writing(f, l));
+    let w = begun(l.over, ends, writing(f, l));
     let r = walked(file, index, work, plan, k, w);
-    r.lists
+    r.lists()
 }
 
 // The plan is too long.
 fn stopped(at: usize, l: Lists) -> Written
-    ensures { λ r. ⌜ (r .at ≡ at) × (r .lists .over ≡ true) × (r .lists .ends ≡ l .ends) ⌝ }
+    ensures { λ r. ⌜ r ≡ record { at = at; lists = overrun l } ⌝ }
 {
     let mut lists = l;
     lists.over = true;
@@ -137,9 +151,15 @@ fn measured(
 ) -> Written
     requires { ⌜ Ready (now file) (now index) ⌝ }
     requires { ⌜ (k < length (tablesOf (now file) .levels)) × (at ≤ planLimit) ⌝ }
-    ensures { λ r. ⌜ (writtenOf r (now (work .exit)) (now (plan .exit)) ≡ between (Kept.measured (tablesOf (now (file .entry))) (levelAt (tablesOf (now (file .entry))) k) (endsOf ends) at (walkState (tablesOf (now (file .entry))) m (now (work .entry)) (now (plan .entry))))) × (r .at ≤ planLimit) ⌝ }
+    ensures writes { λ r. ⌜ (
+        let T = tablesOf (now (file .entry)) in
+        let before = walkState T m (now (work .entry)) (now (plan .entry)) in
+        let after = writtenOf r (now (work .exit)) (now (plan .exit)) in
+        after ≡ between (Kept.measured T (levelAt T k) (endsOf ends) at before)
+        ) ⌝ }
+    ensures bounded { λ r. ⌜ r .at ≤ planLimit ⌝ }
 {
-    let lists = m.lists;
+    let lists = m.lists();
     if lists.over {
         return Written { at, lists };
     }
@@ -170,7 +190,13 @@ fn level(
 ) -> Written
     requires { ⌜ Ready (now file) (now index) ⌝ }
     requires { ⌜ (k < length (tablesOf (now file) .levels)) × (w .at ≤ planLimit) ⌝ }
-    ensures { λ r. ⌜ (writtenOf r (now (work .exit)) (now (plan .exit)) ≡ between (Kept.level (tablesOf (now (file .entry))) (levelAt (tablesOf (now (file .entry))) k) (writtenOf w (now (work .entry)) (now (plan .entry))))) × (r .at ≤ planLimit) ⌝ }
+    ensures writes { λ r. ⌜ (
+        let T = tablesOf (now (file .entry)) in
+        let before = writtenOf w (now (work .entry)) (now (plan .entry)) in
+        let after = writtenOf r (now (work .exit)) (now (plan .exit)) in
+        after ≡ between (Kept.level T (levelAt T k) before)
+        ) ⌝ }
+    ensures bounded { λ r. ⌜ r .at ≤ planLimit ⌝ }
 {
     let lists = w.lists;
     let ends = lists.ends;
@@ -188,7 +214,13 @@ fn level(
 fn levels(file: &[u8], index: &[u16], work: &mut [u8], plan: &mut [u8], start: Written) -> Written
     requires { ⌜ Ready (now file) (now index) ⌝ }
     requires { ⌜ start .at ≤ planLimit ⌝ }
-    ensures { λ r. ⌜ (writtenOf r (now (work .exit)) (now (plan .exit)) ≡ between (Kept.levels (tablesOf (now (file .entry))) (tablesOf (now (file .entry)) .levels) (writtenOf start (now (work .entry)) (now (plan .entry))))) × (r .at ≤ planLimit) ⌝ }
+    ensures writes { λ r. ⌜ (
+        let T = tablesOf (now (file .entry)) in
+        let before = writtenOf start (now (work .entry)) (now (plan .entry)) in
+        let after = writtenOf r (now (work .exit)) (now (plan .exit)) in
+        after ≡ between (Kept.levels T (T .levels) before)
+        ) ⌝ }
+    ensures bounded { λ r. ⌜ r .at ≤ planLimit ⌝ }
 {
     let n = count_of(file, index, 9);
     let mut w = start;
@@ -207,7 +239,11 @@ fn levels(file: &[u8], index: &[u16], work: &mut [u8], plan: &mut [u8], start: W
 // The four lists after the levels, where they fit.
 fn finished(work: &[u8], plan: &mut [u8], w: Written) -> Written
     requires { ⌜ w .at ≤ planLimit ⌝ }
-    ensures { λ r. ⌜ writtenOf r (now (work .entry)) (now (plan .exit)) ≡ between (Kept.finished (writtenOf w (now (work .entry)) (now (plan .entry)))) ⌝ }
+    ensures { λ r. ⌜ (
+        let before = writtenOf w (now (work .entry)) (now (plan .entry)) in
+        let after = writtenOf r (now (work .entry)) (now (plan .exit)) in
+        after ≡ between (Kept.finished before)
+        ) ⌝ }
 {
     let lists = w.lists;
     if lists.over {
@@ -229,7 +265,11 @@ fn finished(work: &[u8], plan: &mut [u8], w: Written) -> Written
 // The whole plan.
 pub fn write(file: &[u8], index: &[u16], work: &mut [u8], plan: &mut [u8]) -> Written
     requires { ⌜ Ready (now file) (now index) ⌝ }
-    ensures { λ r. ⌜ writtenOf r (now (work .exit)) (now (plan .exit)) ≡ between (Kept.compiled (tablesOf (now (file .entry))) (now (work .entry)) (now (plan .entry))) ⌝ }
+    ensures { λ r. ⌜ (
+        let T = tablesOf (now (file .entry)) in
+        let after = writtenOf r (now (work .exit)) (now (plan .exit)) in
+        after ≡ between (Kept.compiled T (now (work .entry)) (now (plan .entry)))
+        ) ⌝ }
 {
     put16(plan, 0, count_of(file, index, 9));
     let ends = Ends {

@@ -1,4 +1,5 @@
 use denote.Ref.{now}
+use mathlib.Core.Path.{ap}
 use native.Mathlib.Omega.{arith}
 use Rattle.file.specs.Tables.{tablesOf}
 use Rattle.seek.specs.Seek.{levelOf}
@@ -6,21 +7,20 @@ use Rattle.lists.specs.Lists.{endsOf}
 use Rattle.views.specs.Views.{levelAt}
 use Rattle.frame.proofs.Places.{past-limit, past-room, in-room, end-is}
 use Rattle.levels.proofs.Writes.{over-left, long-left, fits-left}
+use Rattle.levels.specs.declared.Written.{Written}
 use borrow.Author.Needs.{needs}
 use Rattle.levels.proofs.measured.Statement.{statement}
 use Rattle.levels.proofs.measured.Tie as tie
-use Rattle.levels.proofs.measured.Reads as reads
-use Rattle.levels.proofs.measured.Lts as lts
-use Rattle.frame.proofs.measure.Reads as measure-reads
-use Rattle.levels.proofs.rewritten.Reads as rewritten-reads
-use Rattle.levels.proofs.stopped.Reads as stopped-reads
+
+lists-requires : tie.Need-lists-requires
+lists-requires c κs = search needs
 
 returns : tie.Need-returns
 returns c =
     let s = c .before .before .before .before .before .before in
     let a = s .args in
     let T = tablesOf (now (a .file)) in
-    (over-left T (levelAt T (a .k)) (endsOf (a .ends)) (a .at) (a .m) (now (a .work)) (now (a .plan)) (c .if1 .taken), s .pre .1 .1)
+    (over-left T (levelAt T (a .k)) (endsOf (a .ends)) (a .at) (a .m) (now (a .work)) (now (a .plan)) _ (c .before .lists .ensures) (c .if1 .taken), s .pre .1 .1)
 
 measure-requires : tie.Need-measure-requires
 measure-requires c κs = search needs
@@ -33,8 +33,8 @@ returns-2 c =
     let s = c .before .before .before .before .before .before .before .before .before .before in
     let a = s .args in
     let T = tablesOf (now (a .file)) in (
-      long-left T (levelAt T (a .k)) (endsOf (a .ends)) (a .at) (a .m) (now (a .work)) (now (a .plan)) _ (c .before .before .before .before .if1 .left) (past-limit (a .at) (levelOf T (a .m .level)) _ (c .before .before .measure .ensures) (c .before .if2 .taken) _) (c .stopped .ensures),
-      omega (arith, c .stopped .ensures .0, s .pre .1 .1),
+      long-left T (levelAt T (a .k)) (endsOf (a .ends)) (a .at) (a .m) (now (a .work)) (now (a .plan)) _ (c .before .before .before .before .before .lists .ensures) _ (c .before .before .before .before .if1 .left) (past-limit (a .at) (levelOf T (a .m .level)) _ (c .before .before .measure .ensures) (c .before .if2 .taken) _) (c .stopped .ensures),
+      omega (arith, ap (λ (x : Written). x .at) (c .stopped .ensures), s .pre .1 .1),
     )
 
 stopped-requires-2 : tie.Need-stopped-requires-2
@@ -45,8 +45,8 @@ returns-3 c =
     let s = c .before .before .before .before .before .before .before .before .before .before .before in
     let a = s .args in
     let T = tablesOf (now (a .file)) in (
-      long-left T (levelAt T (a .k)) (endsOf (a .ends)) (a .at) (a .m) (now (a .work)) (now (a .plan)) _ (c .before .before .before .before .before .if1 .left) (past-room (a .at) (levelOf T (a .m .level)) _ (c .before .before .before .measure .ensures) (c .before .before .if2 .left) _ (c .before .if3 .taken)) (c .stopped2 .ensures),
-      omega (arith, c .stopped2 .ensures .0, s .pre .1 .1),
+      long-left T (levelAt T (a .k)) (endsOf (a .ends)) (a .at) (a .m) (now (a .work)) (now (a .plan)) _ (c .before .before .before .before .before .before .lists .ensures) _ (c .before .before .before .before .before .if1 .left) (past-room (a .at) (levelOf T (a .m .level)) _ (c .before .before .before .measure .ensures) (c .before .before .if2 .left) _ (c .before .if3 .taken)) (c .stopped2 .ensures),
+      omega (arith, ap (λ (x : Written). x .at) (c .stopped2 .ensures), s .pre .1 .1),
     )
 
 rewritten-requires : tie.Need-rewritten-requires
@@ -66,12 +66,13 @@ returns-4 c =
     let L = levelOf T (a .m .level) in
     let ef = c .before .before .before .before .before .before .before .before .before .measure .ensures in
     let h = c .before .before .before .before .before .before .before .before .if2 .left in
-    (fits-left T (levelAt T (a .k)) (endsOf (a .ends)) (a .at) (a .m) (now (a .work)) (now (a .plan)) _ _ _ (c .before .before .before .before .before .before .before .before .before .before .before .if1 .left) (in-room (a .at) L _ ef h _ (c .before .before .before .before .before .before .before .if3 .left)) (end-is (a .at) L _ ef h) (c .before .before .before .before .rewritten .ensures), h)
+    (fits-left T (levelAt T (a .k)) (endsOf (a .ends)) (a .at) (a .m) (now (a .work)) (now (a .plan)) _ (c .before .before .before .before .before .before .before .before .before .before .before .before .lists .ensures) _ _ _ (c .before .before .before .before .before .before .before .before .before .before .before .if1 .left) (in-room (a .at) L _ ef h _ (c .before .before .before .before .before .before .before .if3 .left)) (end-is (a .at) L _ ef h) (c .before .before .before .before .rewritten .ensures), h)
 
 pub measured-spec : {M : Type 1} → statement M
 measured-spec =
     tie.close
     (tie.spec
+    lists-requires
     returns
     measure-requires
     stopped-requires

@@ -10,13 +10,6 @@ use Rattle.levels.proofs.Walks.{framed-is, rewritten-is, lists-left}
 use borrow.Author.Needs.{needs}
 use Rattle.levels.proofs.rewritten.Statement.{statement}
 use Rattle.levels.proofs.rewritten.Tie as tie
-use Rattle.levels.proofs.rewritten.Reads as reads
-use Rattle.levels.proofs.rewritten.Lts as lts
-use Rattle.frame.proofs.put_frame.Reads as put-frame-reads
-use Rattle.levels.proofs.bare.Reads as bare-reads
-use Rattle.levels.proofs.begun.Reads as begun-reads
-use Rattle.levels.proofs.walked.Reads as walked-reads
-use Rattle.levels.proofs.writing.Reads as writing-reads
 
 put-frame-requires : tie.Need-put-frame-requires
 put-frame-requires c κs = search needs
@@ -27,16 +20,19 @@ bare-requires c κs = search needs
 same-length : tie.Need-same-length
 same-length c = search needs
 
+lists-requires : tie.Need-lists-requires
+lists-requires c κs = search needs
+
 returns : tie.Need-returns
 returns c =
     let s = c .before .before .before .before .before .before .before .before .before .before .before .before in
     let a = s .args in
     let T = tablesOf (now (a .file)) in
-    framed-is T (levelAt T (a .k)) (endsOf (a .ends)) (a .at) (a .m) (now (a .work)) (now (a .plan)) _ (c .before .before .before .before .put-frame .ensures) (sym (c .before .bare .ensures T) ∙ c .if1 .taken)
+    framed-is T (levelAt T (a .k)) (endsOf (a .ends)) (a .at) (a .m) _ (now (a .work)) (now (a .plan)) _ (c .lists .ensures) (c .before .before .before .before .before .put-frame .ensures) (sym (c .before .before .bare .ensures T) ∙ c .before .if1 .taken)
 
 writing-requires : tie.Need-writing-requires
 writing-requires c κs =
-    let s = c .before .before .before .before .before .before .before .before .before .before .before .before in
+    let s = c .before .before .before .before .before .before .before .before .before .before .before in
     let L = levelOf (tablesOf (now (s .args .file))) (s .args .m .level) in
     (omega (arith, parts-near (s .args .at) L (s .args .f) (s .pre .1 .1 .0) (s .pre .1 .1 .1)), omega (arith, rest-near (s .args .at) L (s .args .f) (s .pre .1 .1 .0) (s .pre .1 .1 .1)))
 
@@ -44,20 +40,23 @@ begun-requires : tie.Need-begun-requires
 begun-requires c κs = search needs
 
 walked-requires : tie.Need-walked-requires
-walked-requires c κs = let s = c .before .before .before .before .before .before .before .before .before .before .before .before .before .before .before .before in (s .pre .0, s .pre .1 .0)
+walked-requires c κs = let s = c .before .before .before .before .before .before .before .before .before .before .before .before .before .before .before in (s .pre .0, s .pre .1 .0)
+
+lists-requires-2 : tie.Need-lists-requires-2
+lists-requires-2 c κs = search needs
 
 same-length-2 : tie.Need-same-length-2
 same-length-2 c = search needs
 
 same-length-3 : tie.Need-same-length-3
-same-length-3 c = search needs
+same-length-3 c = c .before .before .before .before .before .walked .kept .1 .1 .1 .0 ∙ c .before .before .before .before .before .before .before .before .before .before .before .before .before .before .put-frame .kept .1 .1 .0
 
 returns-2 : tie.Need-returns-2
 returns-2 c =
-    let s = c .before .before .before .before .before .before .before .before .before .before .before .before .before .before .before .before .before .before .before .before .before .before in
+    let s = c .before .before .before .before .before .before .before .before .before .before .before .before .before .before .before .before .before .before .before .before .before in
     let a = s .args in
     let T = tablesOf (now (a .file)) in
-    sym (lists-left T (c .before .before .before .before .before .walked .result) _ _)
+    lists-left T _ _ _ _ (c .lists2 .ensures)
     ∙ rewritten-is T (a .at) (a .m) (a .f) (s .pre .1 .1 .0) (s .pre .1 .1 .1) _ _ _ _ _ (c .before .before .before .before .before .before .before .before .before .before .before .before .before .before .put-frame .ensures) (sym (c .before .before .before .before .before .before .before .before .before .before .before .bare .ensures T) ∙ c .before .before .before .before .before .before .before .before .before .before .if1 .left) _ (c .before .before .before .before .before .before .before .before .before .writing .ensures T) _ _ (c .before .before .before .before .before .before .before .before .begun .ensures T _ _) (c .before .before .before .before .before .walked .ensures)
 
 pub rewritten-spec : {M : Type 1} → statement M
@@ -66,11 +65,13 @@ rewritten-spec =
     (tie.spec
     put-frame-requires
     bare-requires
+    lists-requires
     same-length
     returns
     writing-requires
     begun-requires
     walked-requires
+    lists-requires-2
     same-length-2
     same-length-3
     returns-2)

@@ -3,7 +3,7 @@ use Rattle.levels.proofs.stopped.Statement.{statement}
 use Rattle.levels.proofs.stopped.Tie as tie
 
 returns : tie.Need-returns
-returns c = (refl, refl, refl)
+returns c = refl
 
 pub stopped-spec : {M : Type 1} → statement M
 stopped-spec = tie.close (tie.spec returns)

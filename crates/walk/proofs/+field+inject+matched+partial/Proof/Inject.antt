@@ -28,7 +28,7 @@ pub inject-returns : (t : ℕ) → inject-lts.Need-returns (inject-claims t) (in
 inject-returns t c = inject-done _ _ _ _ _ _ _ (c .before .before .before .before .before .before .before .choose .result) (c .before .before .before .before .before .before .before .choose .ensures) (c .enum-told .given .1)
 
 pub inject-payload-requires : (t : ℕ) → inject-lts.Need-payload-requires (inject-claims t) (inject-at t) inject.Post
-inject-payload-requires t c κs = 
+inject-payload-requires t c κs =
     let p = c .before .before .before .before .before .before .before .before .before .before .before .before .before .before .before .before .pre .1 in
     has-room _ (sound-tables _ _ (p .0)) _ _ _ (p .1) (inject-lower _ 0 _ _ _ _ _ (c .before .before .before .before .before .before .before .before .before .choose .result) (c .before .before .before .before .before .before .before .before .before .choose .ensures) _ _ _ (c .before .before .choice .given .1) (sound-tables _ _ (p .0)) (p .1 .known))
 
@@ -36,7 +36,7 @@ pub inject-tag-requires : (t : ℕ) → inject-lts.Need-tag-requires (inject-cla
 inject-tag-requires t c κs = search needs
 
 pub inject-field-requires : (t : ℕ) → inject-lts.Need-field-requires (inject-claims t) (inject-at t) inject.Post
-inject-field-requires t c κs = 
+inject-field-requires t c κs =
     let p = c .before .before .before .before .before .before .before .before .before .before .before .before .before .before .before .before .before .before .before .before .before .before .before .pre .1 in
     let l = inject-lower _ 0 _ _ _ _ _ (c .before .before .before .before .before .before .before .before .before .before .before .before .before .before .before .before .choose .result) (c .before .before .before .before .before .before .before .before .before .before .before .before .before .before .before .before .choose .ensures) _ _ _ (c .before .before .before .before .before .before .before .before .before .choice .given .1) (sound-tables _ _ (p .0)) (p .1 .known) in
     (omega (arith, l .lower, c .before .before .before .before .before .before .before .before .before .before .before .before .before .before .before .before .before .before .before .before .before .before .before .pre .0), (p .0, fits-payload _ (sound-tables _ _ (p .0)) _ _ _ (p .1) l _ _ (c .before .before .before .before .before .before .payload .ensures)))
@@ -51,7 +51,7 @@ pub inject-same-length-4 : (t : ℕ) → inject-lts.Need-same-length-4 (inject-c
 inject-same-length-4 t c = c .before .before .closer .kept .1 .1 .0 ∙ c .before .before .before .before .before .before .before .before .field .kept .1 .1 .1 .0 ∙ c .before .before .before .before .before .before .before .before .before .before .before .before .before .tag .kept .1 .1 .1 .0 ∙ c .before .before .before .before .before .before .before .before .before .before .before .before .before .before .before .before .before .before .before .before .before .before .before .before .before .choose .kept .1 .1 .1 .0
 
 pub inject-returns-2 : (t : ℕ) → inject-lts.Need-returns-2 (inject-claims t) (inject-at t) inject.Post
-inject-returns-2 t c = 
+inject-returns-2 t c =
     let p = c .before .before .before .before .before .before .before .before .before .before .before .before .before .before .before .before .before .before .before .before .before .before .before .before .before .before .before .before .before .before .before .before .pre .1 in
     let l = inject-lower _ 0 _ _ _ _ _ (c .before .before .before .before .before .before .before .before .before .before .before .before .before .before .before .before .before .before .before .before .before .before .before .before .before .choose .result) (c .before .before .before .before .before .before .before .before .before .before .before .before .before .before .before .before .before .before .before .before .before .before .before .before .before .choose .ensures) _ _ _ (c .before .before .before .before .before .before .before .before .before .before .before .before .before .before .before .before .before .before .choice .given .1) (sound-tables _ _ (p .0)) (p .1 .known) in
     inject-goes _ _ _ _ _ _ _ (c .before .before .before .before .before .before .before .before .before .before .before .before .before .before .before .before .before .before .before .before .before .before .before .before .before .choose .result) (c .before .before .before .before .before .before .before .before .before .before .before .before .before .before .before .before .before .before .before .before .before .before .before .before .before .choose .ensures) _ _ _ (c .before .before .before .before .before .before .before .before .before .before .before .before .before .before .before .before .before .before .choice .given .1) l _ (c .before .before .before .before .before .before .before .before .before .before .before .before .before .before .before .payload .ensures) _ _ _ (c .before .before .before .before .before .before .before .before .before .before .before .before .before .tag .ensures _ _) (c .before .before .before .before .before .before .before .before .field .ensures)

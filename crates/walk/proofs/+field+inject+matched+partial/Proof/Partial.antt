@@ -45,7 +45,7 @@ pub partial-then-requires : (t : ℕ) → partial-lts.Need-then-requires (partia
 partial-then-requires t c κs = has-room _ (sound-tables _ _ (c .before .before .before .before .before .before .before .before .before .before .before .before .pre .1 .0)) _ _ _ (c .before .before .before .before .before .before .before .before .before .before .before .before .pre .1 .1) (c .before .before .before .piece-at .ensures .lower)
 
 pub partial-field-requires : (t : ℕ) → partial-lts.Need-field-requires (partial-claims t) (partial-at t) partial.Post partial-Inv-loop partial-μ-loop
-partial-field-requires t c κs = 
+partial-field-requires t c κs =
     let p = c .before .before .before .before .before .before .before .before .before .before .before .before .before .before .before .pre .1 in
     let l = c .before .before .before .before .before .before .piece-at .ensures .lower in
     (omega (arith, l .lower, c .before .before .before .before .before .before .before .before .before .before .before .before .before .before .before .pre .0), (p .0, fits-then _ (sound-tables _ _ (p .0)) _ _ _ (p .1) l _ _ (c .before .before .then .ensures)))
@@ -54,7 +54,7 @@ pub partial-loop-less : (t : ℕ) → partial-lts.Need-loop-less (partial-claims
 partial-loop-less t c = omega (arith, c .before .before .before .before .before .before .before .before .before .before .before .before .loop-test .taken)
 
 pub partial-loop-again : (t : ℕ) → partial-lts.Need-loop-again (partial-claims t) (partial-at t) partial.Post partial-Inv-loop partial-μ-loop
-partial-loop-again t c = 
+partial-loop-again t c =
     going-given _ _ _ _ _ _ _ _ _ _ _ _ _ (c .before .before .before .before .before .before .before .before .before .before .before .before .before .loop .inv) (omega (arith, c .before .before .before .before .before .before .before .before .before .before .before .before .loop-test .taken, c .before .before .before .before .before .before .before .before .before .before .before .before .before .before .before .pieces .ensures .0)) _ (c .before .before .before .before .before .before .before .before .before .before .before .piece-at .ensures) _ _ _ (c .before .before .before .before .field .kept .1 .1 .0) (c .before .before .before .before .field .kept .1 .1 .1 .0)
     _ (c .before .before .before .before .before .before .before .before .before .pattern .given .1) _ (c .before .before .before .before .before .before .before .then .ensures) (c .before .before .before .before .field .ensures)
 
