@@ -1,5 +1,5 @@
 -- From how a call ends to what the written rules say of it.
-use mathlib.Core.Path.{_≡_, refl, sym, ap, _∙_}
+use mathlib.Core.Path.{_≡_, refl, sym, ap, _∙_, subst, subst₂}
 use mathlib.Core.List.{List, [], _∷_, _++_}
 use Prim.Native.Nat.{ℕ, suc, _+_, _-_, _<_}
 use native.Mathlib.Nat.{sub-zero}
@@ -7,7 +7,10 @@ use lib.ListN.{length, take, getD, replicate}
 use lib.Seq.{length-take-le}
 use Rattle.rules.specs.Base.{Each, done, more}
 use Rattle.rules.specs.Compile.{returned, buffer, compiled, compile, outcome}
-use Rattle.rules.specs.Demand1.{Byte}
+use Rattle.rules.specs.Demand1.{Byte, refusals, Demand1}
+use Rattle.rules.specs.Demand3.{Demand3}
+use Rattle.rules.proofs.Demand1.{demand1}
+use Rattle.rules.proofs.Demand3.{demand3}
 use Rattle.compile.specs.Endings.{zeroed, outcomeOf, lengthOf, answerOf, Within}
 use Rattle.compile.specs.declared.Ending.{Ending}
 use Rattle.compile.specs.declared.Ending.the-variants.{Planned, Refused}
@@ -38,6 +41,17 @@ module _ (f p w : List ℕ) (e : Ending) (p′ : List ℕ) (is : outcomeOf e p�
   pub work-is : (w′ w″ : List ℕ) → length w′ ≡ length w → w″ ≡ zeroed w′ 0 → w″ ≡ compile f p w .work
   unfolding compile compiled
   work-is w′ w″ l q = q ∙ zeroed-whole w′ ∙ ap (λ (k : ℕ). replicate k 0) l
+
+-- The demands, said of what a call returned and left.
+module _ (f p w : List ℕ) (r : ℕ) (p′ : List ℕ) (rs : r ≡ compile f p w .result) (ps : p′ ≡ compile f p w .plan) where
+  pub demand1-is : (w′ : List ℕ) → w′ ≡ compile f p w .work → Demand1 refusals r p w p′ w′
+  demand1-is w′ ws =
+      subst (λ (x : ℕ). Demand1 refusals x p w p′ w′) (sym rs)
+      (subst₂ (λ (x y : List ℕ). Demand1 refusals (compile f p w .result) p w x y) (sym ps) (sym ws) (demand1 f p w))
+
+  pub demand3-is : r < 65536 → Demand3 f (take r p′)
+  demand3-is =
+      subst₂ (λ (x : ℕ) (y : List ℕ). x < 65536 → Demand3 f (take x y)) (sym rs) (sym ps) (demand3 f p w)
 
 -- the bytes of a slice are bytes
 pub bytes : (f : List ℕ) → ((i : ℕ) → getD f i 0 < 256) → Each Byte f

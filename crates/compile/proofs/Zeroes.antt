@@ -1,14 +1,14 @@
 -- A buffer zeroed byte by byte.
 use mathlib.Core.Path.{_≡_, refl, sym, ap, ap₂, _∙_}
 use mathlib.Core.List.{List, [], _∷_, _++_, append-nil, append-assoc}
-use Prim.Native.Nat.{ℕ, suc, _+_, _-_, _≤_, _<_}
+use Prim.Native.Nat.{ℕ, suc, _+_, _-_, _≤_, _<_, min}
 use native.Mathlib.Numerals.{add-one}
 use native.Mathlib.Omega.{arith}
 use lib.Bits.{bitOr, or-add-and, and-le-l, and-le-r}
 use lib.ListN.{length, getD, take, drop, set, replicate, length-set, length-append, length-replicate, replicate-append-replicate, drop-of-length-le}
 use lib.Seq.{take-all, take-suc-set, drop-cons, length-take-le, take-at}
 use borrow.Rule.Slice.PartMut.{midOf, postOf, putMid, same-len-mid, mid-len}
-use Rattle.compile.specs.Endings.{zeroed, bitsOf}
+use Rattle.compile.specs.Endings.{blockSize, zeroed, bitsOf}
 
 pub zero-more : (w : List ℕ) (i : ℕ) → i < length w → zeroed w i ≡ zeroed (set w i 0) (i + 1)
 unfolding zeroed
@@ -50,6 +50,10 @@ unfolding zeroed
 clean block h =
     let n : length block ≡ length block - 0 = omega arith in
     bits-none 0 block h .1 ∙ ap (λ (k : ℕ). replicate k 0) n
+
+-- a block begins before it ends, and ends in its buffer
+pub block-in : (len at end : ℕ) → at < len → end ≡ min len (at + blockSize) → (at < end) × (end ≤ len)
+block-in len at end h e = (omega arith, omega arith)
 
 -- a block of a buffer, zeroed in its place
 module _ (w block : List ℕ) (at end : ℕ) (h : at ≤ end) (g : end ≤ length w) (e : block ≡ zeroed (midOf at (end - at) w) 0) where

@@ -15,6 +15,10 @@ use Rattle.checks.specs.declared.Verdict.the-variants as Ve
 use Rattle.compile.specs.declared.Ending.{Ending}
 use Rattle.compile.specs.declared.Ending.the-variants.{Planned, Refused}
 
+-- how many bytes are looked at before any of them is written
+abbrev pub blockSize : ℕ
+blockSize = 4096
+
 -- the bytes from a place on all zero
 unfoldable pub zeroed : List ℕ → ℕ → List ℕ
 zeroed buf from = take from buf ++ replicate (length buf - from) 0

@@ -1,15 +1,15 @@
 // The compile of a rule file: one function for the engine.
 ghost use mathlib.Core.Path.{_≡_};
-ghost use mathlib.Core.List.{List};
-ghost use Prim.Native.Nat.{ℕ, _≤_, _<_};
-ghost use lib.ListN.{length};
+ghost use Prim.Native.Nat.{ℕ, _+_, _≤_, _<_, min};
+ghost use lib.ListN.{length, take};
 ghost use Rattle.rules.specs.Limits.{fileLimit, workLimit};
 ghost use Rattle.rules.specs.Compile as Rules;
+ghost use Rattle.rules.specs.Demand1.{refusals, Demand1};
 ghost use Rattle.rules.specs.Demand3.{Demand3};
 ghost use Rattle.state.specs.Levels as Kept;
 ghost use Rattle.file.specs.Tables.{tablesOf};
 ghost use Rattle.ready.specs.Ready.{Ready};
-ghost use Rattle.compile.specs.Endings.{zeroed, bitsOf, outcomeOf, lengthOf, answerOf, Within, callVerdict, memory, memoryBy};
+ghost use Rattle.compile.specs.Endings.{blockSize, zeroed, bitsOf, outcomeOf, lengthOf, answerOf, Within, callVerdict, memory, memoryBy};
 ghost use Rattle.checks.specs.Checked.{fileVerdict};
 use checks::Verdict;
 use checks::verify;
@@ -64,7 +64,7 @@ fn clear(block: &mut [u8])
 // Where the block that begins at a place ends.
 fn block_end(len: usize, at: usize) -> usize
     requires { ⌜ at < len ⌝ }
-    ensures { λ r. ⌜ (at < r) × (r ≤ len) ⌝ }
+    ensures { λ r. ⌜ r ≡ min len (at + blockSize) ⌝ }
 {
     if len - at > BLOCK {
         return at + BLOCK;
@@ -87,8 +87,16 @@ fn zero(buf: &mut [u8], from: usize)
 // What an accepted file comes to.
 fn accepted(file: &[u8], index: &[u16], plan: &mut [u8], work: &mut [u8]) -> Ending
     requires { ⌜ Ready (now file) (now index) ⌝ }
-    ensures { λ r. ⌜ (outcomeOf r (now (plan .exit)) ≡ Kept.outcomeOf (Kept.compiled (tablesOf (now (file .entry))) (now (work .entry)) (now (plan .entry)))) × Within r (now (plan .exit)) ⌝ }
-    ensures { λ _. ⌜ memory (now (work .exit)) (now (plan .exit)) ≡ memoryBy Verdict.Accepted (tablesOf (now (file .entry))) (now (work .entry)) (now (plan .entry)) ⌝ }
+    ensures outcome { λ r. ⌜ (
+        let T = tablesOf (now (file .entry)) in
+        outcomeOf r (now (plan .exit)) ≡ Kept.outcomeOf (Kept.compiled T (now (work .entry)) (now (plan .entry)))
+        ) ⌝ }
+    ensures within { λ r. ⌜ Within r (now (plan .exit)) ⌝ }
+    ensures memory { λ _. ⌜ (
+        let T = tablesOf (now (file .entry)) in
+        let after = memory (now (work .exit)) (now (plan .exit)) in
+        after ≡ memoryBy Verdict.Accepted T (now (work .entry)) (now (plan .entry))
+        ) ⌝ }
 {
     let w = write(file, index, work, plan);
     let lists = w.lists;
@@ -102,8 +110,18 @@ fn accepted(file: &[u8], index: &[u16], plan: &mut [u8], work: &mut [u8]) -> End
 // Reading and the whole-file checks first.
 fn checked(file: &[u8], plan: &mut [u8], work: &mut [u8]) -> Ending
     requires { ⌜ (length (now file) ≤ fileLimit) × (workLimit ≤ length (now work)) ⌝ }
-    ensures { λ r. ⌜ (outcomeOf r (now (plan .exit)) ≡ Rules.outcome (now (file .entry)) (length (now (plan .entry))) (length (now (work .entry)))) × Within r (now (plan .exit)) ⌝ }
-    ensures { λ _. ⌜ memory (now (work .exit)) (now (plan .exit)) ≡ memoryBy (fileVerdict (now (file .entry))) (tablesOf (now (file .entry))) (now (work .entry)) (now (plan .entry)) ⌝ }
+    ensures outcome { λ r. ⌜ (
+        let room = length (now (plan .entry)) in
+        let area = length (now (work .entry)) in
+        outcomeOf r (now (plan .exit)) ≡ Rules.outcome (now (file .entry)) room area
+        ) ⌝ }
+    ensures within { λ r. ⌜ Within r (now (plan .exit)) ⌝ }
+    ensures memory { λ _. ⌜ (
+        let T = tablesOf (now (file .entry)) in
+        let verdict = fileVerdict (now (file .entry)) in
+        let after = memory (now (work .exit)) (now (plan .exit)) in
+        after ≡ memoryBy verdict T (now (work .entry)) (now (plan .entry))
+        ) ⌝ }
 {
     let mut index = [0u16; INDEX];
     match verify(file, &mut index) {
@@ -112,10 +130,20 @@ fn checked(file: &[u8], plan: &mut [u8], work: &mut [u8]) -> Ending
     }
 }
 
-// The call but for its zeroes: the lent memory first.
+// Everything except zeroing: check buffer sizes, then compile.
 fn decide(file: &[u8], plan: &mut [u8], work: &mut [u8]) -> Ending
-    ensures { λ r. ⌜ (outcomeOf r (now (plan .exit)) ≡ Rules.outcome (now (file .entry)) (length (now (plan .entry))) (length (now (work .entry)))) × Within r (now (plan .exit)) ⌝ }
-    ensures { λ _. ⌜ memory (now (work .exit)) (now (plan .exit)) ≡ memoryBy (callVerdict (now (file .entry)) (length (now (work .entry)))) (tablesOf (now (file .entry))) (now (work .entry)) (now (plan .entry)) ⌝ }
+    ensures outcome { λ r. ⌜ (
+        let room = length (now (plan .entry)) in
+        let area = length (now (work .entry)) in
+        outcomeOf r (now (plan .exit)) ≡ Rules.outcome (now (file .entry)) room area
+        ) ⌝ }
+    ensures within { λ r. ⌜ Within r (now (plan .exit)) ⌝ }
+    ensures memory { λ _. ⌜ (
+        let T = tablesOf (now (file .entry)) in
+        let verdict = callVerdict (now (file .entry)) (length (now (work .entry))) in
+        let after = memory (now (work .exit)) (now (plan .exit)) in
+        after ≡ memoryBy verdict T (now (work .entry)) (now (plan .entry))
+        ) ⌝ }
 {
     if file.len() > FILE_LIMIT {
         return Ending::Refused(1);
@@ -151,10 +179,27 @@ impl Ending {
 // The plan of a rule file, written to the front of the plan buffer; afterwards the work area is all zero, and so is the rest of the plan buffer.
 #[no_mangle]
 pub extern "C" fn sinalvento_compile(file: &[u8], plan: &mut [u8], work: &mut [u8]) -> u64
-    ensures { λ r. ⌜ r ≡ Rules.compile (now (file .entry)) (now (plan .entry)) (now (work .entry)) .result ⌝ }
-    ensures { λ _. ⌜ now (plan .exit) ≡ Rules.compile (now (file .entry)) (now (plan .entry)) (now (work .entry)) .plan ⌝ }
-    ensures { λ _. ⌜ now (work .exit) ≡ Rules.compile (now (file .entry)) (now (plan .entry)) (now (work .entry)) .work ⌝ }
-    ensures { λ _. ⌜ ((out : List ℕ) → Rules.outcome (now (file .entry)) (length (now (plan .entry))) (length (now (work .entry))) ≡ Rules.Outcome.planned out → Demand3 (now (file .entry)) out) ⌝ }
+    ensures result { λ r. ⌜ (
+        let c = Rules.compile (now (file .entry)) (now (plan .entry)) (now (work .entry)) in
+        r ≡ c .result
+        ) ⌝ }
+    ensures plan { λ _. ⌜ (
+        let c = Rules.compile (now (file .entry)) (now (plan .entry)) (now (work .entry)) in
+        now (plan .exit) ≡ c .plan
+        ) ⌝ }
+    ensures work { λ _. ⌜ (
+        let c = Rules.compile (now (file .entry)) (now (plan .entry)) (now (work .entry)) in
+        now (work .exit) ≡ c .work
+        ) ⌝ }
+    ensures demand1 { λ r. ⌜ (
+        Demand1 refusals r
+        (now (plan .entry)) (now (work .entry))
+        (now (plan .exit)) (now (work .exit))
+        ) ⌝ }
+    ensures demand3 { λ r. ⌜ (
+        r < 65536 →
+        Demand3 (now (file .entry)) (take r (now (plan .exit)))
+        ) ⌝ }
 {
     let e = decide(file, plan, work);
     zero(work, 0);

@@ -1,133 +1,126 @@
--- Demand 1's shape, of the written rules, for every list of bytes.
+-- Demand 1, of the written rules' call.
 use mathlib.Core.Bool.{Bool, true, false}
-use mathlib.Core.List.{List}
+use mathlib.Core.List.{List, [], _∷_, _++_}
 use mathlib.Core.Option.{Option, none, some}
-use mathlib.Core.Path.{_≡_, refl}
-use Prim.Native.Nat.{ℕ, _-_, _≤_, _<_, min}
+use mathlib.Core.Path.{_≡_, refl, sym, ap}
+use Prim.Native.Nat.{ℕ, zero, suc, _+_, _-_, _≤_, _<_, min}
 use native.Mathlib.Omega.{arith}
-use borrow.Author.Tests.{leb-true}
-use lib.Dec.{T as Holds, leb, lit<, lit≤}
-use lib.ListN.{length, replicate, length-append, length-replicate}
+use borrow.Author.Tests.{leb-true, leb-false}
+use lib.Dec.{T as Holds, leb, lit≤}
+use lib.ListN.{length, take, replicate, length-append, length-replicate}
+use lib.Seq.{take-at}
 use Rattle.rules.specs.Base.{Each, done, more}
 use Rattle.rules.specs.Limits.{fileLimit, workLimit, planLimit}
-use Rattle.rules.specs.File.{Tables, LevelEntry}
+use Rattle.rules.specs.File.{Tables}
 use Rattle.rules.specs.Read.{Read, file}
 use Rattle.rules.specs.Checks.{Check, checks, fault}
-use Rattle.rules.specs.Events.{Lists}
-use Rattle.rules.specs.Placement.{new}
-use Rattle.rules.specs.Levels.{Level, level, levelOf, levelsFrom, levels, starting}
-use Rattle.rules.specs.Plan.{planLevel, planOf, plan, planBytes}
 use Rattle.rules.specs.Compile.{Outcome, written, checked, reading, outcome, returned, buffer, compiled, compile}
-use Rattle.rules.specs.Demand1.{Byte, zeros, Shape, Demand1}
-use Rattle.rules.proofs.Sound.{Sound, BindingOk, passed-all, sound}
-use Rattle.rules.proofs.Alone.{walk-keeps}
-use Rattle.rules.proofs.Each.{Any, Perhaps, nothing, just, each-append, each-all, each-map, each-replicate}
+use Rattle.rules.specs.Demand1.{zeros, refusals, Among, Ending, Demand1}
+use Rattle.rules.proofs.Cases.{by-test, ways}
+use Rattle.rules.proofs.Each.{Any, Perhaps, nothing, just, each-all}
 use Rattle.rules.proofs.Readers.{TablesOf, Answer, gives, refuses, reads-file}
-use Rattle.rules.proofs.Placed.{Built, built-new, place-all}
-use Rattle.rules.proofs.Printed.{plan-level, bytes-plan}
-use Rattle.rules.proofs.Walked.{StillBytes, keeps-bytes}
 
--- The plan of an accepted file's tables that hold bytes is bytes.
-module _ (T : Tables) (S : Sound T) (good : TablesOf Byte T) where
-  levels-from : (start : Lists) → Each (BindingOk T) (start .bindings) → {entries : List LevelEntry} → Each (λ l. l .predicate < length (T .predicates)) entries
-      → Each (λ (l : Level). Built (l .built)) (levelsFrom T start entries)
-  unfolding levelsFrom level levelOf
-  levels-from start fit done = done
-  levels-from start fit (more {x = entry} h hs) =
-      let w = walk-keeps T S StillBytes (keeps-bytes T good) entry h start fit in
-      more (place-all T good new (w .0 done) built-new) (levels-from _ (w .1) hs)
+-- The refusals' numbers, from the first on.
+numbersFrom : ℕ → ℕ → List ℕ
+numbersFrom first zero = []
+numbersFrom first (suc k) = first ∷ numbersFrom (suc first) k
 
-plan-bytes : (T : Tables) → fault checks T ≡ none → TablesOf Byte T → Each Byte (planBytes (plan T))
-unfolding plan planOf levels starting
-plan-bytes T e good =
-    let S = sound T (passed-all T e) in
-    bytes-plan _ (each-map planLevel plan-level (levels-from T S good (starting T) (S .bindings) (S .levels)))
+among-from : (first k n : ℕ) → first ≤ n → n < first + k → Among n (numbersFrom first k)
+unfolding numbersFrom
+among-from first zero n l h = absurd (omega arith)
+among-from first (suc k) n l h =
+    ways (leb n first) (Among n (first ∷ numbersFrom (suc first) k))
+    (λ e. Among.here (omega (arith, leb-true n first e)))
+    (λ e. Among.further (among-from (suc first) k n (leb-false n first e) (omega arith)))
 
--- A check refuses with its number.
-pub record In8to14 (n : ℕ) : Type 0 where
-  pub least : 8 ≤ n
-  pub most : n ≤ 14
+from-among : (first k n : ℕ) → Among n (numbersFrom first k) → (first ≤ n) × (n < first + k)
+unfolding numbersFrom
+from-among first (suc k) n (Among.here e) = (omega arith, omega arith)
+from-among first (suc k) n (Among.further h) =
+    let b = from-among (suc first) k n h in
+    (omega (arith, b .0), omega (arith, b .1))
 
-fault-in : {cs : List Check} → Each (λ c. In8to14 (c .number)) cs → (T : Tables) → Perhaps In8to14 (fault cs T)
+listed : (n : ℕ) → 1 ≤ n → n ≤ 15 → Among n refusals
+unfolding numbersFrom
+listed n l m = among-from 1 15 n l (omega arith)
+
+pub numbered : (n : ℕ) → Among n refusals → (1 ≤ n) × (n ≤ 15)
+unfolding numbersFrom
+numbered n h =
+    let b = from-among 1 15 n h in
+    (b .0, omega (arith, b .1))
+
+-- A check refuses with a number of the list.
+fault-in : {cs : List Check} → Each (λ c. Among (c .number) refusals) cs → (T : Tables) → Perhaps (λ n. Among n refusals) (fault cs T)
 unfolding fault
 fault-in done T = nothing
 fault-in (more {x = c} {xs = cs} h hs) T = go (c .passes T) (fault-in hs T)
   where
-    go : (b : Bool) → Perhaps In8to14 (fault cs T) → Perhaps In8to14 (elim b [ true ↦ fault cs T | false ↦ some (c .number) ])
+    go : (b : Bool) → Perhaps (λ n. Among n refusals) (fault cs T) → Perhaps (λ n. Among n refusals) (elim b [ true ↦ fault cs T | false ↦ some (c .number) ])
     go true r = r
     go false r = just h
 
-checks-in : Each (λ c. In8to14 (c .number)) checks
-checks-in = more (at 8 tt tt) (more (at 9 tt tt) (more (at 10 tt tt) (more (at 11 tt tt) (more (at 12 tt tt) (more (at 13 tt tt) (more (at 14 tt tt) done))))))
+checks-in : Each (λ c. Among (c .number) refusals) checks
+checks-in = more (at _ tt tt) (more (at _ tt tt) (more (at _ tt tt) (more (at _ tt tt) (more (at _ tt tt) (more (at _ tt tt) (more (at _ tt tt) done))))))
   where
-    at : (n : ℕ) → Holds (leb 8 n) → Holds (leb n 14) → In8to14 n
-    at n l m = record { least = lit≤ l; most = lit≤ m }
+    at : (n : ℕ) → Holds (leb 1 n) → Holds (leb n 15) → Among n refusals
+    at n l m = listed n (lit≤ l) (lit≤ m)
 
--- A plan that fits and has the property R, or a refusal by 1 to 15.
-data Ended (R : List ℕ → Type 0) (room : ℕ) : Outcome → Type 0 where
-  a-plan : {bytes : List ℕ} → length bytes ≤ planLimit → length bytes ≤ room → R bytes → Ended R room (Outcome.planned bytes)
-  a-refusal : {n : ℕ} → 1 ≤ n → n ≤ 15 → Ended R room (Outcome.refused n)
+-- A plan that fits, or a refusal of the list.
+pub data Ended (room : ℕ) : Outcome → Type 0 where
+  a-plan : {bytes : List ℕ} → length bytes ≤ planLimit → length bytes ≤ room → Ended room (Outcome.planned bytes)
+  a-refusal : {n : ℕ} → Among n refusals → Ended room (Outcome.refused n)
 
-module _ (R : List ℕ → Type 0) (room : ℕ) where
-  ended-written : (bytes : List ℕ) → R bytes → Ended R room (written room bytes)
+in-both : (n limit room : ℕ) → leb n (min limit room) ≡ true → (n ≤ limit) × (n ≤ room)
+in-both n limit room e = (omega (arith, leb-true n (min limit room) e), omega (arith, leb-true n (min limit room) e))
+
+module _ (room : ℕ) where
+  ended-written : (bytes : List ℕ) → Ended room (written room bytes)
   unfolding written
-  ended-written bytes h = go (leb (length bytes) (min planLimit room)) refl
-    where
-      go : (b : Bool) → leb (length bytes) (min planLimit room) ≡ b → Ended R room (elim b [ true ↦ Outcome.planned bytes | false ↦ Outcome.refused 15 ])
-      go true e = let fits : length bytes ≤ min planLimit room = leb-true _ _ e in a-plan {bytes = bytes} (omega arith) (omega arith) h
-      go false e = a-refusal {n = 15} (omega arith) (omega arith)
+  ended-written bytes =
+      by-test (Ended room) _
+      (λ e. let fits = in-both (length bytes) planLimit room e in Ended.a-plan (fits .0) (fits .1))
+      (λ e. Ended.a-refusal (listed 15 (omega arith) (omega arith)))
 
-  module _ (B : ℕ → Type 0) (h : (T : Tables) → fault checks T ≡ none → TablesOf B T → R (planBytes (plan T))) where
-    ended-checked : (T : Tables) → TablesOf B T → {o : Option ℕ} → fault checks T ≡ o → Perhaps In8to14 o → Ended R room (checked room T o)
-    unfolding checked
-    ended-checked T g e nothing = ended-written _ (h T e g)
-    ended-checked T g e (just {x = n} i) = a-refusal {n = n} (omega arith) (omega arith)
+  ended-checked : (T : Tables) {o : Option ℕ} → Perhaps (λ n. Among n refusals) o → Ended room (checked room T o)
+  unfolding checked
+  ended-checked T nothing = ended-written _
+  ended-checked T (just h) = Ended.a-refusal h
 
-    ended-reading : {r : Read Tables} → Answer B (TablesOf B) r → Ended R room (reading room r)
-    unfolding reading
-    ended-reading (gives {a = T} g rest) = ended-checked T g refl (fault-in checks-in T)
-    ended-reading (refuses {n} l m) = a-refusal {n = n} (omega arith) (omega arith)
+  ended-reading : {r : Read Tables} → Answer Any (TablesOf Any) r → Ended room (reading room r)
+  unfolding reading
+  ended-reading (gives {a = T} g rest) = ended-checked T (fault-in checks-in T)
+  ended-reading (refuses {n} l m) = Ended.a-refusal (listed n (omega arith) (omega arith))
 
-    ended : (bytes : List ℕ) → Each B bytes → (area : ℕ) → Ended R room (outcome bytes room area)
-    unfolding outcome
-    ended bytes b area = go (leb (length bytes) fileLimit) (leb workLimit area)
-      where
-        go : (s t : Bool) → Ended R room (elim s [ false ↦ Outcome.refused 1 | true ↦ elim t [ false ↦ Outcome.refused 2 | true ↦ reading room (file bytes) ] ])
-        go false t = a-refusal {n = 1} (omega arith) (omega arith)
-        go true false = a-refusal {n = 2} (omega arith) (omega arith)
-        go true true = ended-reading (reads-file .answer bytes b)
+  pub ended : (bytes : List ℕ) (area : ℕ) → Ended room (outcome bytes room area)
+  unfolding outcome
+  ended bytes area =
+      by-test (Ended room) (leb (length bytes) fileLimit)
+      (λ q. by-test (Ended room) (leb workLimit area)
+      (λ p. ended-reading (reads-file .answer bytes (each-all bytes (λ b. tt))))
+      (λ p. Ended.a-refusal (listed 2 (omega arith) (omega arith))))
+      (λ q. Ended.a-refusal (listed 1 (omega arith) (omega arith)))
 
--- What such an outcome leaves.
-shape-of : {R : List ℕ → Type 0} (room area : ℕ) (o : Outcome) → Ended R room o → Shape room area o (compiled o room area)
-unfolding compiled returned buffer
-shape-of room area _ (a-plan {bytes} s f r) =
-    Shape.accepted bytes (record { outcome = refl; short = s; fits = f; result = refl; number = omega arith; planLength = omega arith; plan = refl; work = refl })
-shape-of room area _ (a-refusal {n} l m) =
-    Shape.refused n (record { outcome = refl; least = l; most = m; result = refl; number = omega arith; planLength = omega arith; plan = refl; work = refl })
+-- What such an outcome returns and leaves.
+ending-of : (output : List ℕ) (o : Outcome) → Ended (length output) o → Ending refusals (returned o) output (buffer (length output) o)
+unfolding returned buffer
+ending-of output _ (Ended.a-plan {bytes} s f) =
+    let front : take (length bytes) (bytes ++ zeros (length output - length bytes)) ≡ bytes = take-at bytes (zeros (length output - length bytes)) (length bytes) refl in
+    Ending.accepted (record { short = s; fits = f; rest-zero = ap (λ (l : List ℕ). l ++ zeros (length output - length bytes)) (sym front) })
+ending-of output _ (Ended.a-refusal {n} h) = Ending.refused (record { number = n; listed = h; result = refl; all-zero = refl })
 
-buffer-length : {R : List ℕ → Type 0} (room : ℕ) (o : Outcome) → Ended R room o → length (buffer room o) ≡ room
+buffer-length : (room : ℕ) (o : Outcome) → Ended room o → length (buffer room o) ≡ room
 unfolding buffer
-buffer-length room _ (a-plan {bytes} s f r) = omega (arith, length-append bytes (replicate (room - length bytes) 0), length-replicate {A = ℕ} (room - length bytes) 0)
-buffer-length room _ (a-refusal l m) = length-replicate room 0
+buffer-length room _ (Ended.a-plan {bytes} s f) = omega (arith, length-append bytes (replicate (room - length bytes) 0), length-replicate {A = ℕ} (room - length bytes) 0)
+buffer-length room _ (Ended.a-refusal h) = length-replicate room 0
 
-zeros-bytes : (n : ℕ) → Each Byte (zeros n)
-zeros-bytes n = each-replicate n 0 (lit< tt)
-
-buffer-bytes : (room : ℕ) (o : Outcome) → Ended (Each Byte) room o → Each Byte (buffer room o)
-unfolding buffer
-buffer-bytes room _ (a-plan {bytes} s f r) = each-append r (zeros-bytes (room - length bytes))
-buffer-bytes room _ (a-refusal l m) = zeros-bytes room
-
-pub demand1 : (file plan work : List ℕ) → Demand1 file plan work
+pub demand1 : (file plan work : List ℕ) → Demand1 refusals (compile file plan work .result) plan work (compile file plan work .plan) (compile file plan work .work)
 unfolding compile compiled
-demand1 bytes plan work =
+demand1 file plan work =
+    let o = ended (length plan) file (length work) in
     record {
-      shape = shape-of (length plan) (length work) _ any;
-      planLength = buffer-length (length plan) _ any;
-      workLength = length-replicate (length work) 0;
-      planBytes = λ h. buffer-bytes (length plan) _ (ended (Each Byte) (length plan) Byte plan-bytes bytes h (length work));
-      workBytes = zeros-bytes (length work);
+      ending = ending-of plan (outcome file (length plan) (length work)) o;
+      work-zero = refl;
+      output-length = buffer-length (length plan) _ o;
+      work-length = length-replicate (length work) 0;
     }
-  where
-    any : Ended Any (length plan) (outcome bytes (length plan) (length work))
-    any = ended Any (length plan) Any (λ T e g. tt) bytes (each-all bytes (λ b. tt)) (length work)

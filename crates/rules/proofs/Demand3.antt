@@ -4,9 +4,10 @@ use mathlib.Core.Option.{Option, none, some}
 use mathlib.Core.Path.{_≡_, refl, sym, ap, _∙_, subst}
 use Prim.Native.Nat.{ℕ, zero, suc, _+_, _<_, min}
 use native.Mathlib.Nat.{not-suc-le-zero, le-of-suc-le-suc}
+use native.Mathlib.Omega.{arith}
 use lib.Dec.{leb}
-use lib.ListN.{length, getD, drop}
-use lib.Seq.{drop-append-seam}
+use lib.ListN.{length, getD, take, drop}
+use lib.Seq.{take-at, drop-append-seam}
 use Rattle.rules.specs.Base.{Each, done, more}
 use Rattle.rules.specs.Limits.{fileLimit, workLimit, planLimit}
 use Rattle.rules.specs.File.{Tables, Binding, LevelEntry}
@@ -16,11 +17,12 @@ use Rattle.rules.specs.Events.{Lists}
 use Rattle.rules.specs.Walk.{walkLevel}
 use Rattle.rules.specs.Levels.{Level, starting, levelOf, level, levelsFrom, levels, leftBy}
 use Rattle.rules.specs.Plan.{planOf, plan, planBytes}
-use Rattle.rules.specs.Compile.{Outcome, written, checked, reading, outcome}
+use Rattle.rules.specs.Compile.{Outcome, written, checked, reading, outcome, returned, buffer, compiled, compile}
 use Rattle.rules.specs.Demand3.{LevelKept, entryAt, levelAt, startOf, Holds, Demand3}
 use Rattle.rules.proofs.Cases.{by-test}
 use Rattle.rules.proofs.Sound.{BindingOk, Sound, sound, passed-all}
 use Rattle.rules.proofs.Alone.{walk-keeps}
+use Rattle.rules.proofs.Demand1.{Ended, ended, numbered}
 use Rattle.rules.proofs.Lists.{AddsTo, adds-keeps, Onwards, onwards-same, onwards-next}
 use Rattle.rules.proofs.Nested.{Nested, Emits, emits-keeps}
 use Rattle.rules.proofs.Kept.{kept}
@@ -184,10 +186,21 @@ unfolding reading Ends
 reading-kept bytes room (got T rest) e out q = checked-kept bytes room T (e ∙ ap (got T) (ends-file bytes T rest e)) (fault checks T) refl out q
 reading-kept bytes room (refused n) e out q = absurd (refused≢planned n out q)
 
--- "For every accepted file": whatever the file, the buffers' lengths and the plan
-pub demand3 : (bytes : List ℕ) (room area : ℕ) (out : List ℕ) → outcome bytes room area ≡ Outcome.planned out → Demand3 bytes out
+-- whatever the file, the buffers' lengths and the plan
+outcome-kept : (bytes : List ℕ) (room area : ℕ) (out : List ℕ) → outcome bytes room area ≡ Outcome.planned out → Demand3 bytes out
 unfolding outcome
-demand3 bytes room area out =
+outcome-kept bytes room area out =
     by-test (λ (r : Outcome). r ≡ Outcome.planned out → Demand3 bytes out) (leb (length bytes) fileLimit)
     (λ q. by-test (λ (r : Outcome). r ≡ Outcome.planned out → Demand3 bytes out) (leb workLimit area) (λ p e. reading-kept bytes room (file bytes) refl out e) (λ p e. absurd (refused≢planned 2 out e)))
     (λ q e. absurd (refused≢planned 1 out e))
+
+-- "For every accepted file": a call that returned a length left a plan of that length
+returned-kept : (bytes : List ℕ) (room : ℕ) (o : Outcome) → Ended room o → ((out : List ℕ) → o ≡ Outcome.planned out → Demand3 bytes out)
+    → returned o < 65536 → Demand3 bytes (take (returned o) (buffer room o))
+unfolding returned buffer
+returned-kept bytes room _ (Ended.a-plan {bytes = out} s f) h l = subst (Demand3 bytes) (sym (take-at out _ (length out) refl)) (h out refl)
+returned-kept bytes room _ (Ended.a-refusal {n} h) k l = absurd (omega (arith, numbered n h .0, l))
+
+pub demand3 : (bytes plan work : List ℕ) → compile bytes plan work .result < 65536 → Demand3 bytes (take (compile bytes plan work .result) (compile bytes plan work .plan))
+unfolding compile compiled
+demand3 bytes plan work = returned-kept bytes (length plan) _ (ended (length plan) bytes (length work)) (outcome-kept bytes (length plan) (length work))

@@ -1,12 +1,12 @@
 -- Laws of `Each`: what holds of every element of the lists that the rules build.
-use mathlib.Core.List.{List, [], _∷_, _++_, map, reverse, reverseAux}
+use mathlib.Core.List.{List, [], _∷_, _++_, map}
 use mathlib.Core.Option.{Option, none, some}
 use mathlib.Core.Bool.{Bool, true, false}
 use mathlib.Core.Path.{_≡_, sym, subst}
 use Prim.Native.Nat.{ℕ, zero, suc, _<_}
 use native.Mathlib.Nat.{not-suc-le-zero, le-of-suc-le-suc}
-use lib.ListN.{length, getD, replicate}
-use Rattle.rules.specs.Base.{Each, done, more, _>>=_, concatMap, all, first, lastOr}
+use lib.ListN.{length, getD}
+use Rattle.rules.specs.Base.{Each, done, more, _>>=_, all, first, lastOr}
 use Rattle.rules.proofs.Cases.{by-test, true≢false, some≢none, some-injective}
 
 -- nothing is said of it
@@ -27,21 +27,10 @@ module _ {A : Type 0} {P : A → Type 0} where
   pub each-snoc : {xs : List A} {x : A} → Each P xs → P x → Each P (xs ++ (x ∷ []))
   each-snoc h p = each-append h (more p done)
 
-  pub each-reverseAux : {xs ys : List A} → Each P xs → Each P ys → Each P (reverseAux xs ys)
-  each-reverseAux done h = h
-  each-reverseAux (more p ps) h = each-reverseAux ps (more p h)
-
-  pub each-reverse : {xs : List A} → Each P xs → Each P (reverse xs)
-  each-reverse h = each-reverseAux h done
-
   pub each-getD : {xs : List A} (n : ℕ) {d : A} → Each P xs → P d → P (getD xs n d)
   each-getD n done h = h
   each-getD zero (more p ps) h = p
   each-getD (suc n) (more p ps) h = each-getD n ps h
-
-  pub each-replicate : (n : ℕ) (x : A) → P x → Each P (replicate n x)
-  each-replicate zero x h = done
-  each-replicate (suc n) x h = more h (each-replicate n x h)
 
   -- what holds of everything holds of each
   pub each-all : (xs : List A) → ((x : A) → P x) → Each P xs
@@ -49,11 +38,6 @@ module _ {A : Type 0} {P : A → Type 0} where
   each-all (x ∷ xs) h = more (h x) (each-all xs h)
 
 module _ {A B : Type 0} {P : A → Type 0} {Q : B → Type 0} where
-  pub each-concatMap : {f : A → List B} {xs : List A} → ((x : A) → P x → Each Q (f x)) → Each P xs → Each Q (concatMap f xs)
-  unfolding concatMap
-  each-concatMap h done = done
-  each-concatMap h (more p ps) = each-append (h _ p) (each-concatMap h ps)
-
   pub each-map : (f : A → B) {xs : List A} → ((x : A) → P x → Q (f x)) → Each P xs → Each Q (map f xs)
   each-map f h done = done
   each-map f h (more p ps) = more (h _ p) (each-map f h ps)

@@ -15,7 +15,7 @@ use Rattle.rules.specs.Lookup.{sameSteps, samePath}
 use Rattle.rules.specs.Events.{Narrowing, Event}
 use Rattle.rules.specs.Placement.{SeekKeyPart, Guide, Range, RangeEdge, Edges, SeekBuilder, new, withPart, withResidual, withGuide, withRange, withEdges, withCloser, withOpened, fall, placePart, placePrefix, rangeAt, attachable, placeFuzzy, placeNarrowing, closePart, placeCloser, takeHi, takeLo, takeEdge, sided, foldFrom, placeBound, place, placeAll}
 use Rattle.rules.specs.Levels.{narrowings}
-use Rattle.rules.specs.Demand3.{buildingAfter, beforeFall, partsOf, number, edges, Kept}
+use Rattle.rules.specs.Demand3.{buildingAfter, beforeFall, partsOf, closersOf, closersIn, number, edges, Kept}
 use Rattle.rules.proofs.Cases.{by-test, ways, by-option, true≢false, some≢none, some-injective, eqb-eq, both-left, both-right}
 use Rattle.rules.proofs.Nested.{Nested}
 
@@ -157,7 +157,7 @@ module _ (n : ℕ) (b : SeekBuilder) (s : Steady n b) where
 attach : (b : SeekBuilder) (path : FieldPath) → attachable b path ≡ true → (b .guide ≡ none) × (b .building ≡ false → rangeAt (b .range) path ≡ true)
 unfolding attachable
 attach b path =
-    by-option (λ r. r ≡ true → (b .guide ≡ none) × (b .building ≡ false → rangeAt (b .range) path ≡ true)) (b .guide)
+    by-option (λ r. r ≡ true → (b .guide ≡ none) × (b .building ≡ false → rangeAt (b .range) path ≡ true)) _
     (λ e r. (e, by-test (λ q. q ≡ true → b .building ≡ false → rangeAt (b .range) path ≡ true) (b .building) (λ t q f. absurd (true≢false (sym t ∙ f))) (λ t q f. q) r))
     (λ g e r. absurd (true≢false (sym r)))
 
@@ -350,44 +350,47 @@ placed-all T (Event.bound x t ∷ Event.narrow p y ∷ es) n b s h = absurd h
 placed-all T (Event.bound x t ∷ Event.closer ∷ es) n b s h = absurd h
 placed-all T (Event.bound x t ∷ Event.bound y u ∷ es) n b s h = absurd h
 
--- Building never returns, and without building no part is made: of any event.
+-- Building never returns, and without building no part is made and no closer taken: of any event.
 record Fallen (b b′ : SeekBuilder) : Type 0 where
   building : b′ .building ≡ false
   parts : b′ .parts ≡ b .parts
+  closers : b′ .closers ≡ b .closers
 
 fallen-part : (part : SeekKeyPart) (path : FieldPath) (op : Narrowing) (b : SeekBuilder) → b .building ≡ false → Fallen b (placePart part path op b)
 unfolding placePart withPart withResidual
-fallen-part part path op b h = by-test (Fallen b) (b .building) (λ e. absurd (true≢false (sym e ∙ h))) (λ e. record { building = h; parts = refl })
+fallen-part part path op b h = by-test (Fallen b) (b .building) (λ e. absurd (true≢false (sym e ∙ h))) (λ e. record { building = h; parts = refl; closers = refl })
 
 fallen-narrowing : (path : FieldPath) (x : Narrowing) (b : SeekBuilder) → b .building ≡ false → Fallen b (placeNarrowing path x b)
 unfolding placeNarrowing placePrefix placeFuzzy withOpened withResidual withGuide fall
 fallen-narrowing path (Narrowing.Bytes bytes) b h = fallen-part _ path _ b h
-fallen-narrowing path (Narrowing.Tag disc) b h = let r = fallen-part _ path _ (withOpened (b .building ∷ b .opened) b) h in record { building = r .building; parts = r .parts }
+fallen-narrowing path (Narrowing.Tag disc) b h = let r = fallen-part _ path _ (withOpened (b .building ∷ b .opened) b) h in record { building = r .building; parts = r .parts; closers = r .closers }
 fallen-narrowing path (Narrowing.RegisterField a at) b h = fallen-part _ path _ b h
 fallen-narrowing path (Narrowing.FactId a) b h = fallen-part _ path _ b h
-fallen-narrowing path (Narrowing.Prefix bytes) b h = by-test (Fallen b) (b .building) (λ e. absurd (true≢false (sym e ∙ h))) (λ e. record { building = h; parts = refl })
-fallen-narrowing path (Narrowing.Fuzzy x d a) b h = by-test (Fallen b) (attachable b path) (λ e. record { building = refl; parts = refl }) (λ e. record { building = h; parts = refl })
+fallen-narrowing path (Narrowing.Prefix bytes) b h = by-test (Fallen b) _ (λ e. absurd (true≢false (sym e ∙ h))) (λ e. record { building = h; parts = refl; closers = refl })
+fallen-narrowing path (Narrowing.Fuzzy x d a) b h = by-test (Fallen b) (attachable b path) (λ e. record { building = refl; parts = refl; closers = refl }) (λ e. record { building = h; parts = refl; closers = refl })
 
 fallen-closer : (opened : List Bool) (b : SeekBuilder) → b .building ≡ false → Fallen b (placeCloser opened b)
 unfolding placeCloser closePart withOpened
-fallen-closer [] b h = record { building = h; parts = refl }
+fallen-closer [] b h = record { building = h; parts = refl; closers = refl }
 fallen-closer (held ∷ outer) b h =
-    by-test (Fallen b) (both held (b .building)) (λ e. absurd (true≢false (sym (both-right held (b .building) e) ∙ h))) (λ e. record { building = h; parts = refl })
+    by-test (Fallen b) (both held (b .building))
+    (λ e. absurd (true≢false (sym (both-right held (b .building) e) ∙ h)))
+    (λ e. record { building = h; parts = refl; closers = refl })
 
 fallen : (T : Tables) (e : Event) (b : SeekBuilder) → b .building ≡ false → Fallen b (place T e b)
 unfolding place placeBound fall
 fallen T (Event.narrow path x) b h = fallen-narrowing path x b h
-fallen T Event.skip b h = record { building = refl; parts = refl }
+fallen T Event.skip b h = record { building = refl; parts = refl; closers = refl }
 fallen T Event.closer b h = fallen-closer (b .opened) b h
-fallen T (Event.bound x t) b h = by-test (Fallen b) (b .building) (λ e. absurd (true≢false (sym e ∙ h))) (λ e. record { building = h; parts = refl })
+fallen T (Event.bound x t) b h = by-test (Fallen b) (b .building) (λ e. absurd (true≢false (sym e ∙ h))) (λ e. record { building = h; parts = refl; closers = refl })
 
 fallen-all : (T : Tables) (es : List Event) (b : SeekBuilder) → b .building ≡ false → Fallen b (placeAll T es b)
 unfolding placeAll
-fallen-all T [] b h = record { building = h; parts = refl }
+fallen-all T [] b h = record { building = h; parts = refl; closers = refl }
 fallen-all T (e ∷ es) b h =
     let a = fallen T e b h in
     let r = fallen-all T es (place T e b) (a .building) in
-    record { building = r .building; parts = r .parts ∙ a .parts }
+    record { building = r .building; parts = r .parts ∙ a .parts; closers = r .closers ∙ a .closers }
 
 pub placeAll-append : (T : Tables) (es fs : List Event) (b : SeekBuilder) → placeAll T (es ++ fs) b ≡ placeAll T fs (placeAll T es b)
 unfolding placeAll
@@ -401,73 +404,93 @@ never-returns T es i k h =
     ∙ ap (λ (b : SeekBuilder). b .building) (placeAll-append T (take i es) (take k (drop i es)) new)
     ∙ fallen-all T (take k (drop i es)) (placeAll T (take i es) new) h .building
 
--- While building holds each event makes its part, or building falls and it makes none.
-record Makes (parts : List SeekKeyPart) (b b′ : SeekBuilder) : Type 0 where
+-- While building holds each event makes its part and counts as what it is, or building falls and it makes none.
+record Makes (parts : List SeekKeyPart) (closers : ℕ) (b b′ : SeekBuilder) : Type 0 where
   on : b′ .building ≡ true → b′ .parts ≡ b .parts ++ parts
   fell : b′ .building ≡ false → b′ .parts ≡ b .parts
+  on-closers : b′ .building ≡ true → b′ .closers ≡ b .closers + closers
+  fell-closers : b′ .building ≡ false → b′ .closers ≡ b .closers
 
-makes-part : (b : SeekBuilder) → b .building ≡ true → (part : SeekKeyPart) (path : FieldPath) (op : Narrowing) → Makes (part ∷ []) b (placePart part path op b)
+makes-part : (b : SeekBuilder) → b .building ≡ true → (part : SeekKeyPart) (path : FieldPath) (op : Narrowing) → Makes (part ∷ []) 0 b (placePart part path op b)
 unfolding placePart withPart
 makes-part b h part path op =
-    by-test (Makes (part ∷ []) b) (b .building) (λ e. record { on = λ q. refl; fell = λ q. absurd (true≢false (sym h ∙ q)) }) (λ e. absurd (true≢false (sym h ∙ e)))
+    by-test (Makes (part ∷ []) 0 b) (b .building)
+    (λ e. record { on = λ q. refl; fell = λ q. absurd (true≢false (sym h ∙ q)); on-closers = λ q. omega arith; fell-closers = λ q. refl })
+    (λ e. absurd (true≢false (sym h ∙ e)))
 
-makes-none : (b b′ : SeekBuilder) → b′ .parts ≡ b .parts → Makes [] b b′
-makes-none b b′ e = record { on = λ q. e ∙ sym (append-nil (b .parts)); fell = λ q. e }
+makes-none : (b b′ : SeekBuilder) → b′ .parts ≡ b .parts → b′ .closers ≡ b .closers → Makes [] 0 b b′
+makes-none b b′ e c = record { on = λ q. e ∙ sym (append-nil (b .parts)); fell = λ q. e; on-closers = λ q. omega (arith, c); fell-closers = λ q. c }
 
-makes-narrowing : (b : SeekBuilder) → b .building ≡ true → (path : FieldPath) (x : Narrowing) → Makes (partsOf (Event.narrow path x)) b (placeNarrowing path x b)
-unfolding partsOf placeNarrowing placePrefix placeFuzzy withOpened withResidual withRange withGuide fall
+makes-narrowing : (b : SeekBuilder) → b .building ≡ true → (path : FieldPath) (x : Narrowing) → Makes (partsOf (Event.narrow path x)) (closersOf (Event.narrow path x)) b (placeNarrowing path x b)
+unfolding partsOf closersOf placeNarrowing placePrefix placeFuzzy withOpened withResidual withRange withGuide fall
 makes-narrowing b h path (Narrowing.Bytes bytes) = makes-part b h _ path _
-makes-narrowing b h path (Narrowing.Tag disc) = let r = makes-part (withOpened (b .building ∷ b .opened) b) h (SeekKeyPart.Bytes (unionTag disc)) path (Narrowing.Tag disc) in record { on = r .on; fell = r .fell }
+makes-narrowing b h path (Narrowing.Tag disc) =
+    let r = makes-part (withOpened (b .building ∷ b .opened) b) h (SeekKeyPart.Bytes (unionTag disc)) path (Narrowing.Tag disc) in
+    record { on = r .on; fell = r .fell; on-closers = r .on-closers; fell-closers = r .fell-closers }
 makes-narrowing b h path (Narrowing.RegisterField a at) = makes-part b h _ path _
 makes-narrowing b h path (Narrowing.FactId a) = makes-part b h _ path _
-makes-narrowing b h path (Narrowing.Prefix bytes) = by-test (Makes [] b) (b .building) (λ e. makes-none b _ refl) (λ e. makes-none b _ refl)
-makes-narrowing b h path (Narrowing.Fuzzy x d a) = by-test (Makes [] b) (attachable b path) (λ e. makes-none b _ refl) (λ e. makes-none b _ refl)
+makes-narrowing b h path (Narrowing.Prefix bytes) = by-test (Makes [] 0 b) (b .building) (λ e. makes-none b _ refl refl) (λ e. makes-none b _ refl refl)
+makes-narrowing b h path (Narrowing.Fuzzy x d a) = by-test (Makes [] 0 b) (attachable b path) (λ e. makes-none b _ refl refl) (λ e. makes-none b _ refl refl)
 
-makes-skip : (b : SeekBuilder) → Makes (partsOf Event.skip) b (fall b)
-unfolding partsOf fall
-makes-skip b = makes-none b _ refl
+makes-skip : (b : SeekBuilder) → Makes (partsOf Event.skip) (closersOf Event.skip) b (fall b)
+unfolding partsOf closersOf fall
+makes-skip b = makes-none b _ refl refl
 
 head-true : {x : Bool} {xs : List Bool} → Each (λ k. k ≡ true) (x ∷ xs) → x ≡ true
 head-true (more p g) = p
 
-makes-closer : (b : SeekBuilder) → b .building ≡ true → (n : ℕ) → Steady (suc n) b → (opened : List Bool) → b .opened ≡ opened → Makes (partsOf Event.closer) b (placeCloser opened b)
-unfolding partsOf placeCloser closePart withOpened withCloser withPart
+makes-closer : (b : SeekBuilder) → b .building ≡ true → (n : ℕ) → Steady (suc n) b → (opened : List Bool) → b .opened ≡ opened → Makes (partsOf Event.closer) (closersOf Event.closer) b (placeCloser opened b)
+unfolding partsOf closersOf placeCloser closePart withOpened withCloser withPart
 makes-closer b h n s [] e = absurd (omega (arith, ap length e, s .opens))
 makes-closer b h n s (held ∷ outer) e =
-    by-test (Makes (SeekKeyPart.Bytes term ∷ []) b) (both held (b .building))
-    (λ q. record { on = λ t. refl; fell = λ t. absurd (true≢false (sym h ∙ t)) })
+    by-test (Makes (SeekKeyPart.Bytes term ∷ []) 1 b) (both held (b .building))
+    (λ q. record { on = λ t. refl; fell = λ t. absurd (true≢false (sym h ∙ t)); on-closers = λ t. refl; fell-closers = λ t. absurd (true≢false (sym h ∙ t)) })
     (λ q. absurd (true≢false (sym (ap (λ (k : Bool). both k (b .building)) (head-true (subst (Each (λ k. k ≡ true)) e (s .all-open h))) ∙ h) ∙ q)))
 
-makes-bound : (b : SeekBuilder) (T : Tables) (x t : ℕ) → Makes (partsOf (Event.bound x t)) b (placeBound T x t b)
-unfolding partsOf placeBound withEdges
-makes-bound b T x t = by-test (Makes [] b) (b .building) (λ e. makes-none b _ refl) (λ e. makes-none b _ refl)
+makes-bound : (b : SeekBuilder) (T : Tables) (x t : ℕ) → Makes (partsOf (Event.bound x t)) (closersOf (Event.bound x t)) b (placeBound T x t b)
+unfolding partsOf closersOf placeBound withEdges
+makes-bound b T x t = by-test (Makes [] 0 b) (b .building) (λ e. makes-none b _ refl refl) (λ e. makes-none b _ refl refl)
 
--- what the rest of a level's parts are, after one event
-parts-step : (T : Tables) (e : Event) (es : List Event) (b : SeekBuilder) → Makes (partsOf e) b (place T e b) → (place T e b .building ≡ true → placeAll T es (place T e b) .parts ≡ place T e b .parts ++ concatMap partsOf (beforeFall T (place T e b) es)) → placeAll T (e ∷ es) b .parts ≡ b .parts ++ concatMap partsOf (beforeFall T b (e ∷ es))
-unfolding placeAll beforeFall concatMap
-parts-step T e es b m ih =
-    by-test (λ fs. placeAll T es (place T e b) .parts ≡ b .parts ++ concatMap partsOf fs) (place T e b .building)
-    (λ q. ih q ∙ ap (λ (l : List SeekKeyPart). l ++ concatMap partsOf (beforeFall T (place T e b) es)) (m .on q) ∙ append-assoc (b .parts) (partsOf e) (concatMap partsOf (beforeFall T (place T e b) es)))
-    (λ q. fallen-all T es (place T e b) q .parts ∙ m .fell q ∙ sym (append-nil (b .parts)))
+-- what events before the fall make
+record Made (es : List Event) (b b′ : SeekBuilder) : Type 0 where
+  parts : b′ .parts ≡ b .parts ++ concatMap partsOf es
+  closers : b′ .closers ≡ b .closers + closersIn es
 
-parts-all : (T : Tables) (es : List Event) (n : ℕ) (b : SeekBuilder) → Steady n b → Nested n es → b .building ≡ true → placeAll T es b .parts ≡ b .parts ++ concatMap partsOf (beforeFall T b es)
-unfolding placeAll place beforeFall concatMap
-parts-all T [] n b s h on = sym (append-nil (b .parts))
-parts-all T (Event.narrow path x ∷ es) n b s h on =
+made-none : (b b′ : SeekBuilder) → b′ .parts ≡ b .parts → b′ .closers ≡ b .closers → Made [] b b′
+unfolding concatMap closersIn
+made-none b b′ e c = record { parts = e ∙ sym (append-nil (b .parts)); closers = omega (arith, c) }
+
+-- what the rest of a level makes, after one event
+made-step : (T : Tables) (e : Event) (es : List Event) (b : SeekBuilder) → Makes (partsOf e) (closersOf e) b (place T e b)
+    → (place T e b .building ≡ true → Made (beforeFall T (place T e b) es) (place T e b) (placeAll T es (place T e b)))
+    → Made (beforeFall T b (e ∷ es)) b (placeAll T (e ∷ es) b)
+unfolding placeAll beforeFall concatMap closersIn
+made-step T e es b m ih =
+    by-test (λ fs. Made fs b (placeAll T es (place T e b))) (place T e b .building)
+    (λ q. record {
+      parts = ih q .parts ∙ ap (λ (l : List SeekKeyPart). l ++ concatMap partsOf (beforeFall T (place T e b) es)) (m .on q) ∙ append-assoc (b .parts) (partsOf e) (concatMap partsOf (beforeFall T (place T e b) es));
+      closers = omega (arith, ih q .closers, m .on-closers q);
+    })
+    (λ q. let f = fallen-all T es (place T e b) q in made-none b _ (f .parts ∙ m .fell q) (f .closers ∙ m .fell-closers q))
+
+made-all : (T : Tables) (es : List Event) (n : ℕ) (b : SeekBuilder) → Steady n b → Nested n es → b .building ≡ true → Made (beforeFall T b es) b (placeAll T es b)
+unfolding placeAll place beforeFall
+made-all T [] n b s h on = made-none b b refl refl
+made-all T (Event.narrow path x ∷ es) n b s h on =
     let a = steady-narrowing n b s path x es h in
-    parts-step T (Event.narrow path x) es b (makes-narrowing b on path x) (λ q. parts-all T es (a .0) (placeNarrowing path x b) (a .1) (a .2) q)
-parts-all T (Event.skip ∷ es) n b s h on = parts-step T Event.skip es b (makes-skip b) (λ q. parts-all T es n (fall b) (steady-fall n b s) h q)
-parts-all T (Event.closer ∷ es) zero b s h on = absurd h
-parts-all T (Event.closer ∷ es) (suc n) b s h on =
-    parts-step T Event.closer es b (makes-closer b on n s (b .opened) refl)
-    (λ q. parts-all T es n (placeCloser (b .opened) b) (steady-placed-closer n b s (b .opened) refl .0) h q)
-parts-all T (Event.bound x t ∷ []) n b s h on = absurd h
-parts-all T (Event.bound x t ∷ Event.skip ∷ es) n b s h on =
-    parts-step T (Event.bound x t) (Event.skip ∷ es) b (makes-bound b T x t)
-    (λ q. parts-step T Event.skip es (placeBound T x t b) (makes-skip (placeBound T x t b)) (λ r. parts-all T es n (fall (placeBound T x t b)) (steady-bound T x t n b s) h r))
-parts-all T (Event.bound x t ∷ Event.narrow p y ∷ es) n b s h on = absurd h
-parts-all T (Event.bound x t ∷ Event.closer ∷ es) n b s h on = absurd h
-parts-all T (Event.bound x t ∷ Event.bound y u ∷ es) n b s h on = absurd h
+    made-step T (Event.narrow path x) es b (makes-narrowing b on path x) (λ q. made-all T es (a .0) (placeNarrowing path x b) (a .1) (a .2) q)
+made-all T (Event.skip ∷ es) n b s h on = made-step T Event.skip es b (makes-skip b) (λ q. made-all T es n (fall b) (steady-fall n b s) h q)
+made-all T (Event.closer ∷ es) zero b s h on = absurd h
+made-all T (Event.closer ∷ es) (suc n) b s h on =
+    made-step T Event.closer es b (makes-closer b on n s (b .opened) refl)
+    (λ q. made-all T es n (placeCloser (b .opened) b) (steady-placed-closer n b s (b .opened) refl .0) h q)
+made-all T (Event.bound x t ∷ []) n b s h on = absurd h
+made-all T (Event.bound x t ∷ Event.skip ∷ es) n b s h on =
+    made-step T (Event.bound x t) (Event.skip ∷ es) b (makes-bound b T x t)
+    (λ q. made-step T Event.skip es (placeBound T x t b) (makes-skip (placeBound T x t b)) (λ r. made-all T es n (fall (placeBound T x t b)) (steady-bound T x t n b s) h r))
+made-all T (Event.bound x t ∷ Event.narrow p y ∷ es) n b s h on = absurd h
+made-all T (Event.bound x t ∷ Event.closer ∷ es) n b s h on = absurd h
+made-all T (Event.bound x t ∷ Event.bound y u ∷ es) n b s h on = absurd h
 
 -- lo and hi are two
 most-one : {A : Type 0} (o : Option A) → number o ≤ 1
@@ -489,9 +512,11 @@ pub kept : (T : Tables) (es : List Event) → Nested 0 es → Kept T es (placeAl
 unfolding new
 kept T es h =
     let r = placed-all T es 0 new steady-new h in
+    let made = made-all T es 0 new steady-new h refl in
     record {
       never-returns = never-returns T es;
-      parts = parts-all T es 0 new steady-new h refl;
+      parts = made .parts;
+      closers = omega (arith, made .closers);
       edge-excludes = r .steady .edge-excludes;
       guide-path = r .steady .guide-path;
       edges-folded = r .steady .edges-folded;

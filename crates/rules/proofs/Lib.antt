@@ -2,6 +2,8 @@
 pub mod Cases
 pub mod BottomUp
 pub mod Each
+-- What demand 3 reaches, of the record alone.
+pub mod AddsUp
 -- What an accepted file's tables give, and the induction over the walk.
 pub mod Sound
 pub mod Keeps
@@ -13,13 +15,9 @@ pub mod Runs
 pub mod Alone
 -- Reading back what a plan holds.
 pub mod RoundTrip
--- Demand 1's shape.
+-- What a reader gives, and demand 1.
 pub mod Readers
 pub mod Numbers
-pub mod Encoded
-pub mod Placed
-pub mod Printed
-pub mod Walked
 pub mod Demand1
 -- Demand 3.
 pub mod Lists

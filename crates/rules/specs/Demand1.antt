@@ -1,11 +1,9 @@
--- Demand 1's shape: "one plan or one refusal", what the two buffers hold afterwards, and that all of it is bytes.
+-- Demand 1: "one plan or one refusal", and what both buffers hold afterwards: said of what a call returned and left, whatever it computes.
 use mathlib.Core.Path.{_≡_}
-use mathlib.Core.List.{List, _++_}
-use Prim.Native.Nat.{ℕ, _-_, _*_, _/_, _%_, _≤_, _<_}
-use lib.ListN.{length, replicate}
-use Rattle.rules.specs.Base.{Each}
+use mathlib.Core.List.{List, [], _∷_, _++_}
+use Prim.Native.Nat.{ℕ, _-_, _*_, _≤_, _<_}
+use lib.ListN.{length, take, replicate}
 use Rattle.rules.specs.Limits.{planLimit}
-use Rattle.rules.specs.Compile.{Outcome, Compiled, outcome, compile}
 
 abbrev pub Byte : ℕ → Type 0
 Byte b = b < 256
@@ -13,36 +11,35 @@ Byte b = b < 256
 abbrev pub zeros : ℕ → List ℕ
 zeros n = replicate n 0
 
--- number 0 and the plan's length are returned; the plan stands at the front of its buffer
-pub record Accepted (room area : ℕ) (o : Outcome) (c : Compiled) (bytes : List ℕ) : Type 0 where
-  pub outcome : o ≡ Outcome.planned bytes
-  pub short : length bytes ≤ planLimit
-  pub fits : length bytes ≤ room
-  pub result : c .result ≡ length bytes
-  pub number : c .result / 65536 ≡ 0
-  pub planLength : c .result % 65536 ≡ length bytes
-  pub plan : c .plan ≡ bytes ++ zeros (room - length bytes)
-  pub work : c .work ≡ zeros area
+-- "Refusals, by place": their numbers
+abbrev pub refusals : List ℕ
+refusals = 1 ∷ 2 ∷ 3 ∷ 4 ∷ 5 ∷ 6 ∷ 7 ∷ 8 ∷ 9 ∷ 10 ∷ 11 ∷ 12 ∷ 13 ∷ 14 ∷ 15 ∷ []
 
--- one of 1 to 15 and length 0 are returned; both buffers are all zero
-pub record Refused (room area : ℕ) (o : Outcome) (c : Compiled) (n : ℕ) : Type 0 where
-  pub outcome : o ≡ Outcome.refused n
-  pub least : 1 ≤ n
-  pub most : n ≤ 15
-  pub result : c .result ≡ n * 65536
-  pub number : c .result / 65536 ≡ n
-  pub planLength : c .result % 65536 ≡ 0
-  pub plan : c .plan ≡ zeros room
-  pub work : c .work ≡ zeros area
+-- n is one of the numbers
+pub data Among (n : ℕ) : List ℕ → Type 0 where
+  here : {m : ℕ} {ms : List ℕ} → n ≡ m → Among n (m ∷ ms)
+  further : {m : ℕ} {ms : List ℕ} → Among n ms → Among n (m ∷ ms)
 
-pub data Shape (room area : ℕ) (o : Outcome) (c : Compiled) : Type 0 where
-  accepted : (bytes : List ℕ) → Accepted room area o c bytes → Shape room area o c
-  refused : (n : ℕ) → Refused room area o c n → Shape room area o c
+-- r is the length of what was written to the front of the output buffer; past it the buffer is zero
+pub record Accepted (r : ℕ) (output output′ : List ℕ) : Type 0 where
+  pub short : r ≤ planLimit
+  pub fits : r ≤ length output
+  pub rest-zero : output′ ≡ take r output′ ++ zeros (length output - r)
 
--- the call on any three slices
-pub record Demand1 (file plan work : List ℕ) : Type 0 where
-  pub shape : Shape (length plan) (length work) (outcome file (length plan) (length work)) (compile file plan work)
-  pub planLength : length (compile file plan work .plan) ≡ length plan
-  pub workLength : length (compile file plan work .work) ≡ length work
-  pub planBytes : Each Byte file → Each Byte (compile file plan work .plan)
-  pub workBytes : Each Byte (compile file plan work .work)
+-- r is the number of one of the call's refusals × 65,536; the whole output buffer is zero
+pub record Refused (numbers : List ℕ) (r : ℕ) (output output′ : List ℕ) : Type 0 where
+  pub number : ℕ
+  pub listed : Among number numbers
+  pub result : r ≡ number * 65536
+  pub all-zero : output′ ≡ zeros (length output)
+
+pub data Ending (numbers : List ℕ) (r : ℕ) (output output′ : List ℕ) : Type 0 where
+  accepted : Accepted r output output′ → Ending numbers r output output′
+  refused : Refused numbers r output output′ → Ending numbers r output output′
+
+-- A call with these refusals that returned r. Output buffer and work area were lent as `output` and `work`, and left as `output′` and `work′`.
+pub record Demand1 (numbers : List ℕ) (r : ℕ) (output work output′ work′ : List ℕ) : Type 0 where
+  pub ending : Ending numbers r output output′
+  pub work-zero : work′ ≡ zeros (length work)
+  pub output-length : length output′ ≡ length output
+  pub work-length : length work′ ≡ length work

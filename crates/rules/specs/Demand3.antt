@@ -13,9 +13,9 @@ use Rattle.rules.specs.Checks.{checks, fault}
 use Rattle.rules.specs.Constant.{unionTag, term}
 use Rattle.rules.specs.Events.{Select, Diagnostic, Narrowing, Event, Lists}
 use Rattle.rules.specs.Walk.{walkLevel}
-use Rattle.rules.specs.Placement.{SeekKeyPart, Guide, Range, Edges, SeekBuilder, new, place, placeAll}
+use Rattle.rules.specs.Placement.{SeekKeyPart, Guide, Range, Edges, SeekBuilder, new, place, placeAll, SeekKey, joined}
 use Rattle.rules.specs.Levels.{Level, starting, narrowings}
-use Rattle.rules.specs.Plan.{Plan, planLevel, planBytes}
+use Rattle.rules.specs.Plan.{PlanLevel, Plan, planLevel, planBytes}
 
 -- whether building holds after a level's first i events
 unfoldable pub buildingAfter : Tables → List Event → ℕ → Bool
@@ -37,6 +37,17 @@ partsOf (Event.narrow path (Narrowing.Fuzzy x distance anchor)) = []
 partsOf Event.skip = []
 partsOf Event.closer = SeekKeyPart.Bytes term ∷ []
 partsOf (Event.bound x t) = []
+
+-- "all closer events", by number
+unfoldable pub closersOf : Event → ℕ
+closersOf (Event.narrow path x) = 0
+closersOf Event.skip = 0
+closersOf Event.closer = 1
+closersOf (Event.bound x t) = 0
+
+unfoldable pub closersIn : List Event → ℕ
+closersIn [] = 0
+closersIn (e ∷ es) = closersOf e + closersIn es
 
 -- "Ranges and guides are each 0 or 1."
 unfoldable pub number : {A : Type 0} → Option A → ℕ
@@ -72,6 +83,8 @@ pub record Kept (T : Tables) (events : List Event) (b : SeekBuilder) : Type 0 wh
   pub never-returns : (i k : ℕ) → buildingAfter T events i ≡ false → buildingAfter T events (i + k) ≡ false
   -- "the parts are exactly the byte, tag, register and fact narrowings and closers made before the fall, in order"
   pub parts : b .parts ≡ concatMap partsOf (beforeFall T new events)
+  -- the closers that became parts are "all closer events before the fall"
+  pub closers : b .closers ≡ closersIn (beforeFall T new events)
   -- "an edge excludes range and guide"
   pub edge-excludes : 0 < edges b → (b .range ≡ none) × (b .guide ≡ none)
   -- "a guide beside a range has the range's path"
@@ -126,6 +139,43 @@ pub record Demand3 (bytes out : List ℕ) : Type 0 where
   pub holds : Holds tables levels (startOf tables levels (length levels)) plan
   pub written : out ≡ planBytes plan
 
+-- What a plan's own items keep, level by level: this much a reader of the plan can see without the rule file.
+
+-- the seek's parts, where they are not joined
+unfoldable pub seekParts : SeekKey → Option (List SeekKeyPart)
+seekParts (SeekKey.Prefix bytes) = none
+seekParts (SeekKey.Composite parts) = some parts
+seekParts (SeekKey.PrefixRange parts range) = some parts
+seekParts (SeekKey.Bounded parts lo hi) = some parts
+
+unfoldable pub seekRange : SeekKey → Option Range
+seekRange (SeekKey.Prefix bytes) = none
+seekRange (SeekKey.Composite parts) = none
+seekRange (SeekKey.PrefixRange parts range) = some range
+seekRange (SeekKey.Bounded parts lo hi) = none
+
+unfoldable pub seekEdges : SeekKey → ℕ
+seekEdges (SeekKey.Prefix bytes) = 0
+seekEdges (SeekKey.Composite parts) = 0
+seekEdges (SeekKey.PrefixRange parts range) = 0
+seekEdges (SeekKey.Bounded parts lo hi) = number lo + number hi
+
+-- Composite has a part that is not bytes, and Bounded an edge
+abbrev pub WellFormed : SeekKey → Type 0
+WellFormed (SeekKey.Prefix bytes) = Unit {0}
+WellFormed (SeekKey.Composite parts) = joined parts ≡ none
+WellFormed (SeekKey.PrefixRange parts range) = Unit {0}
+WellFormed (SeekKey.Bounded parts lo hi) = 0 < number lo + number hi
+
+pub record AddsUp (l : PlanLevel) : Type 0 where
+  pub closers-most : l .closers ≤ l .parts
+  pub sum : l .narrowings ≡ l .parts - l .closers + length (l .residuals) + number (seekRange (l .seek)) + number (l .guide)
+  pub edges-folded : seekEdges (l .seek) ≡ length (l .folded)
+  pub edge-excludes : 0 < seekEdges (l .seek) → (seekRange (l .seek) ≡ none) × (l .guide ≡ none)
+  pub guide-path : (g : Guide) (r : Range) → l .guide ≡ some g → seekRange (l .seek) ≡ some r → g .path ≡ r .path
+  pub parts-held : (parts : List SeekKeyPart) → seekParts (l .seek) ≡ some parts → length parts ≡ l .parts
+  pub well-formed : WellFormed (l .seek)
+
 unfoldable pub openDemand3 : Unit {0}
-unfolding buildingAfter beforeFall partsOf number edges alreadyBound entryAt levelAt startOf
+unfolding buildingAfter beforeFall partsOf closersOf closersIn number edges alreadyBound entryAt levelAt startOf seekParts seekRange seekEdges
 openDemand3 = tt

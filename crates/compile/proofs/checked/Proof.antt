@@ -40,14 +40,14 @@ returns c =
     let s = t .before .before .before .before .before .before .before in
     let q = t .enum-told .given .1 in
     let e = a .accepted .ensures in
-    ((e .0 .0 ∙ accepted-outcome _ _ (bytes _ (λ i. s .shared-slice-known .given i .fits)) (ready _ _ _ (v .ensures .0) q (v .ensures .1 .1 q)) _ _ (s .before .pre .0) (s .before .pre .1), e .0 .1), left-by _ _ _ _ _ _ (e .1) (sym q ∙ v .ensures .0))
+    (e .0 ∙ accepted-outcome _ _ (bytes _ (λ i. s .shared-slice-known .given i .fits)) (ready _ _ _ (v .ensures .0) q (v .ensures .1 .1 q)) _ _ (s .before .pre .0) (s .before .pre .1), (e .1 .0, left-by _ _ _ _ _ _ (e .1 .1) (sym q ∙ v .ensures .0)))
 
 returns-2 : tie.Need-returns-2
 returns-2 c =
     let v = c .before .before .before .before in
     let s = v .before .before .before .before .before in
     let q = sym (v .verify .ensures .0) ∙ c .before .n .given .1 in
-    ((refused-outcome _ _ _ _ _ (file-decides _ _ (s .pre .0) (s .pre .1) ∙ q), tt), refused-memory _ _ _ _ _ q)
+    (refused-outcome _ _ _ _ _ (file-decides _ _ (s .pre .0) (s .pre .1) ∙ q), (tt, refused-memory _ _ _ _ _ q))
 
 pub checked-spec : {M : Type 1} → statement M
 checked-spec =

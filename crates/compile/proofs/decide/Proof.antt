@@ -7,12 +7,12 @@ use Rattle.compile.proofs.decide.Tie as tie
 returns : tie.Need-returns
 returns c =
     let q = long-file _ _ (c .if1 .taken) in
-    ((refused-outcome _ _ _ _ _ q, tt), refused-memory _ _ _ _ _ q)
+    (refused-outcome _ _ _ _ _ q, (tt, refused-memory _ _ _ _ _ q))
 
 returns-2 : tie.Need-returns-2
 returns-2 c =
     let q = small-area _ _ (c .before .if1 .left) (c .if2 .taken) in
-    ((refused-outcome _ _ _ _ _ q, tt), refused-memory _ _ _ _ _ q)
+    (refused-outcome _ _ _ _ _ q, (tt, refused-memory _ _ _ _ _ q))
 
 checked-requires : tie.Need-checked-requires
 checked-requires c κs = search needs
@@ -28,7 +28,7 @@ returns-3 c =
     let k = c .before .before .before .before in
     let t = k .before .before .before in
     let e = k .checked .ensures in
-    (e .0, left-by _ _ _ _ _ _ (e .1) (sym (file-decides _ _ (t .before .if1 .left) (t .if2 .left))))
+    (e .0, (e .1 .0, left-by _ _ _ _ _ _ (e .1 .1) (sym (file-decides _ _ (t .before .if1 .left) (t .if2 .left)))))
 
 pub decide-spec : {M : Type 1} → statement M
 decide-spec =

@@ -1,5 +1,4 @@
-use Rattle.rules.proofs.Demand3.{demand3}
-use Rattle.compile.proofs.Ends.{result-is, plan-is, work-is}
+use Rattle.compile.proofs.Ends.{result-is, plan-is, work-is, demand1-is, demand3-is}
 use borrow.Author.Needs.{needs}
 use Rattle.compile.proofs.sinalvento_compile.Statement.{statement}
 use Rattle.compile.proofs.sinalvento_compile.Tie as tie
@@ -30,13 +29,11 @@ returns c =
     let z = c .before .before .before in
     let y = z .before .before .before .before .before in
     let d = y .before .before .before .before .before .before in
-    let e = d .decide .ensures .0 in (
-      result-is _ _ _ _ _ (e .0) (e .1) _ (c .answer .ensures),
-      (
-        plan-is _ _ _ _ _ (e .0) (e .1) _ _ (d .decide .kept .1 .0) (z .before .length .ensures) (z .zero2 .ensures),
-        (work-is _ _ _ _ _ (e .0) (e .1) _ _ (d .decide .kept .1 .1 .0) (y .zero .ensures), demand3 _ _ _),
-      ),
-    )
+    let e = d .decide .ensures in
+    let result = result-is _ _ _ _ _ (e .0) (e .1 .0) _ (c .answer .ensures) in
+    let plan = plan-is _ _ _ _ _ (e .0) (e .1 .0) _ _ (d .decide .kept .1 .0) (z .before .length .ensures) (z .zero2 .ensures) in
+    let work = work-is _ _ _ _ _ (e .0) (e .1 .0) _ _ (d .decide .kept .1 .1 .0) (y .zero .ensures) in
+    (result, (plan, (work, (demand1-is _ _ _ _ _ result plan _ work, demand3-is _ _ _ _ _ result plan))))
 
 pub sinalvento-compile-spec : {M : Type 1} → statement M
 sinalvento-compile-spec =

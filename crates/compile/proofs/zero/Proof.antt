@@ -3,7 +3,7 @@ use native.Mathlib.Omega.{arith}
 use lib.ListN.{length}
 use Prim.Native.Nat.{_-_}
 use Rattle.compile.specs.Endings.{zeroed}
-use Rattle.compile.proofs.Zeroes.{zero-end, block-same, block-more}
+use Rattle.compile.proofs.Zeroes.{zero-end, block-in, block-same, block-more}
 use Rattle.compile.proofs.zero.Statement.{statement}
 use Rattle.compile.proofs.zero.Tie as tie
 use Rattle.compile.proofs.zero.Reads as reads
@@ -24,25 +24,30 @@ block-end-requires : tie.Need-block-end-requires Inv-loop μ-loop
 block-end-requires c κs = c .loop-test .taken
 
 sub-clear : tie.Need-sub-clear Inv-loop μ-loop
-sub-clear c = omega (arith, c .block-end .ensures .0)
+sub-clear c = let b = block-in _ _ _ (c .before .loop-test .taken) (c .block-end .ensures) in omega (arith, b .0)
 
 part-clear-start : tie.Need-part-clear-start Inv-loop μ-loop
-part-clear-start c = omega (arith, c .block-end .ensures .0)
+part-clear-start c = let b = block-in _ _ _ (c .before .loop-test .taken) (c .block-end .ensures) in omega (arith, b .0)
 
 part-clear-end : tie.Need-part-clear-end Inv-loop μ-loop
-part-clear-end c = c .block-end .ensures .1
+part-clear-end c = block-in _ _ _ (c .before .loop-test .taken) (c .block-end .ensures) .1
 
 clear-requires : tie.Need-clear-requires Inv-loop μ-loop
 clear-requires c κs = tt
 
 loop-less : tie.Need-loop-less Inv-loop μ-loop
-loop-less c = let b = c .before .before .before .before .block-end .ensures in omega (arith, b .0, b .1, block-same _ _ _ _ (omega (arith, b .0)) (b .1) (c .before .before .clear .ensures))
+loop-less c =
+    let t = c .before .before .before .before in
+    let b = block-in _ _ _ (t .before .loop-test .taken) (t .block-end .ensures) in
+    omega (arith, b .0, b .1, block-same _ _ _ _ (omega (arith, b .0)) (b .1) (c .before .before .clear .ensures))
 
 loop-again : tie.Need-loop-again Inv-loop μ-loop
 loop-again c =
-    let b = c .before .before .before .before .block-end .ensures in
-    let k = c .before .before .before .before .before .before .loop .inv in
-    (block-same _ _ _ _ (omega (arith, b .0)) (b .1) (c .before .before .clear .ensures) ∙ k .0, k .1 ∙ block-more _ _ _ _ (omega (arith, b .0)) (b .1) (c .before .before .clear .ensures))
+    let t = c .before .before .before .before in
+    let b = block-in _ _ _ (t .before .loop-test .taken) (t .block-end .ensures) in
+    let k = t .before .before .loop .inv in
+    let cleared = c .before .before .clear .ensures in
+    (block-same _ _ _ _ (omega (arith, b .0)) (b .1) cleared ∙ k .0, k .1 ∙ block-more _ _ _ _ (omega (arith, b .0)) (b .1) cleared)
 
 same-length : tie.Need-same-length Inv-loop μ-loop
 same-length c = c .before .loop .inv .0
