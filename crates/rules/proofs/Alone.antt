@@ -7,6 +7,7 @@ use Prim.Native.Nat.{ℕ, _<_}
 use lib.ListN.{length}
 use Rattle.rules.specs.Base.{Each}
 use Rattle.rules.specs.File.{Tables, LevelEntry, predicateAt}
+use Rattle.rules.specs.Constant.{constant}
 use Rattle.rules.specs.Events.{Lists, Walk, Ops}
 use Rattle.rules.specs.Walk.{walkLevel}
 use Rattle.rules.proofs.Cases.{true≢false}
@@ -18,10 +19,11 @@ use Rattle.rules.proofs.Sound.{BindingOk, Sound}
 abbrev Nothing : Type 0
 Nothing = Unit {0}
 
-abbrev nothing-kept : Ops Nothing
-nothing-kept =
+abbrev nothing-kept : Tables → Ops Nothing
+nothing-kept T =
     record {
       lookup = λ s x. none;
+      constant = λ s n t. constant T n t;
       reported = λ s. 0;
       bind = λ x slot s. s;
       constrained = λ x s. s;
@@ -33,18 +35,19 @@ nothing-kept =
       bound = λ x t s. s;
     }
 
-any-numbers : (T : Tables) → Numbers T Any Any
+pub any-numbers : (T : Tables) → Numbers T Any Any
 any-numbers T = record { scalar = tt; first = λ t i fs e l. tt; next = λ p t i fs h e l. tt; tag = λ p t alts h e. each-all alts (λ a. tt); names = λ n x e. tt }
 
-alone : (T : Tables) (address : ℕ) (M : Walk → Walk → Type 0) → Sim T Any Any nothing-kept (λ s. true) address M (λ w s. Nothing)
+alone : (T : Tables) (address : ℕ) (M : Walk → Walk → Type 0) → Sim T Any Any (nothing-kept T) (λ s. true) address M (λ w s. Nothing)
 alone T address M =
     record {
       idle = λ s e. record { bind = λ x slot. refl; constrained = λ x. refl; select = λ a path disc. refl; report = λ n code. refl; narrow = λ path x. refl; skip = refl; closer = λ before. refl; bound = λ x t. refl };
       stays = λ a a′ s e m r. tt;
       lookups = λ a s f e r x. absurd (true≢false e);
       reported = λ a b s s′ e e′ r r′. absurd (true≢false e);
-      fields = λ x t p a s n k r. tt;
-      keys = λ x t a s n l r. tt;
+      constant-is = λ a s r n t. refl;
+      fields = λ x t p a s e n k r. tt;
+      keys = λ x t a s e n l r. tt;
       constrains = λ x a s r. tt;
       selects = λ n p d a s k r. tt;
       reports = λ n code a s r. tt;
@@ -61,5 +64,5 @@ alone T address M =
 pub walk-keeps : (T : Tables) (S : Sound T) (R : Walk → Walk → Type 0) → Keeps T R → (l : LevelEntry) → l .predicate < length (T .predicates) → (lists : Lists) → Each (BindingOk T) (lists .bindings) → R (record { lists = lists; events = [] }) (walkLevel T l lists) × Each (BindingOk T) (walkLevel T l lists .lists .bindings)
 unfolding walkLevel
 walk-keeps T S R K l h lists fit =
-    let a = goes-key T S Any Any (any-numbers T) nothing-kept (λ s. true) (l .address) R (λ w s. Nothing) K (alone T (l .address) R) (l .node) (predicateAt T (l .predicate) .key) (record { lists = lists; events = [] }) tt (S .keys (l .predicate) h) fit tt in
+    let a = goes-key T S Any Any (any-numbers T) (nothing-kept T) (λ s. true) (l .address) R (λ w s. Nothing) K (alone T (l .address) R) (l .node) (predicateAt T (l .predicate) .key) (record { lists = lists; events = [] }) tt (S .keys (l .predicate) h) fit tt in
     (a .grew, a .fit)

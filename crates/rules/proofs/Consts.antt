@@ -2,20 +2,24 @@
 -- `constant`, and reading the file's bindings there is reading the current ones.
 use mathlib.Core.Bool.{Bool, true, false}
 use mathlib.Core.List.{List, [], _∷_, _++_}
-use mathlib.Core.Option.{Option, none, some}
-use mathlib.Core.Path.{_≡_, refl, sym, ap, _∙_, fun-ext}
-use Prim.Native.Nat.{ℕ, _<_}
+use mathlib.Core.Option.{Option, none, some, Option·getD}
+use mathlib.Core.Path.{_≡_, refl, sym, ap, ap₂, _∙_, fun-ext}
+use Prim.Native.Nat.{ℕ, zero, suc, _<_}
 use lib.Dec.{eqb}
 use lib.ListN.{length}
-use Rattle.rules.specs.Base.{Each, lastOr, _>>=_}
-use Rattle.rules.specs.File.{Tables, Slot, Binding, Node, LevelEntry, varName}
-use Rattle.rules.specs.Constant.{lookup, constNode, constOf}
-use Rattle.rules.specs.Events.{Lists, Walk, bind, constrained, select, report, emit}
-use Rattle.rules.specs.Walk.{walkLevel}
-use Rattle.rules.proofs.Cases.{by-test, eqb-eq}
+use Rattle.rules.specs.Base.{Each, done, more, lastOr, _>>=_}
+use Rattle.rules.specs.File.{Tables, Ty, Slot, Binding, Node, LevelEntry, varName, nameAt, typeAt, nodeAt, predicateAt}
+use Rattle.rules.specs.Constant.{Const, lookup, constNode, constOf, standsFor, constantNode, constantBelow, constant}
+use Rattle.rules.specs.Events.{Narrowing, Event, Lists, Walk, bind, constrained, select, report, emit}
+use Rattle.rules.specs.Walk.{narrowing, walkLevel}
+use Rattle.rules.specs.Levels.{Level, starting, levelOf, level, levelsFrom, levels}
+use Rattle.rules.specs.Now.{withBindings, constantNow, nowOps, walkNow, levelsNowFrom, levelsNow}
+use Rattle.rules.proofs.Cases.{by-test, eqb-eq, true≢false}
+use Rattle.rules.proofs.Each.{Any}
 use Rattle.rules.proofs.Sound.{BindingOk, Sound}
 use Rattle.rules.proofs.Keeps.{Keeps}
-use Rattle.rules.proofs.Alone.{walk-keeps}
+use Rattle.rules.proofs.Runs.{Sim, goes-key}
+use Rattle.rules.proofs.Alone.{any-numbers}
 
 -- the Const that a name is bound to
 abbrev pub constBound : List Binding → ℕ → Option ℕ
@@ -61,8 +65,106 @@ consts-keeps T =
       unions = λ d p w w′ h g. g;
     }
 
--- after any level, from any lists that hold the file's Consts
-pub level-consts : (T : Tables) → Sound T → (l : LevelEntry) → l .predicate < length (T .predicates) → (lists : Lists) → Each (BindingOk T) (lists .bindings) → ((node : Node) → constOf (lists .bindings) node ≡ constOf (T .bindings) node) → (node : Node) → constOf (walkLevel T l lists .lists .bindings) node ≡ constOf (T .bindings) node
-unfolding constOf
-level-consts T S l h lists fit same node =
-    ap (λ (f : ℕ → Option ℕ). varName node >>= f) (fun-ext (walk-keeps T S SameConsts (consts-keeps T) l h lists fit .0)) ∙ same node
+-- What `constant` reads of the bindings is which Const each name has.
+module _ (T : Tables) (bs : List Binding) (same : (x : ℕ) → constBound bs x ≡ constBound (T .bindings) x) where
+  stands-now : (n : ℕ) → standsFor (withBindings T bs) n ≡ standsFor T n
+  unfolding standsFor constOf withBindings nodeAt
+  stands-now n = ap (λ (f : ℕ → Option ℕ). Option·getD (varName (nodeAt T n) >>= f) n) (fun-ext same)
+
+  node-now : (below : ℕ → ℕ → Option Const) (node : Node) (ty : Ty) → constantNode (withBindings T bs) below node ty ≡ constantNode T below node ty
+  unfolding constantNode withBindings nameAt
+  node-now below (Node.Int bytes) ty = refl
+  node-now below (Node.Str x) ty = refl
+  node-now below (Node.Bytes bytes) ty = refl
+  node-now below (Node.Var x) ty = refl
+  node-now below Node.Wildcard ty = refl
+  node-now below Node.Never ty = refl
+  node-now below (Node.Prefix x) ty = refl
+  node-now below (Node.Fuzzy x d a) ty = refl
+  node-now below (Node.Record fs) ty = refl
+  node-now below (Node.Access x n) ty = refl
+  node-now below (Node.Value n) ty = refl
+  node-now below (Node.Select x n) ty = refl
+  node-now below Node.Disjunction ty = refl
+  node-now below Node.Subquery ty = refl
+  node-now below (Node.Fact p n) ty = refl
+  node-now below Node.Arith ty = refl
+  node-now below Node.Error ty = refl
+
+  below-now : (limit n t : ℕ) → constantBelow (withBindings T bs) limit n t ≡ constantBelow T limit n t
+  unfolding constantBelow withBindings nodeAt typeAt
+  below-now zero n t = refl
+  below-now (suc limit) n t =
+      node-now (constantBelow (withBindings T bs) limit) (nodeAt T (standsFor (withBindings T bs) n)) (typeAt T t)
+      ∙ ap₂ (λ (below : ℕ → ℕ → Option Const) (m : ℕ). constantNode T below (nodeAt T m) (typeAt T t))
+      (fun-ext (λ m. fun-ext (λ u. below-now limit m u))) (stands-now n)
+
+  constant-now : (n t : ℕ) → constantNow T bs n t ≡ constant T n t
+  unfolding constantNow constant withBindings
+  constant-now n t = below-now (length (T .types)) n t
+
+-- the two readings side by side: the same lists and events, and in them the file's Consts
+record Now (T : Tables) (a c : Walk) : Type 0 where
+  same : c ≡ a
+  consts : (x : ℕ) → constBound (a .lists .bindings) x ≡ constBound (T .bindings) x
+
+now-emit : (T : Tables) (e : Event) (a c : Walk) → Now T a c → Now T (emit e a) (emit e c)
+unfolding emit
+now-emit T e a c r = record { same = ap (emit e) (r .same); consts = r .consts }
+
+now-bind : (T : Tables) (x : ℕ) (slot : Slot) (a c : Walk) → lookup (a .lists .bindings) x ≡ none → constNode slot ≡ none → Now T a c → Now T (bind x slot a) (bind x slot c)
+unfolding bind
+now-bind T x slot a c e k r =
+    record {
+      same = ap (bind x slot) (r .same);
+      consts = λ y. const-snoc (a .lists .bindings) (record { name = x; slot = slot }) y e k ∙ r .consts y;
+    }
+
+now-runs : (T : Tables) (address : ℕ) → Sim T Any Any (nowOps T) (λ c. false) address SameConsts (Now T)
+unfolding constNode constrained select report
+now-runs T address =
+    record {
+      idle = λ c e. absurd (true≢false (sym e));
+      stays = λ a a′ c e m r. absurd (true≢false (sym e));
+      lookups = λ a c f e r x. ap (λ (w : Walk). lookup (w .lists .bindings) x) (r .same);
+      reported = λ a b c d e e′ r r′. ap₂ (λ (v w : Walk). eqb (length (v .lists .diagnostics)) (length (w .lists .diagnostics))) (r .same) (r′ .same);
+      constant-is = λ a c r n t. ap (λ (w : Walk). constantNow T (w .lists .bindings) n t) (r .same) ∙ constant-now T (a .lists .bindings) (r .consts) n t;
+      fields = λ x t p a c e n s r. now-bind T x (Slot.Field address p t) a c e refl r;
+      keys = λ x t a c e n l r. now-bind T x (Slot.Key address t) a c e refl r;
+      constrains = λ x a c r. record { same = ap (constrained x) (r .same); consts = r .consts };
+      selects = λ n p d a c s r. record { same = ap (select n p d) (r .same); consts = r .consts };
+      reports = λ n code a c r. record { same = ap (report n code) (r .same); consts = r .consts };
+      skips = λ a c r. now-emit T Event.skip a c r;
+      bounds = λ x t a c r. now-emit T Event.skip _ _ (now-emit T (Event.bound x t) a c r);
+      constants = λ n t k p a c e s r. now-emit T (Event.narrow p (narrowing k)) a c r;
+      registers = λ n at p a c s s′ r. now-emit T (Event.narrow p (Narrowing.RegisterField n at)) a c r;
+      facts = λ n p a c s r. now-emit T (Event.narrow p (Narrowing.FactId n)) a c r;
+      tags = λ d p a c s r. now-emit T (Event.narrow p (Narrowing.Tag d)) a c r;
+      closers = λ d p a a′ c c′ s r m on r′. now-emit T Event.closer a′ c′ r′;
+    }
+
+module _ (T : Tables) (S : Sound T) where
+  -- one level, from any lists that hold the file's Consts
+  level-now : (l : LevelEntry) → l .predicate < length (T .predicates) → (lists : Lists) → Each (BindingOk T) (lists .bindings)
+      → ((x : ℕ) → constBound (lists .bindings) x ≡ constBound (T .bindings) x)
+      → Now T (walkLevel T l lists) (walkNow T l lists) × Each (BindingOk T) (walkLevel T l lists .lists .bindings)
+  unfolding walkLevel walkNow
+  level-now l h lists fit same =
+      let start : Walk = record { lists = lists; events = [] } in
+      let b = goes-key T S Any Any (any-numbers T) (nowOps T) (λ c. false) (l .address) SameConsts (Now T) (consts-keeps T) (now-runs T (l .address)) (l .node) (predicateAt T (l .predicate) .key) start start (S .keys (l .predicate) h) fit (record { same = refl; consts = same }) in
+      (b .rel, b .fit)
+
+  levels-now-from : (start : Lists) {entries : List LevelEntry} → Each (λ l. l .predicate < length (T .predicates)) entries → Each (BindingOk T) (start .bindings)
+      → ((x : ℕ) → constBound (start .bindings) x ≡ constBound (T .bindings) x)
+      → levelsNowFrom T start entries ≡ levelsFrom T start entries
+  unfolding levelsNowFrom levelsFrom level levelOf
+  levels-now-from start done fit same = refl
+  levels-now-from start (more {x = entry} {xs = entries} h hs) fit same =
+      let n = level-now entry h start fit same in
+      ap (λ (w : Walk). levelOf T start w ∷ levelsNowFrom T (w .lists) entries) (n .0 .same)
+      ∙ ap (λ (ls : List Level). level T entry start ∷ ls) (levels-now-from (walkLevel T entry start .lists) hs (n .1) (n .0 .consts))
+
+  -- A file's whole list of levels: the walk whose `constant` reads the bindings as they stand at each call gives the same events and the same four lists.
+  pub levels-now : levelsNow T ≡ levels T
+  unfolding levelsNow levels starting
+  levels-now = levels-now-from (starting T) (S .levels) (S .bindings) (λ x. refl)

@@ -22,6 +22,7 @@ use Rattle.rules.specs.Demand3.{LevelKept, entryAt, levelAt, startOf, Ho
 use Rattle.rules.proofs.Cases.{by-test}
 use Rattle.rules.proofs.Sound.{BindingOk, Sound, sound, passed-all}
 use Rattle.rules.proofs.Alone.{walk-keeps}
+use Rattle.rules.proofs.Consts.{levels-now}
 use Rattle.rules.proofs.Demand1.{Ended, ended, numbered}
 use Rattle.rules.proofs.Lists.{AddsTo, adds-keeps, Onwards, onwards-same, onwards-next}
 use Rattle.rules.proofs.Nested.{Nested, Emits, emits-keeps}
@@ -154,6 +155,7 @@ tables-kept bytes T e f =
       levels = levels T;
       every-level = levels-length T S (starting T) (T .levels);
       kept = λ k h. subst (λ s. LevelKept T (entryAt T k) s (levelAt T (levels T) k)) (start-is T S (levels T) k) (every-level T S (starting T) (S .levels) (S .bindings) k h _);
+      as-they-stand = sym (levels-now T S);
       plan = plan T;
       holds = plan-holds T S;
       written = refl;

@@ -154,7 +154,7 @@ module _ {S : Type 0} (o : Ops S) (T : Tables) (s : S) (I : Idle o s) where
   unfolding constrainEach
   idle-constrainEach [] t path = refl
   idle-constrainEach (k ∷ ks) t path =
-      ap (constrainEach o T ks t path) (by-option (λ w. w ≡ s) (constant T (k .node) t) (λ e. reported (k .node) Code.RejectTypeMismatch) (λ c e. idle-narrowBy c path))
+      ap (constrainEach o T ks t path) (by-option (λ w. w ≡ s) (o .constant s (k .node) t) (λ e. reported (k .node) Code.RejectTypeMismatch) (λ c e. idle-narrowBy c path))
       ∙ idle-constrainEach ks t path
 
   pub idle-constrainBy : (ks : List Constraint) (x t : ℕ) (path : FieldPath) → constrainBy o T ks x t path s ≡ s
@@ -193,7 +193,7 @@ module _ {S : Type 0} (o : Ops S) (T : Tables) (s : S) (I : Idle o s) where
     idle-matched n (Slot.Derived from) t path = reported n Code.NyiValueMatch
     idle-matched n (Slot.Field from at ty) t path = by-test (λ w. w ≡ s) (eqb from address) (λ e. I .report n _) (λ e. I .narrow path _)
     idle-matched n (Slot.Value from ty) t path = I .report n _
-    idle-matched n (Slot.Const folded) t path = by-option (λ w. w ≡ s) (constant T folded t) (λ e. idle-partial folded t path) (λ c e. idle-narrowBy c path)
+    idle-matched n (Slot.Const folded) t path = by-option (λ w. w ≡ s) (o .constant s folded t) (λ e. idle-partial folded t path) (λ c e. idle-narrowBy c path)
 
     pub idle-injectAlternative : (n : ℕ) (f : FieldPattern) (alt : Option Alternative) (path : FieldPath) → injectAlternative o T address below n f alt path s ≡ s
     unfolding injectAlternative
@@ -211,7 +211,7 @@ module _ {S : Type 0} (o : Ops S) (T : Tables) (s : S) (I : Idle o s) where
     pub idle-inject : (fields : List FieldPattern) (alts : List Alternative) → Stays (inject o T address below fields alts)
     unfolding inject
     idle-inject fields alts n t path =
-        by-option (λ w. w ≡ s) (constant T n t) (λ e. idle-injectOnly n (onlyField fields) alts path) (λ c e. idle-narrowBy c path)
+        by-option (λ w. w ≡ s) (o .constant s n t) (λ e. idle-injectOnly n (onlyField fields) alts path) (λ c e. idle-narrowBy c path)
 
     pub idle-readAnswer : (n : ℕ) (slot : Option Slot) (t : ℕ) (path : FieldPath) (before : S) → readAnswer o T address below n slot t path before s ≡ s
     unfolding readAnswer
@@ -225,7 +225,7 @@ module _ {S : Type 0} (o : Ops S) (T : Tables) (s : S) (I : Idle o s) where
 
     pub idle-ranged : Stays (ranged o T address below)
     unfolding ranged
-    idle-ranged n t path = by-option (λ w. w ≡ s) (constant T n t) (λ e. I .report n _) (λ c e. idle-narrowBy c path)
+    idle-ranged n t path = by-option (λ w. w ≡ s) (o .constant s n t) (λ e. I .report n _) (λ c e. idle-narrowBy c path)
 
     pub idle-variable : (x : ℕ) → Stays (variable o T address below x)
     unfolding variable

@@ -13,6 +13,8 @@ pub mod Idle
 pub mod Choices
 pub mod Runs
 pub mod Alone
+-- The bindings as they stand, and the file's.
+pub mod Consts
 -- Reading back what a plan holds.
 pub mod RoundTrip
 -- What a reader gives, and demand 1.
@@ -26,4 +28,3 @@ pub mod Kept
 pub mod Demand3
 -- What later code leans on.
 pub mod Paths
-pub mod Consts

@@ -42,8 +42,9 @@ pub record Sim (T : Tables) (P : FieldPath → Type 0) (N : ℕ → Type 0) {C :
   pub stays : (a a′ : Walk) (c : C) → stopped c ≡ true → M a a′ → R a c → R a′ c
   pub lookups : (a : Walk) (c : C) → Each (BindingOk T) (a .lists .bindings) → stopped c ≡ false → R a c → (x : ℕ) → o .lookup c x ≡ lookup (a .lists .bindings) x
   pub reported : (a b : Walk) (c d : C) → stopped c ≡ false → stopped d ≡ false → R a c → R b d → eqb (o .reported c) (o .reported d) ≡ eqb (length (a .lists .diagnostics)) (length (b .lists .diagnostics))
-  pub fields : (x t : ℕ) (p : FieldPath) (a : Walk) (c : C) → N x → Stands T P p t → R a c → R (bind x (Slot.Field address p t) a) (o .bind x (Slot.Field address p t) c)
-  pub keys : (x t : ℕ) (a : Walk) (c : C) → N x → t < length (T .types) → R a c → R (bind x (Slot.Key address t) a) (o .bind x (Slot.Key address t) c)
+  pub constant-is : (a : Walk) (c : C) → R a c → (n t : ℕ) → o .constant c n t ≡ constant T n t
+  pub fields : (x t : ℕ) (p : FieldPath) (a : Walk) (c : C) → lookup (a .lists .bindings) x ≡ none → N x → Stands T P p t → R a c → R (bind x (Slot.Field address p t) a) (o .bind x (Slot.Field address p t) c)
+  pub keys : (x t : ℕ) (a : Walk) (c : C) → lookup (a .lists .bindings) x ≡ none → N x → t < length (T .types) → R a c → R (bind x (Slot.Key address t) a) (o .bind x (Slot.Key address t) c)
   pub constrains : (x : ℕ) (a : Walk) (c : C) → R a c → R (constrained x a) (o .constrained x c)
   pub selects : (n : ℕ) (p : FieldPath) (d : ℕ) (a : Walk) (c : C) → Short p → R a c → R (select n p d a) (o .select n p d c)
   pub reports : (n : ℕ) (code : Code) (a : Walk) (c : C) → R a c → R (report n code a) (o .report n code c)
@@ -113,16 +114,22 @@ module _ (T : Tables) (S : Sound T) (P : FieldPath → Type 0) (N : ℕ → Type
   goes-bind-field : (x t : ℕ) (p : FieldPath) (a : Walk) (c : C) → lookup (a .lists .bindings) x ≡ none → N x → Stands T P p t → Goes a (bind x (Slot.Field address p t) a) c (o .bind x (Slot.Field address p t) c)
   unfolding bind constNode
   goes-bind-field x t p a c e n s f r =
-      record { grew = K .binds x (Slot.Field address p t) a e (s .fits) refl; fit = each-append f (more (s .fits) done); rel = sim .fields x t p a c n s r; still = λ h. ap stopped (sim .idle c h .bind x (Slot.Field address p t)) ∙ h }
+      record { grew = K .binds x (Slot.Field address p t) a e (s .fits) refl; fit = each-append f (more (s .fits) done); rel = sim .fields x t p a c e n s r; still = λ h. ap stopped (sim .idle c h .bind x (Slot.Field address p t)) ∙ h }
 
   goes-bind-key : (x t : ℕ) (a : Walk) (c : C) → lookup (a .lists .bindings) x ≡ none → N x → t < length (T .types) → Goes a (bind x (Slot.Key address t) a) c (o .bind x (Slot.Key address t) c)
   unfolding bind constNode
   goes-bind-key x t a c e n l f r =
-      record { grew = K .binds x (Slot.Key address t) a e l refl; fit = each-append f (more l done); rel = sim .keys x t a c n l r; still = λ h. ap stopped (sim .idle c h .bind x (Slot.Key address t)) ∙ h }
+      record { grew = K .binds x (Slot.Key address t) a e l refl; fit = each-append f (more l done); rel = sim .keys x t a c e n l r; still = λ h. ap stopped (sim .idle c h .bind x (Slot.Key address t)) ∙ h }
 
   goes-constant : (n t : ℕ) (k : Const) (p : FieldPath) (a : Walk) (c : C) → constant T n t ≡ some k → Short p → Goes a (narrow p (narrowing k) a) c (o .narrow p (narrowing k) c)
   unfolding emit
   goes-constant n t k p a c e s f r = record { grew = K .constants n t k p a e s; fit = f; rel = sim .constants n t k p a c e s r; still = λ h. ap stopped (sim .idle c h .narrow p (narrowing k)) ∙ h }
+
+  -- a constant, or what stands in its place where there is none: both runs find the same
+  goes-constant-or : (n t : ℕ) (p : FieldPath) (a x : Walk) (c y : C) → Short p → Goes a x c y → Goes a (elim (constant T n t) [ none ↦ x | some k ↦ narrow p (narrowing k) a ]) c (elim (o .constant c n t) [ none ↦ y | some k ↦ o .narrow p (narrowing k) c ])
+  goes-constant-or n t p a x c y s g f r =
+      subst (λ (found : Option Const). Both a (elim (constant T n t) [ none ↦ x | some k ↦ narrow p (narrowing k) a ]) c (elim found [ none ↦ y | some k ↦ o .narrow p (narrowing k) c ])) (sym (sim .constant-is a c r n t))
+      (by-option₂ (λ a′ c′. Goes a a′ c c′) (constant T n t) (λ e. g) (λ k e. goes-constant n t k p a c e s) f r)
 
   goes-register : (n : ℕ) (at p : FieldPath) (a : Walk) (c : C) → Short at → Short p → Goes a (narrow p (Narrowing.RegisterField n at) a) c (o .narrow p (Narrowing.RegisterField n at) c)
   unfolding emit
@@ -175,7 +182,7 @@ module _ (T : Tables) (S : Sound T) (P : FieldPath → Type 0) (N : ℕ → Type
   reads-some : (s : Slot) (a : Walk) (c : C) → SlotOk T s → Reads a (give (some s) a) c (give (some s) c)
   reads-some s a c ok = reads-give (some s) a c (λ s′ e. subst (SlotOk T) (some-injective s s′ e) ok)
 
-  reads-declined : (n : ℕ) (code : Code) (a : Walk) (c : C) → Reads a (declined walkOps T n code a) c (declined o T n code c)
+  reads-declined : (n : ℕ) (code : Code) (a : Walk) (c : C) → Reads a (declined (walkOps T) T n code a) c (declined o T n code c)
   unfolding declined
   reads-declined n code a c f r =
       let g = goes-report n code a c f r in
@@ -209,12 +216,12 @@ module _ (T : Tables) (S : Sound T) (P : FieldPath → Type 0) (N : ℕ → Type
       stays-by e none = refl
       stays-by e (some x) = rests x (r′ c .walk) e
 
-  reads-fetched : (n p : ℕ) (register : Option ℕ) (a : Walk) (c : C) → p < length (T .predicates) → Reads a (fetchedRow walkOps T n p register a) c (fetchedRow o T n p register c)
+  reads-fetched : (n p : ℕ) (register : Option ℕ) (a : Walk) (c : C) → p < length (T .predicates) → Reads a (fetchedRow (walkOps T) T n p register a) c (fetchedRow o T n p register c)
   unfolding fetchedRow
   reads-fetched n p none a c h = reads-declined n Code.NyiFactField a c
   reads-fetched n p (some r) a c h = reads-some (Slot.Row r (some p)) a c (λ q e. subst (λ x. x < length (T .predicates)) (some-injective p q e) h)
 
-  reads-dereference : (n : ℕ) (s : Slot) (a : Walk) (c : C) → SlotOk T s → Reads a (dereference walkOps T n s a) c (dereference o T n s c)
+  reads-dereference : (n : ℕ) (s : Slot) (a : Walk) (c : C) → SlotOk T s → Reads a (dereference (walkOps T) T n s a) c (dereference o T n s c)
   unfolding dereference
   reads-dereference n (Slot.Row x p) a c ok = reads-some (Slot.Row x p) a c ok
   reads-dereference n (Slot.Key x t) a c ok = reads-some (Slot.Key x t) a c ok
@@ -229,7 +236,7 @@ module _ (T : Tables) (S : Sound T) (P : FieldPath → Type 0) (N : ℕ → Type
       (λ p e. reads-declined n Code.NyiFactField a c)
   reads-dereference n (Slot.Const x) a c ok = reads-some (Slot.Const x) a c ok
 
-  reads-row : (x : ℕ) (s : Slot) (a : Walk) (c : C) → SlotOk T s → Reads a (fieldOfRow walkOps T x s a) c (fieldOfRow o T x s c)
+  reads-row : (x : ℕ) (s : Slot) (a : Walk) (c : C) → SlotOk T s → Reads a (fieldOfRow (walkOps T) T x s a) c (fieldOfRow o T x s c)
   unfolding fieldOfRow
   reads-row x (Slot.Row n p) a c ok = reads-give _ a c (row-field T S n p x ok)
   reads-row x (Slot.Key n t) a c ok = reads-none a c
@@ -238,7 +245,7 @@ module _ (T : Tables) (S : Sound T) (P : FieldPath → Type 0) (N : ℕ → Type
   reads-row x (Slot.Value n t) a c ok = reads-none a c
   reads-row x (Slot.Const n) a c ok = reads-none a c
 
-  reads-field : (n : ℕ) (s : Slot) (x : ℕ) (a : Walk) (c : C) → SlotOk T s → Reads a (fieldSlot walkOps T n s x a) c (fieldSlot o T n s x c)
+  reads-field : (n : ℕ) (s : Slot) (x : ℕ) (a : Walk) (c : C) → SlotOk T s → Reads a (fieldSlot (walkOps T) T n s x a) c (fieldSlot o T n s x c)
   unfolding fieldSlot
   reads-field n (Slot.Row m p) x a c ok = reads-give _ a c (row-field T S m p x ok)
   reads-field n (Slot.Key m t) x a c ok =
@@ -247,12 +254,12 @@ module _ (T : Tables) (S : Sound T) (P : FieldPath → Type 0) (N : ℕ → Type
   reads-field n (Slot.Field m path t) x a c ok =
       by-option₂ (λ (r : Resolver Walk) (r′ : Resolver C). Reads a (r a) c (r′ c)) (factTy (typeAt T t))
       (λ e. reads-give _ a c (slot-at T S m (then path) (fieldOf (typeAt T t) x) (λ f q. fits-then T S path (f .index) t (f .type) ok (field-child (Child T t) (typeAt T t) x f (S .children t (ok .in-types)) q))))
-      (λ p e. reads-next a c (dereference walkOps T n (Slot.Field m path t)) (dereference o T n (Slot.Field m path t)) (fieldOfRow walkOps T x) (fieldOfRow o T x)
+      (λ p e. reads-next a c (dereference (walkOps T) T n (Slot.Field m path t)) (dereference o T n (Slot.Field m path t)) (fieldOfRow (walkOps T) T x) (fieldOfRow o T x)
       (reads-dereference n (Slot.Field m path t) a c ok) (reads-row x) (λ s d h. idle-row o T d (sim .idle d h) x s))
   reads-field n (Slot.Value m t) x a c ok = reads-declined n Code.NyiValueField a c
   reads-field n (Slot.Const m) x a c ok = reads-give _ a c (folded-slot T S m x)
 
-  reads-value : (s : Slot) (a : Walk) (c : C) → SlotOk T s → Reads a (valueSlot walkOps T s a) c (valueSlot o T s c)
+  reads-value : (s : Slot) (a : Walk) (c : C) → SlotOk T s → Reads a (valueSlot (walkOps T) T s a) c (valueSlot o T s c)
   unfolding valueSlot
   reads-value (Slot.Row n p) a c ok = reads-give _ a c (row-value T S n p)
   reads-value (Slot.Key n t) a c ok = reads-none a c
@@ -261,14 +268,14 @@ module _ (T : Tables) (S : Sound T) (P : FieldPath → Type 0) (N : ℕ → Type
   reads-value (Slot.Value n t) a c ok = reads-none a c
   reads-value (Slot.Const n) a c ok = reads-none a c
 
-  reads-selected : (n : ℕ) (path : FieldPath) (t : ℕ) (alt : Option Alternative) (a : Walk) (c : C) → Fits T path t → ((b : Alternative) → alt ≡ some b → Child T t (b .type)) → Reads a (selected walkOps T n path alt a) c (selected o T n path alt c)
+  reads-selected : (n : ℕ) (path : FieldPath) (t : ℕ) (alt : Option Alternative) (a : Walk) (c : C) → Fits T path t → ((b : Alternative) → alt ≡ some b → Child T t (b .type)) → Reads a (selected (walkOps T) T n path alt a) c (selected o T n path alt c)
   unfolding selected payload
   reads-selected n path t none a c ok child = reads-none a c
   reads-selected n path t (some alt) a c ok child = λ f r.
       let g = goes-select n path (alt .disc) a c (fits-short T S path t ok) f r in
       record { grew = g .grew; fit = g .fit; rel = g .rel; still = g .still; ok = λ s e. subst (SlotOk T) (some-injective _ s e) (fits-then T S path (alt .disc) t (alt .type) ok (child alt refl)); same = λ h. refl }
 
-  reads-select : (n : ℕ) (s : Slot) (x : ℕ) (a : Walk) (c : C) → SlotOk T s → Reads a (selectSlot walkOps T n s x a) c (selectSlot o T n s x c)
+  reads-select : (n : ℕ) (s : Slot) (x : ℕ) (a : Walk) (c : C) → SlotOk T s → Reads a (selectSlot (walkOps T) T n s x a) c (selectSlot o T n s x c)
   unfolding selectSlot alternativeOf
   reads-select n (Slot.Row m p) x a c ok = reads-declined n Code.NyiFactField a c
   reads-select n (Slot.Key m t) x a c ok = reads-declined n Code.NyiFactField a c
@@ -281,13 +288,13 @@ module _ (T : Tables) (S : Sound T) (P : FieldPath → Type 0) (N : ℕ → Type
   reads-select n (Slot.Const m) x a c ok = reads-declined n Code.NyiFactField a c
 
   -- a base read and dereferenced
-  reads-base : (below : ℕ → Resolver Walk) (below′ : ℕ → Resolver C) → ((m : ℕ) (a : Walk) (c : C) → Reads a (below m a) c (below′ m c)) → (n base : ℕ) (g : Slot → Resolver Walk) (g′ : Slot → Resolver C) → ((s : Slot) (a : Walk) (c : C) → SlotOk T s → Reads a (g s a) c (g′ s c)) → ((s : Slot) (d : C) (h : stopped d ≡ true) → Rests o T d (sim .idle d h) (g′ s)) → (a : Walk) (c : C) → Reads a ((below base >>> λ slot. (dereference walkOps T n slot >>> g)) a) c ((below′ base >>> λ slot. (dereference o T n slot >>> g′)) c)
+  reads-base : (below : ℕ → Resolver Walk) (below′ : ℕ → Resolver C) → ((m : ℕ) (a : Walk) (c : C) → Reads a (below m a) c (below′ m c)) → (n base : ℕ) (g : Slot → Resolver Walk) (g′ : Slot → Resolver C) → ((s : Slot) (a : Walk) (c : C) → SlotOk T s → Reads a (g s a) c (g′ s c)) → ((s : Slot) (d : C) (h : stopped d ≡ true) → Rests o T d (sim .idle d h) (g′ s)) → (a : Walk) (c : C) → Reads a ((below base >>> λ slot. (dereference (walkOps T) T n slot >>> g)) a) c ((below′ base >>> λ slot. (dereference o T n slot >>> g′)) c)
   reads-base below below′ h n base g g′ k rests a c =
-      reads-next a c (below base) (below′ base) (λ slot. (dereference walkOps T n slot >>> g)) (λ slot. (dereference o T n slot >>> g′)) (h base a c)
-      (λ s b d ok. reads-next b d (dereference walkOps T n s) (dereference o T n s) g g′ (reads-dereference n s b d ok) k rests)
+      reads-next a c (below base) (below′ base) (λ slot. (dereference (walkOps T) T n slot >>> g)) (λ slot. (dereference o T n slot >>> g′)) (h base a c)
+      (λ s b d ok. reads-next b d (dereference (walkOps T) T n s) (dereference o T n s) g g′ (reads-dereference n s b d ok) k rests)
       (λ s d e. idle-next o T d (sim .idle d e) (dereference o T n s) g′ (idle-dereference o T d (sim .idle d e) n s) (λ x. rests x d e))
 
-  reads-node : (below : ℕ → Resolver Walk) (below′ : ℕ → Resolver C) → ((m : ℕ) (a : Walk) (c : C) → Reads a (below m a) c (below′ m c)) → (n : ℕ) (node : Node) (a : Walk) (c : C) → Reads a (resolveNode walkOps T below n node a) c (resolveNode o T below′ n node c)
+  reads-node : (below : ℕ → Resolver Walk) (below′ : ℕ → Resolver C) → ((m : ℕ) (a : Walk) (c : C) → Reads a (below m a) c (below′ m c)) → (n : ℕ) (node : Node) (a : Walk) (c : C) → Reads a (resolveNode (walkOps T) T below n node a) c (resolveNode o T below′ n node c)
   unfolding resolveNode
   reads-node below below′ h n (Node.Int bytes) a c = reads-none a c
   reads-node below below′ h n (Node.Str x) a c = reads-none a c
@@ -299,10 +306,10 @@ module _ (T : Tables) (S : Sound T) (P : FieldPath → Type 0) (N : ℕ → Type
   reads-node below below′ h n (Node.Fuzzy x d k) a c = reads-none a c
   reads-node below below′ h n (Node.Record fs) a c = reads-none a c
   reads-node below below′ h n (Node.Access x base) a c =
-      reads-base below below′ h n base (λ place. fieldSlot walkOps T n place x) (λ place. fieldSlot o T n place x) (λ s b d ok. reads-field n s x b d ok) (λ s d e. idle-fieldSlot o T d (sim .idle d e) n s x) a c
-  reads-node below below′ h n (Node.Value base) a c = reads-base below below′ h n base (valueSlot walkOps T) (valueSlot o T) reads-value (λ s d e. idle-value o T d (sim .idle d e) s) a c
+      reads-base below below′ h n base (λ place. fieldSlot (walkOps T) T n place x) (λ place. fieldSlot o T n place x) (λ s b d ok. reads-field n s x b d ok) (λ s d e. idle-fieldSlot o T d (sim .idle d e) n s x) a c
+  reads-node below below′ h n (Node.Value base) a c = reads-base below below′ h n base (valueSlot (walkOps T) T) (valueSlot o T) reads-value (λ s d e. idle-value o T d (sim .idle d e) s) a c
   reads-node below below′ h n (Node.Select x base) a c =
-      reads-base below below′ h n base (λ place. selectSlot walkOps T n place x) (λ place. selectSlot o T n place x) (λ s b d ok. reads-select n s x b d ok) (λ s d e. idle-selectSlot o T d (sim .idle d e) n s x) a c
+      reads-base below below′ h n base (λ place. selectSlot (walkOps T) T n place x) (λ place. selectSlot o T n place x) (λ s b d ok. reads-select n s x b d ok) (λ s d e. idle-selectSlot o T d (sim .idle d e) n s x) a c
   reads-node below below′ h n Node.Disjunction a c = reads-none a c
   reads-node below below′ h n Node.Subquery a c = reads-none a c
   reads-node below below′ h n (Node.Fact p key′) a c = λ f r.
@@ -310,15 +317,15 @@ module _ (T : Tables) (S : Sound T) (P : FieldPath → Type 0) (N : ℕ → Type
   reads-node below below′ h n Node.Arith a c = reads-none a c
   reads-node below below′ h n Node.Error a c = reads-none a c
 
-  reads-below : (limit n : ℕ) (a : Walk) (c : C) → Reads a (resolveBelow walkOps T limit n a) c (resolveBelow o T limit n c)
+  reads-below : (limit n : ℕ) (a : Walk) (c : C) → Reads a (resolveBelow (walkOps T) T limit n a) c (resolveBelow o T limit n c)
   unfolding resolveBelow
   reads-below zero n a c = reads-none a c
   reads-below (suc limit) n a c =
       by-test₂ (λ (r : Resolver Walk) (r′ : Resolver C). Reads a (r a) c (r′ c)) (isConstant T n)
       (λ e. reads-some (Slot.Const n) a c tt)
-      (λ e. reads-node (resolveBelow walkOps T limit) (resolveBelow o T limit) (reads-below limit) n (nodeAt T n) a c)
+      (λ e. reads-node (resolveBelow (walkOps T) T limit) (resolveBelow o T limit) (reads-below limit) n (nodeAt T n) a c)
 
-  reads-resolve : (n : ℕ) (a : Walk) (c : C) → Reads a (resolve walkOps T n a) c (resolve o T n c)
+  reads-resolve : (n : ℕ) (a : Walk) (c : C) → Reads a (resolve (walkOps T) T n a) c (resolve o T n c)
   unfolding resolve
   reads-resolve n a c = reads-below (length (T .nodes)) n a c
 
@@ -339,25 +346,23 @@ module _ (T : Tables) (S : Sound T) (P : FieldPath → Type 0) (N : ℕ → Type
       by-option₂ (λ a′ c′. Goes a a′ c c′) (fieldPattern fields (f .name)) (λ e. m a c) (λ pattern e. h pattern (f .type) (place i) a c (record { fits = fits i; within = within i (omega arith) }))
       and goes-each g g′ missing missing′ place fields h m (suc i) rest (λ k l. within k (omega arith)) _ _
 
-  goes-constraints : (ks : List Constraint) (t : ℕ) (path : FieldPath) (a : Walk) (c : C) → Short path → Goes a (constrainEach walkOps T ks t path a) c (constrainEach o T ks t path c)
+  goes-constraints : (ks : List Constraint) (t : ℕ) (path : FieldPath) (a : Walk) (c : C) → Short path → Goes a (constrainEach (walkOps T) T ks t path a) c (constrainEach o T ks t path c)
   unfolding constrainEach narrowBy
   goes-constraints [] t path a c s = goes-same a c
   goes-constraints (k ∷ ks) t path a c s =
-      by-option₂ (λ a′ c′. Goes a a′ c c′) (constant T (k .node) t)
-      (λ e. goes-skip a c and goes-report (k .node) Code.RejectTypeMismatch (skip a) (o .skip c))
-      (λ x e. goes-constant (k .node) t x path a c e s)
+      goes-constant-or (k .node) t path a _ c _ s (goes-skip a c and goes-report (k .node) Code.RejectTypeMismatch (skip a) (o .skip c))
       and goes-constraints ks t path _ _ s
 
-  goes-constrain-by : (ks : List Constraint) (x t : ℕ) (path : FieldPath) (a : Walk) (c : C) → Short path → Goes a (constrainBy walkOps T ks x t path a) c (constrainBy o T ks x t path c)
+  goes-constrain-by : (ks : List Constraint) (x t : ℕ) (path : FieldPath) (a : Walk) (c : C) → Short path → Goes a (constrainBy (walkOps T) T ks x t path a) c (constrainBy o T ks x t path c)
   unfolding constrainBy
   goes-constrain-by [] x t path a c s = goes-bound x t a c
   goes-constrain-by (k ∷ ks) x t path a c s = goes-constrained x a c and goes-constraints (k ∷ ks) t path (constrained x a) (o .constrained x c) s
 
-  goes-constrain : (x t : ℕ) (path : FieldPath) (a : Walk) (c : C) → Short path → Goes a (constrain walkOps T x t path a) c (constrain o T x t path c)
+  goes-constrain : (x t : ℕ) (path : FieldPath) (a : Walk) (c : C) → Short path → Goes a (constrain (walkOps T) T x t path a) c (constrain o T x t path c)
   unfolding constrain
   goes-constrain x t path a c s = goes-constrain-by (ranked T x) x t path a c s
 
-  goes-unresolved : (n : ℕ) (a₀ a : Walk) (c₀ c : C) → R a₀ c₀ → (stopped c ≡ false → stopped c₀ ≡ false) → Goes a (unresolved walkOps T n a₀ a) c (unresolved o T n c₀ c)
+  goes-unresolved : (n : ℕ) (a₀ a : Walk) (c₀ c : C) → R a₀ c₀ → (stopped c ≡ false → stopped c₀ ≡ false) → Goes a (unresolved (walkOps T) T n a₀ a) c (unresolved o T n c₀ c)
   unfolding unresolved
   goes-unresolved n a₀ a c₀ c r₀ on =
       by-test₂ (λ a′ c′. Goes a a′ c c′) (deferred (nodeAt T n))
@@ -371,7 +376,7 @@ module _ (T : Tables) (S : Sound T) (P : FieldPath → Type 0) (N : ℕ → Type
       (λ q. by-test (λ w. w ≡ c) (eqb (o .reported c) (o .reported c₀)) (λ _. ap (o .report n Code.RejectUnresolvedAccess) (sim .idle c q .skip) ∙ sim .idle c q .report n _) (λ _. sim .idle c q .skip)))
 
   module _ (below : FieldWalk Walk) (below′ : FieldWalk C) (B : Walks below below′) (D : RestsWhole below′) where
-    goes-partial-fields : (fields : Option (List FieldPattern)) (t : ℕ) (fs : Option (List FieldTy)) (path : FieldPath) (a : Walk) (c : C) → Stands T P path t → fs ≡ recordTy (typeAt T t) → Goes a (partialFields walkOps T address below fields fs path a) c (partialFields o T address below′ fields fs path c)
+    goes-partial-fields : (fields : Option (List FieldPattern)) (t : ℕ) (fs : Option (List FieldTy)) (path : FieldPath) (a : Walk) (c : C) → Stands T P path t → fs ≡ recordTy (typeAt T t) → Goes a (partialFields (walkOps T) T address below fields fs path a) c (partialFields o T address below′ fields fs path c)
     unfolding partialFields
     goes-partial-fields none t fs path a c s e = goes-same a c
     goes-partial-fields (some fields) t none path a c s e = goes-same a c
@@ -380,11 +385,11 @@ module _ (T : Tables) (S : Sound T) (P : FieldPath → Type 0) (N : ℕ → Type
         (each-imply (λ g h k. fits-then T S path k t (g .type) (s .fits) h) (record-children (Child T t) (typeAt T t) fs (S .children t (s .fits .in-types)) (sym e)))
         (λ k l. numbers .next path t k fs (s .within) (sym e) (omega arith)) a c
 
-    goes-partial : Walks (partial walkOps T address below) (partial o T address below′)
+    goes-partial : Walks (partial (walkOps T) T address below) (partial o T address below′)
     unfolding partial
     goes-partial n t path a c s = goes-skip a c and goes-partial-fields (recordFields (nodeAt T n)) t (recordTy (typeAt T t)) path (skip a) (o .skip c) s refl
 
-    goes-matched : (n : ℕ) (slot : Slot) (t : ℕ) (path : FieldPath) (a : Walk) (c : C) → SlotOk T slot → Stands T P path t → Goes a (matched walkOps T address below n slot t path a) c (matched o T address below′ n slot t path c)
+    goes-matched : (n : ℕ) (slot : Slot) (t : ℕ) (path : FieldPath) (a : Walk) (c : C) → SlotOk T slot → Stands T P path t → Goes a (matched (walkOps T) T address below n slot t path a) c (matched o T address below′ n slot t path c)
     unfolding matched narrowBy
     goes-matched n (Slot.Row from p) t path a c ok s =
         by-test₂ (λ a′ c′. Goes a a′ c c′) (refersTo p (factTy (typeAt T t))) (λ e. goes-fact from path a c (stands-short path t s)) (λ e. goes-report n Code.RejectTypeMismatch a c)
@@ -394,9 +399,9 @@ module _ (T : Tables) (S : Sound T) (P : FieldPath → Type 0) (N : ℕ → Type
         by-test₂ (λ a′ c′. Goes a a′ c c′) (eqb from address) (λ e. goes-report n Code.NyiRepeatedVariable a c) (λ e. goes-register from at path a c (fits-short T S at ty ok) (stands-short path t s))
     goes-matched n (Slot.Value from ty) t path a c ok s = goes-report n Code.NyiValueMatch a c
     goes-matched n (Slot.Const folded) t path a c ok s =
-        by-option₂ (λ a′ c′. Goes a a′ c c′) (constant T folded t) (λ e. goes-partial folded t path a c s) (λ k e. goes-constant folded t k path a c e (stands-short path t s))
+        goes-constant-or folded t path a _ c _ (stands-short path t s) (goes-partial folded t path a c s)
 
-    goes-alternative : (n : ℕ) (g : FieldPattern) (alt : Option Alternative) (t : ℕ) (path : FieldPath) (a : Walk) (c : C) → Stands T P path t → ((b : Alternative) → alt ≡ some b → Child T t (b .type)) → ((b : Alternative) → alt ≡ some b → P (payload path (b .disc))) → Goes a (injectAlternative walkOps T address below n g alt path a) c (injectAlternative o T address below′ n g alt path c)
+    goes-alternative : (n : ℕ) (g : FieldPattern) (alt : Option Alternative) (t : ℕ) (path : FieldPath) (a : Walk) (c : C) → Stands T P path t → ((b : Alternative) → alt ≡ some b → Child T t (b .type)) → ((b : Alternative) → alt ≡ some b → P (payload path (b .disc))) → Goes a (injectAlternative (walkOps T) T address below n g alt path a) c (injectAlternative o T address below′ n g alt path c)
     unfolding injectAlternative payload
     goes-alternative n g none t path a c s child within = goes-skip a c and goes-report n Code.RejectUnknownAlternative (skip a) (o .skip c)
     goes-alternative n g (some alt) t path a c s child within =
@@ -404,7 +409,7 @@ module _ (T : Tables) (S : Sound T) (P : FieldPath → Type 0) (N : ℕ → Type
         (B (g .node) (alt .type) (then path (alt .disc)) (narrow path (Narrowing.Tag (alt .disc)) a) (o .narrow path (Narrowing.Tag (alt .disc)) c)
         (record { fits = fits-then T S path (alt .disc) t (alt .type) (s .fits) (child alt refl); within = within alt refl }))
 
-    goes-only : (n : ℕ) (g : Option FieldPattern) (alts : List Alternative) (t : ℕ) (path : FieldPath) (a : Walk) (c : C) → Stands T P path t → unionTy (typeAt T t) ≡ some alts → Goes a (injectOnly walkOps T address below n g alts path a) c (injectOnly o T address below′ n g alts path c)
+    goes-only : (n : ℕ) (g : Option FieldPattern) (alts : List Alternative) (t : ℕ) (path : FieldPath) (a : Walk) (c : C) → Stands T P path t → unionTy (typeAt T t) ≡ some alts → Goes a (injectOnly (walkOps T) T address below n g alts path a) c (injectOnly o T address below′ n g alts path c)
     unfolding injectOnly alternativeOf
     goes-only n none alts t path a c s e = goes-skip a c and goes-report n Code.RejectUnionArity (skip a) (o .skip c)
     goes-only n (some g) alts t path a c s e =
@@ -412,34 +417,34 @@ module _ (T : Tables) (S : Sound T) (P : FieldPath → Type 0) (N : ℕ → Type
         (λ b q. each-first _ (union-children (Child T t) (typeAt T t) alts (S .children t (s .fits .in-types)) e) b q)
         (λ b q. each-first _ (numbers .tag path t alts (s .within) e) b q)
 
-    goes-inject : (fields : List FieldPattern) (alts : List Alternative) (n t : ℕ) (path : FieldPath) (a : Walk) (c : C) → Stands T P path t → unionTy (typeAt T t) ≡ some alts → Goes a (inject walkOps T address below fields alts n t path a) c (inject o T address below′ fields alts n t path c)
+    goes-inject : (fields : List FieldPattern) (alts : List Alternative) (n t : ℕ) (path : FieldPath) (a : Walk) (c : C) → Stands T P path t → unionTy (typeAt T t) ≡ some alts → Goes a (inject (walkOps T) T address below fields alts n t path a) c (inject o T address below′ fields alts n t path c)
     unfolding inject narrowBy
     goes-inject fields alts n t path a c s e =
-        by-option₂ (λ a′ c′. Goes a a′ c c′) (constant T n t) (λ q. goes-only n (onlyField fields) alts t path a c s e) (λ k q. goes-constant n t k path a c q (stands-short path t s))
+        goes-constant-or n t path a _ c _ (stands-short path t s) (goes-only n (onlyField fields) alts t path a c s e)
 
-    goes-answer : (n : ℕ) (slot : Option Slot) (t : ℕ) (path : FieldPath) (a₀ a : Walk) (c₀ c : C) → ((s′ : Slot) → slot ≡ some s′ → SlotOk T s′) → R a₀ c₀ → (stopped c ≡ false → stopped c₀ ≡ false) → Stands T P path t → Goes a (readAnswer walkOps T address below n slot t path a₀ a) c (readAnswer o T address below′ n slot t path c₀ c)
+    goes-answer : (n : ℕ) (slot : Option Slot) (t : ℕ) (path : FieldPath) (a₀ a : Walk) (c₀ c : C) → ((s′ : Slot) → slot ≡ some s′ → SlotOk T s′) → R a₀ c₀ → (stopped c ≡ false → stopped c₀ ≡ false) → Stands T P path t → Goes a (readAnswer (walkOps T) T address below n slot t path a₀ a) c (readAnswer o T address below′ n slot t path c₀ c)
     unfolding readAnswer
     goes-answer n (some slot) t path a₀ a c₀ c ok r₀ on s = goes-matched n slot t path a c (ok slot refl) s
     goes-answer n none t path a₀ a c₀ c ok r₀ on s =
         by-option₂ (λ a′ c′. Goes a a′ c c′) (recordFields (nodeAt T n)) (λ e. goes-unresolved n a₀ a c₀ c r₀ on) (λ fields e. goes-partial n t path a c s)
 
-    goes-read : Walks (read walkOps T address below) (read o T address below′)
+    goes-read : Walks (read (walkOps T) T address below) (read o T address below′)
     unfolding read
     goes-read n t path a c s f r =
         let x = reads-resolve n a c f r in
         ((λ _ _. reads-walk x)
-        and sync (resolve walkOps T n a .walk) (resolve o T n c .walk) (resolve walkOps T n a .slot) (resolve o T n c .slot) _
+        and sync (resolve (walkOps T) T n a .walk) (resolve o T n c .walk) (resolve (walkOps T) T n a .slot) (resolve o T n c .slot) _
         (λ (slot : Option Slot). readAnswer o T address below′ n slot t path c (resolve o T n c .walk))
         (λ _ e _. x .same e)
-        (goes-answer n (resolve walkOps T n a .slot) t path a (resolve walkOps T n a .walk) c (resolve o T n c .walk) (x .ok) r (went-on (x .still)) s)
+        (goes-answer n (resolve (walkOps T) T n a .slot) t path a (resolve (walkOps T) T n a .walk) c (resolve o T n c .walk) (x .ok) r (went-on (x .still)) s)
         (λ e. idle-readAnswer o T (resolve o T n c .walk) (sim .idle _ e) address below′ (D _ e) n (resolve o T n c .slot) t path c)) f r
 
-    goes-ranged : Walks (ranged walkOps T address below) (ranged o T address below′)
+    goes-ranged : Walks (ranged (walkOps T) T address below) (ranged o T address below′)
     unfolding ranged narrowBy
     goes-ranged n t path a c s =
-        by-option₂ (λ a′ c′. Goes a a′ c c′) (constant T n t) (λ e. goes-report n Code.RejectTypeMismatch a c) (λ k e. goes-constant n t k path a c e (stands-short path t s))
+        goes-constant-or n t path a _ c _ (stands-short path t s) (goes-report n Code.RejectTypeMismatch a c)
 
-    goes-variable : (x : ℕ) → N x → Walks (variable walkOps T address below x) (variable o T address below′ x)
+    goes-variable : (x : ℕ) → N x → Walks (variable (walkOps T) T address below x) (variable o T address below′ x)
     unfolding variable
     goes-variable x nx n t path a c s =
         sync a c (lookup (a .lists .bindings) x) (o .lookup c x) _
@@ -450,7 +455,7 @@ module _ (T : Tables) (S : Sound T) (P : FieldPath → Type 0) (N : ℕ → Type
         (λ slot e. goes-read n t path a c s))
         (λ e. idle-variable o T c (sim .idle c e) address below′ (D c e) x n t path)
 
-    goes-node : (node : Node) (n t : ℕ) (path : FieldPath) (a : Walk) (c : C) → nodeAt T n ≡ node → Stands T P path t → Goes a (fieldNode walkOps T address below node n t path a) c (fieldNode o T address below′ node n t path c)
+    goes-node : (node : Node) (n t : ℕ) (path : FieldPath) (a : Walk) (c : C) → nodeAt T n ≡ node → Stands T P path t → Goes a (fieldNode (walkOps T) T address below node n t path a) c (fieldNode o T address below′ node n t path c)
     unfolding fieldNode
     goes-node (Node.Int bytes) n t path a c e s = goes-read n t path a c s
     goes-node (Node.Str x) n t path a c e s = goes-read n t path a c s
@@ -471,13 +476,13 @@ module _ (T : Tables) (S : Sound T) (P : FieldPath → Type 0) (N : ℕ → Type
     goes-node Node.Arith n t path a c e s = goes-read n t path a c s
     goes-node Node.Error n t path a c e s = goes-read n t path a c s
 
-  goes-below : (limit : ℕ) → Walks (fieldBelow walkOps T address limit) (fieldBelow o T address limit)
+  goes-below : (limit : ℕ) → Walks (fieldBelow (walkOps T) T address limit) (fieldBelow o T address limit)
   unfolding fieldBelow
   goes-below zero n t path a c s = goes-same a c
   goes-below (suc limit) n t path a c s =
-      goes-node (fieldBelow walkOps T address limit) (fieldBelow o T address limit) (goes-below limit) (λ d e. idle-fieldBelow o T d (sim .idle d e) address limit) (nodeAt T n) n t path a c refl s
+      goes-node (fieldBelow (walkOps T) T address limit) (fieldBelow o T address limit) (goes-below limit) (λ d e. idle-fieldBelow o T d (sim .idle d e) address limit) (nodeAt T n) n t path a c refl s
 
-  goes-field : Walks (field walkOps T address) (field o T address)
+  goes-field : Walks (field (walkOps T) T address) (field o T address)
   unfolding field
   goes-field n t path a c s = goes-below (length (T .types)) n t path a c s
 
@@ -489,20 +494,20 @@ module _ (T : Tables) (S : Sound T) (P : FieldPath → Type 0) (N : ℕ → Type
     fits : Each (λ f. (k : ℕ) → Fits T (fieldPath k) (f .type)) fs
     within : (k : ℕ) → k < i + length fs → P (fieldPath k)
 
-  goes-whole-fields : (n : ℕ) (slot : Slot) → SlotOk T slot → (i : ℕ) {fs : List FieldTy} → Each (λ f. (k : ℕ) → Fits T (fieldPath k) (f .type)) fs → ((k : ℕ) → k < i + length fs → P (fieldPath k)) → (a : Walk) (c : C) → Goes a (wholeFields walkOps T address n slot i fs a) c (wholeFields o T address n slot i fs c)
+  goes-whole-fields : (n : ℕ) (slot : Slot) → SlotOk T slot → (i : ℕ) {fs : List FieldTy} → Each (λ f. (k : ℕ) → Fits T (fieldPath k) (f .type)) fs → ((k : ℕ) → k < i + length fs → P (fieldPath k)) → (a : Walk) (c : C) → Goes a (wholeFields (walkOps T) T address n slot i fs a) c (wholeFields o T address n slot i fs c)
   unfolding wholeFields
   goes-whole-fields n slot ok i done within a c = goes-same a c
   goes-whole-fields n slot ok i (more {x = f} {xs = fs} fits rest) within a c = λ fit r.
       let x = reads-field n slot (f .name) a c ok fit r in
-      let a′ = fieldSlot walkOps T n slot (f .name) a .walk in
+      let a′ = fieldSlot (walkOps T) T n slot (f .name) a .walk in
       let c′ = fieldSlot o T n slot (f .name) c .walk in
       ((λ _ _. reads-walk x)
-      and sync a′ c′ (fieldSlot walkOps T n slot (f .name) a .slot) (fieldSlot o T n slot (f .name) c .slot) _
+      and sync a′ c′ (fieldSlot (walkOps T) T n slot (f .name) a .slot) (fieldSlot o T n slot (f .name) c .slot) _
       (λ (found : Option Slot). elim found [ none ↦ o .skip c′ | some s ↦ matched o T address (field o T address) n s (f .type) (fieldPath i) c′ ])
       (λ _ e _. x .same e)
-      (by-option₂ (λ b d. Goes a′ b c′ d) (fieldSlot walkOps T n slot (f .name) a .slot)
+      (by-option₂ (λ b d. Goes a′ b c′ d) (fieldSlot (walkOps T) T n slot (f .name) a .slot)
       (λ e. goes-skip a′ c′)
-      (λ s e. goes-matched (field walkOps T address) (field o T address) goes-field rests-field n s (f .type) (fieldPath i) a′ c′ (x .ok s e) (record { fits = fits i; within = within i (omega arith) })))
+      (λ s e. goes-matched (field (walkOps T) T address) (field o T address) goes-field rests-field n s (f .type) (fieldPath i) a′ c′ (x .ok s e) (record { fits = fits i; within = within i (omega arith) })))
       (λ e. rests-at (fieldSlot o T n slot (f .name) c .slot) e)
       and goes-whole-fields n slot ok (suc i) rest (λ k l. within k (omega arith)) _ _) fit r
     where
@@ -510,15 +515,15 @@ module _ (T : Tables) (S : Sound T) (P : FieldPath → Type 0) (N : ℕ → Type
       rests-at none e = sim .idle _ e .skip
       rests-at (some s) e = idle-matched o T _ (sim .idle _ e) address (field o T address) (rests-field _ e) n s (f .type) (fieldPath i)
 
-  goes-whole-read : (n : ℕ) {fs : List FieldTy} → KeyFields 0 fs → (a : Walk) (c : C) → Goes a (wholeRead walkOps T address n fs a) c (wholeRead o T address n fs c)
+  goes-whole-read : (n : ℕ) {fs : List FieldTy} → KeyFields 0 fs → (a : Walk) (c : C) → Goes a (wholeRead (walkOps T) T address n fs a) c (wholeRead o T address n fs c)
   unfolding wholeRead
   goes-whole-read n {fs} k a c = λ fit r.
       let x = reads-resolve n a c fit r in
       ((λ _ _. reads-walk x)
-      and sync (resolve walkOps T n a .walk) (resolve o T n c .walk) (resolve walkOps T n a .slot) (resolve o T n c .slot) _
+      and sync (resolve (walkOps T) T n a .walk) (resolve o T n c .walk) (resolve (walkOps T) T n a .slot) (resolve o T n c .slot) _
       (λ (found : Option Slot). elim found [ none ↦ o .skip (resolve o T n c .walk) | some s ↦ wholeFields o T address n s 0 fs (resolve o T n c .walk) ])
       (λ _ e _. x .same e)
-      (by-option₂ (λ b d. Goes (resolve walkOps T n a .walk) b (resolve o T n c .walk) d) (resolve walkOps T n a .slot)
+      (by-option₂ (λ b d. Goes (resolve (walkOps T) T n a .walk) b (resolve o T n c .walk) d) (resolve (walkOps T) T n a .slot)
       (λ e. goes-skip _ _)
       (λ s e. goes-whole-fields n s (x .ok s e) 0 (k .fits) (k .within) _ _))
       (λ e. rests-at (resolve o T n c .slot) e)) fit r
@@ -527,7 +532,7 @@ module _ (T : Tables) (S : Sound T) (P : FieldPath → Type 0) (N : ℕ → Type
       rests-at none e = sim .idle _ e .skip
       rests-at (some s) e = idle-wholeFields o T _ (sim .idle _ e) address n s 0 fs
 
-  goes-whole-variable : (x n t : ℕ) {fs : List FieldTy} → N x → t < length (T .types) → KeyFields 0 fs → (a : Walk) (c : C) → Goes a (wholeVariable walkOps T address x n t fs a) c (wholeVariable o T address x n t fs c)
+  goes-whole-variable : (x n t : ℕ) {fs : List FieldTy} → N x → t < length (T .types) → KeyFields 0 fs → (a : Walk) (c : C) → Goes a (wholeVariable (walkOps T) T address x n t fs a) c (wholeVariable o T address x n t fs c)
   unfolding wholeVariable emit
   goes-whole-variable x n t {fs} nx l k a c =
       sync a c (lookup (a .lists .bindings) x) (o .lookup c x) _
@@ -538,7 +543,7 @@ module _ (T : Tables) (S : Sound T) (P : FieldPath → Type 0) (N : ℕ → Type
       (λ slot e. goes-whole-read n k a c))
       (λ e. idle-wholeVariable o T c (sim .idle c e) address x n t fs)
 
-  goes-whole : (node : Node) (n t : ℕ) {fs : List FieldTy} → nodeAt T n ≡ node → t < length (T .types) → KeyFields 0 fs → (a : Walk) (c : C) → Goes a (wholeKey walkOps T address node n t fs a) c (wholeKey o T address node n t fs c)
+  goes-whole : (node : Node) (n t : ℕ) {fs : List FieldTy} → nodeAt T n ≡ node → t < length (T .types) → KeyFields 0 fs → (a : Walk) (c : C) → Goes a (wholeKey (walkOps T) T address node n t fs a) c (wholeKey o T address node n t fs c)
   unfolding wholeKey
   goes-whole (Node.Int bytes) n t e l k a c = goes-whole-read n k a c
   goes-whole (Node.Str x) n t e l k a c = goes-whole-read n k a c
@@ -558,13 +563,13 @@ module _ (T : Tables) (S : Sound T) (P : FieldPath → Type 0) (N : ℕ → Type
   goes-whole Node.Arith n t e l k a c = goes-whole-read n k a c
   goes-whole Node.Error n t e l k a c = goes-whole-read n k a c
 
-  goes-record : (fields : Option (List FieldPattern)) (n t : ℕ) {fs : List FieldTy} → t < length (T .types) → KeyFields 0 fs → (a : Walk) (c : C) → Goes a (recordKey walkOps T address fields n t fs a) c (recordKey o T address fields n t fs c)
+  goes-record : (fields : Option (List FieldPattern)) (n t : ℕ) {fs : List FieldTy} → t < length (T .types) → KeyFields 0 fs → (a : Walk) (c : C) → Goes a (recordKey (walkOps T) T address fields n t fs a) c (recordKey o T address fields n t fs c)
   unfolding recordKey
-  goes-record (some fields) n t l k a c = goes-each (field walkOps T address) (field o T address) skip (o .skip) fieldPath fields goes-field goes-skip 0 (k .fits) (k .within) a c
+  goes-record (some fields) n t l k a c = goes-each (field (walkOps T) T address) (field o T address) skip (o .skip) fieldPath fields goes-field goes-skip 0 (k .fits) (k .within) a c
   goes-record none n t l k a c = goes-whole (nodeAt T n) n t refl l k a c
 
   -- the walk of a level's key
-  pub goes-key : (n t : ℕ) (a : Walk) (c : C) → t < length (T .types) → Goes a (key walkOps T address n t a) c (key o T address n t c)
+  pub goes-key : (n t : ℕ) (a : Walk) (c : C) → t < length (T .types) → Goes a (key (walkOps T) T address n t a) c (key o T address n t c)
   unfolding key fieldPath
   goes-key n t a c h =
       by-option₂ (λ b d. Goes a b c d) (recordTy (typeAt T t))

@@ -80,7 +80,7 @@ lookup bindings x = do
   b ← lastOr none (λ b. eqb (b .name) x) bindings
   some (b .slot)
 
--- "A Var bound to Const stands for its node." The bindings are the file's: what the walk binds changes no answer (proofs/Consts.antt).
+-- "A Var bound to Const stands for its node." The bindings are the file's: what the walk binds changes no answer (proofs/Consts.antt, `levels-now`).
 unfoldable pub constNode : Slot → Option ℕ
 constNode (Slot.Row a p) = none
 constNode (Slot.Key a t) = none

@@ -15,6 +15,7 @@ use Rattle.rules.specs.Events.{Select, Diagnostic, Narrowing, Event, Lis
 use Rattle.rules.specs.Walk.{walkLevel}
 use Rattle.rules.specs.Placement.{SeekKeyPart, Guide, Range, Edges, SeekBuilder, new, place, placeAll, SeekKey, joined}
 use Rattle.rules.specs.Levels.{Level, starting, narrowings}
+use Rattle.rules.specs.Now.{levelsNow}
 use Rattle.rules.specs.Plan.{PlanLevel, Plan, planLevel, planBytes}
 
 -- whether building holds after a level's first i events
@@ -135,6 +136,8 @@ pub record Demand3 (bytes out : List ℕ) : Type 0 where
   pub levels : List Level
   pub every-level : length levels ≡ length (tables .levels)
   pub kept : (k : ℕ) → k < length (tables .levels) → LevelKept tables (entryAt tables k) (startOf tables levels k) (levelAt tables levels k)
+  -- the same levels where `constant` reads the bindings as they stand at each call, as the Rust's does
+  pub as-they-stand : levels ≡ levelsNow tables
   pub plan : Plan
   pub holds : Holds tables levels (startOf tables levels (length levels)) plan
   pub written : out ≡ planBytes plan

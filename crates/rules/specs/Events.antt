@@ -3,8 +3,8 @@ use mathlib.Core.List.{List, [], _∷_, _++_}
 use mathlib.Core.Option.{Option}
 use Prim.Native.Nat.{ℕ}
 use lib.ListN.{length}
-use Rattle.rules.specs.File.{Anchor, FieldPath, Slot, Binding}
-use Rattle.rules.specs.Constant.{lookup}
+use Rattle.rules.specs.File.{Tables, Anchor, FieldPath, Slot, Binding}
+use Rattle.rules.specs.Constant.{Const, lookup, constant}
 
 -- "Plan": the diagnostics' codes
 pub data Code : Type 0 where
@@ -93,9 +93,11 @@ unfoldable pub emit : Event → Walk → Walk
 emit e w = record { lists = w .lists; events = w .events ++ (e ∷ []) }
 
 -- What the walk asks of whatever keeps its lists and takes its events. The walk is told over any such S, so that it can be read once for these lists and
--- once for a program's memory. `closer` is given what stood before its tag.
+-- once for a program's memory. `constant` is asked of the state too, since the Rust's reads the bindings as they stand. `closer` is given what stood before
+-- its tag.
 pub record Ops (S : Type 0) : Type 0 where
   pub lookup : S → ℕ → Option Slot
+  pub constant : S → ℕ → ℕ → Option Const
   pub reported : S → ℕ
   pub bind : ℕ → Slot → S → S
   pub constrained : ℕ → S → S
@@ -106,11 +108,12 @@ pub record Ops (S : Type 0) : Type 0 where
   pub closer : S → S → S
   pub bound : ℕ → ℕ → S → S
 
--- the lists and events of this document
-abbrev pub walkOps : Ops Walk
-walkOps =
+-- the lists and events of this document; `constant` reads the file's bindings
+abbrev pub walkOps : Tables → Ops Walk
+walkOps T =
     record {
       lookup = λ w x. lookup (w .lists .bindings) x;
+      constant = λ w n t. constant T n t;
       reported = λ w. length (w .lists .diagnostics);
       bind = bind;
       constrained = constrained;

@@ -11,6 +11,7 @@ pub mod Resolve
 pub mod Walk
 pub mod Placement
 pub mod Levels
+pub mod Now
 pub mod Plan
 pub mod Compile
 pub mod Demand1

@@ -7,7 +7,7 @@ use lib.ListN.{length}
 use lib.Dec.{eqb}
 use Rattle.rules.specs.Base.{filter}
 use Rattle.rules.specs.File.{Tables, FieldTy, Alternative, Anchor, FieldPattern, Node, FieldPath, Slot, Constraint, LevelEntry, typeAt, predicateAt, nodeAt, recordFields, factTy, recordTy, unionTy, fieldPath, then, payload}
-use Rattle.rules.specs.Constant.{Const, constant, fieldPattern, alternativeOf, onlyField}
+use Rattle.rules.specs.Constant.{Const, fieldPattern, alternativeOf, onlyField}
 use Rattle.rules.specs.Events.{Code, Narrowing, Lists, Walk, Ops, walkOps}
 use Rattle.rules.specs.Resolve.{resolve, fieldSlot}
 
@@ -87,7 +87,7 @@ ranked T x = constraintsOf T x 0 ++ constraintsOf T x 1 ++ constraintsOf T x 2 +
 
 -- The walk, over whatever keeps its lists and takes its events.
 module _ {S : Type 0} (o : Ops S) (T : Tables) where
-  open Ops o using (lookup, reported, bind, constrained, report, narrow, skip, closer, bound)
+  open Ops o using (lookup, constant, reported, bind, constrained, report, narrow, skip, closer, bound)
 
   -- Rust `narrow_by`
   unfoldable pub narrowBy : Const → FieldPath → S → S
@@ -97,7 +97,7 @@ module _ {S : Type 0} (o : Ops S) (T : Tables) where
   constrainEach [] t path w = w
   constrainEach (k ∷ ks) t path w =
       constrainEach ks t path
-      (elim (constant T (k .node) t) [ none ↦ report (k .node) Code.RejectTypeMismatch (skip w) | some c ↦ narrowBy c path w ])
+      (elim (constant w (k .node) t) [ none ↦ report (k .node) Code.RejectTypeMismatch (skip w) | some c ↦ narrowBy c path w ])
 
   -- Rust `constrain`. "Without constraints: bound, then skip."
   unfoldable pub constrainBy : List Constraint → ℕ → ℕ → FieldPath → S → S
@@ -136,7 +136,7 @@ module _ {S : Type 0} (o : Ops S) (T : Tables) where
     matched n (Slot.Derived from) t path w = report n Code.NyiValueMatch (skip w)
     matched n (Slot.Field from at ty) t path w = elim (eqb from address) [ true ↦ report n Code.NyiRepeatedVariable w | false ↦ narrow path (Narrowing.RegisterField from at) w ]
     matched n (Slot.Value from ty) t path w = report n Code.NyiValueMatch w
-    matched n (Slot.Const folded) t path w = elim (constant T folded t) [ some c ↦ narrowBy c path w | none ↦ partial folded t path w ]
+    matched n (Slot.Const folded) t path w = elim (constant w folded t) [ some c ↦ narrowBy c path w | none ↦ partial folded t path w ]
 
     -- "`inject` emits tag, payload, closer"
     unfoldable pub injectAlternative : ℕ → FieldPattern → Option Alternative → FieldPath → S → S
@@ -152,7 +152,7 @@ module _ {S : Type 0} (o : Ops S) (T : Tables) where
 
     -- Rust `inject`: ".. unless the whole union is constant: then bytes"
     unfoldable pub inject : List FieldPattern → List Alternative → FieldWalk S
-    inject fields alts n t path w = elim (constant T n t) [ some c ↦ narrowBy c path w | none ↦ injectOnly n (onlyField fields) alts path w ]
+    inject fields alts n t path w = elim (constant w n t) [ some c ↦ narrowBy c path w | none ↦ injectOnly n (onlyField fields) alts path w ]
 
     -- Rust `field`, its last arm: a read, or a record's pieces
     unfoldable pub readAnswer : ℕ → Option Slot → ℕ → FieldPath → S → S → S
@@ -166,7 +166,7 @@ module _ {S : Type 0} (o : Ops S) (T : Tables) where
 
     -- a Prefix or a Fuzzy in `field`; building stays where it is mistyped
     unfoldable pub ranged : FieldWalk S
-    ranged n t path w = elim (constant T n t) [ some c ↦ narrowBy c path w | none ↦ report n Code.RejectTypeMismatch w ]
+    ranged n t path w = elim (constant w n t) [ some c ↦ narrowBy c path w | none ↦ report n Code.RejectTypeMismatch w ]
 
     -- "In `field`, a new Var binds before its constraints are read"
     unfoldable pub variable : ℕ → FieldWalk S
@@ -251,7 +251,7 @@ module _ {S : Type 0} (o : Ops S) (T : Tables) where
 
 -- "A level's walk is fed its predicate, node and address, the file's tables, and the four lists"
 unfoldable pub walkLevel : Tables → LevelEntry → Lists → Walk
-walkLevel T l lists = key walkOps T (l .address) (l .node) (predicateAt T (l .predicate) .key) (record { lists = lists; events = [] })
+walkLevel T l lists = key (walkOps T) T (l .address) (l .node) (predicateAt T (l .predicate) .key) (record { lists = lists; events = [] })
 
 unfoldable pub openWalk : Unit {0}
 unfolding narrowing narrowBy anchorRank rank eachField constraintsOf ranked constrainEach constrainBy constrain refersTo deferred unresolved partialFields partial matched injectAlternative injectOnly inject readAnswer read ranged variable fieldNode fieldBelow field wholeFields wholeRead wholeVariable wholeKey recordKey key walkLevel

@@ -191,8 +191,9 @@ module _ (T : Tables) (t : Target) (base : List ℕ) where
         stays = λ w w′ c e g r. rel-stays T t base w w′ c e (larger g) r;
         lookups = λ w c f e r x. ap (Ops.fitting T) (mem-lookup T (w .lists) (c .ends) (c .work) (r .live e .mem) x) ∙ all-fitting T S (w .lists .bindings) f x;
         reported = λ w w′ c c′ e e′ r r′. same-reported T (w .lists) (w′ .lists) (c .ends) (c′ .ends) (c .work) (c′ .work) (r .live e .mem) (r′ .live e′ .mem);
-        fields = λ x ty p w c n s r. rel-bind x (Slot.Field address p ty) w c (record { name = n; slot = (h, path-numbers p ty s, omega (arith, bounded .few-types, s .fits .in-types)) }) r;
-        keys = λ x ty w c n l r. rel-bind x (Slot.Key address ty) w c (record { name = n; slot = (h, omega (arith, bounded .few-types)) }) r;
+        constant-is = λ w c r n ty. refl;
+        fields = λ x ty p w c e n s r. rel-bind x (Slot.Field address p ty) w c (record { name = n; slot = (h, path-numbers p ty s, omega (arith, bounded .few-types, s .fits .in-types)) }) r;
+        keys = λ x ty w c e n l r. rel-bind x (Slot.Key address ty) w c (record { name = n; slot = (h, omega (arith, bounded .few-types)) }) r;
         constrains = rel-constrained;
         selects = λ n p d w c s r. rel-select n p d w c r;
         reports = rel-report;

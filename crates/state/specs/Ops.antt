@@ -10,7 +10,7 @@ use Rattle.rules.specs.Base.{both}
 use Rattle.rules.specs.File.{Tables, FieldPath, Slot, Anchor, depth}
 use Rattle.rules.specs.Limits.{depthLimit}
 use Rattle.rules.specs.Checks.{isType, isPredicate, noneOr}
-use Rattle.rules.specs.Constant.{lookup, unionTag, term}
+use Rattle.rules.specs.Constant.{lookup, constant, unionTag, term}
 use Rattle.rules.specs.Events.{Code, Narrowing, Ops}
 use Rattle.rules.specs.Placement.{SeekKeyPart, Guide, Edges, rangeAt, foldFrom}
 use Rattle.rules.specs.Plan as Plan
@@ -189,11 +189,12 @@ unfoldable pub fitting : Tables → Option Slot → Option Slot
 fitting T none = none
 fitting T (some slot) = elim (roomy T slot) [ true ↦ some slot | false ↦ none ]
 
--- the file's own bindings, then those that the walks have made
+-- the file's own bindings, then those that the walks have made; `constant` needs the file's alone (rules, proofs/Consts.antt)
 abbrev pub ops : Tables → Ops State
 ops T =
     record {
       lookup = λ s x. fitting T (lookup (T .bindings ++ made s) x);
+      constant = λ s n t. constant T n t;
       reported = λ s. s .ends .diagnostics;
       bind = bind;
       constrained = constrained;
