@@ -6,12 +6,13 @@ use Prim.Native.Nat.{ℕ, zero, suc}
 use lib.Dec.{eqb}
 use lib.ListN.{length}
 use Rattle.rules.specs.File.{Tables, FieldTy, Alternative, FieldPattern, Node, FieldPath, Slot, Constraint, typeAt, nodeAt, factTy, recordTy, unionTy, recordFields, fieldPath, then, payload, isConstant}
-use Rattle.rules.specs.Constant.{Const, constant, fieldPattern, alternativeOf, onlyField}
+use Rattle.rules.specs.Constant.{Const, fieldPattern, alternativeOf, onlyField}
 use Rattle.rules.specs.Lookup.{fetchedRegister}
 use Rattle.rules.specs.Events.{Code, Narrowing, Ops}
 use Rattle.rules.specs.Resolve.{Answer, Resolver, follow, _>>=_, give, declined, fetchedRow, dereference, fieldOfRow, fieldSlot, valueSlot, selected, selectSlot, resolveNode, resolveBelow, resolve}
 use Rattle.rules.specs.Walk.{narrowBy, FieldWalk, eachField, constrainEach, constrainBy, constrain, ranked, refersTo, deferred, unresolved, partialFields, partial, matched, injectAlternative, injectOnly, inject, readAnswer, read, ranged, variable, fieldNode, fieldBelow, field, wholeFields, wholeRead, wholeVariable, wholeKey, recordKey, key}
 use Rattle.rules.proofs.Cases.{by-test, by-option}
+use Rattle.rules.proofs.Sentences.{new-is-bound, bound-is-read}
 
 -- every operation leaves s as it is
 pub record Idle {S : Type 0} (o : Ops S) (s : S) : Type 0 where
@@ -228,11 +229,11 @@ module _ {S : Type 0} (o : Ops S) (T : Tables) (s : S) (I : Idle o s) where
     idle-ranged n t path = by-option (λ w. w ≡ s) (o .constant s n t) (λ e. I .report n _) (λ c e. idle-narrowBy c path)
 
     pub idle-variable : (x : ℕ) → Stays (variable o T address below x)
-    unfolding variable
-    idle-variable x n t path =
-        by-option (λ w. w ≡ s) (o .lookup s x)
-        (λ e. ap (constrain o T x t path) (I .bind x _) ∙ idle-constrain x t path)
-        (λ slot e. idle-read n t path)
+    idle-variable x n t path = go (o .lookup s x) refl
+      where
+        go : (found : Option Slot) → o .lookup s x ≡ found → variable o T address below x n t path s ≡ s
+        go none e = new-is-bound o T address below x n t path s e ∙ ap (constrain o T x t path) (I .bind x _) ∙ idle-constrain x t path
+        go (some slot) e = bound-is-read o T address below x n t path s slot e ∙ idle-read n t path
 
     pub idle-fieldNode : (node : Node) → Stays (fieldNode o T address below node)
     unfolding fieldNode

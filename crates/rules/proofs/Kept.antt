@@ -17,6 +17,7 @@ use Rattle.rules.specs.Placement.{SeekKeyPart, Guide, Range, RangeEdge, 
 use Rattle.rules.specs.Levels.{narrowings}
 use Rattle.rules.specs.Demand3.{buildingAfter, beforeFall, partsOf, closersOf, closersIn, number, edges, Kept}
 use Rattle.rules.proofs.Cases.{by-test, ways, by-option, true≢false, some≢none, some-injective, eqb-eq, both-left, both-right}
+use Rattle.rules.proofs.Sentences.{closer-fallen}
 use Rattle.rules.proofs.Nested.{Nested}
 
 -- equal paths, by the test
@@ -370,12 +371,9 @@ fallen-narrowing path (Narrowing.Prefix bytes) b h = by-test (Fallen b) _ (λ e.
 fallen-narrowing path (Narrowing.Fuzzy x d a) b h = by-test (Fallen b) (attachable b path) (λ e. record { building = refl; parts = refl; closers = refl }) (λ e. record { building = h; parts = refl; closers = refl })
 
 fallen-closer : (opened : List Bool) (b : SeekBuilder) → b .building ≡ false → Fallen b (placeCloser opened b)
-unfolding placeCloser closePart withOpened
+unfolding placeCloser withOpened
 fallen-closer [] b h = record { building = h; parts = refl; closers = refl }
-fallen-closer (held ∷ outer) b h =
-    by-test (Fallen b) (both held (b .building))
-    (λ e. absurd (true≢false (sym (both-right held (b .building) e) ∙ h)))
-    (λ e. record { building = h; parts = refl; closers = refl })
+fallen-closer (held ∷ outer) b h = subst (Fallen b) (sym (closer-fallen held (withOpened outer b) h)) (record { building = h; parts = refl; closers = refl })
 
 fallen : (T : Tables) (e : Event) (b : SeekBuilder) → b .building ≡ false → Fallen b (place T e b)
 unfolding place placeBound fall

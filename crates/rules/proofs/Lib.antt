@@ -2,6 +2,8 @@
 pub mod Cases
 pub mod BottomUp
 pub mod Each
+-- Sentences of document 01, one step each.
+pub mod Sentences
 -- What demand 3 reaches, of the record alone.
 pub mod AddsUp
 -- What an accepted file's tables give, and the induction over the walk.

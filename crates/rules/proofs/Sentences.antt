@@ -1,0 +1,53 @@
+-- Single sentences of document 01, told of one step of the rules. They stand before the inductions, so that a rule that breaks one of them is refused by it.
+use mathlib.Core.Bool.{Bool, true, false}
+use mathlib.Core.List.{List, [], _∷_}
+use mathlib.Core.Option.{none, some}
+use mathlib.Core.Path.{_≡_, refl, sym, _∙_}
+use Prim.Native.Nat.{ℕ}
+use Rattle.rules.specs.Base.{both}
+use Rattle.rules.specs.File.{Tables, FieldPath, Slot, LevelEntry}
+use Rattle.rules.specs.Events.{Lists, Ops, walkOps, emit}
+use Rattle.rules.specs.Walk.{FieldWalk, constrainBy, constrain, read, variable}
+use Rattle.rules.specs.Placement.{SeekBuilder, withRange, withResidual, fall, placePrefix, closePart, place, placeAll}
+use Rattle.rules.specs.Levels.{levelOf, level, levelsFrom}
+use Rattle.rules.specs.Demand3.{levelAt}
+use Rattle.rules.proofs.Cases.{by-test, by-option, true≢false, some≢none, both-right}
+
+module _ {S : Type 0} (o : Ops S) (T : Tables) (address : ℕ) (below : FieldWalk S) (x n t : ℕ) (path : FieldPath) (w : S) where
+  -- "A Var binds only while new": a bound one is read
+  pub bound-is-read : (slot : Slot) → o .lookup w x ≡ some slot → variable o T address below x n t path w ≡ read o T address below n t path w
+  unfolding variable
+  bound-is-read slot e =
+      by-option (λ after. after ≡ read o T address below n t path w) (o .lookup w x) (λ q. absurd (some≢none slot (sym e ∙ q))) (λ found q. refl)
+
+  -- "a new Var binds before its constraints are read"
+  pub new-is-bound : o .lookup w x ≡ none → variable o T address below x n t path w ≡ constrain o T x t path (o .bind x (Slot.Field address path t) w)
+  unfolding variable
+  new-is-bound e =
+      by-option (λ after. after ≡ constrain o T x t path (o .bind x (Slot.Field address path t) w)) (o .lookup w x)
+      (λ q. refl) (λ slot q. absurd (some≢none slot (sym q ∙ e)))
+
+-- "Without constraints: bound, then skip": such a Var ends building
+pub capture-falls : (T : Tables) (x t : ℕ) (path : FieldPath) (lists : Lists) (b : SeekBuilder)
+    → placeAll T (constrainBy (walkOps T) T [] x t path (record { lists = lists; events = [] }) .events) b .building ≡ false
+unfolding constrainBy emit placeAll place fall
+capture-falls T x t path lists b = refl
+
+-- "while building it becomes the range, and building falls; else a residual"
+pub record Fell (b : SeekBuilder) : Type 0 where
+  pub building : b .building ≡ false
+
+pub prefix-falls : (path : FieldPath) (prefix : List ℕ) (b : SeekBuilder) → Fell (placePrefix path prefix b)
+unfolding placePrefix withRange withResidual fall
+prefix-falls path prefix b = by-test Fell (b .building) (λ e. record { building = refl }) (λ e. record { building = e })
+
+-- "if building held before its tag and still holds, else nothing": a closer after the fall changes nothing
+pub closer-fallen : (held : Bool) (b : SeekBuilder) → b .building ≡ false → closePart held b ≡ b
+unfolding closePart
+closer-fallen held b fell = by-test (λ after. after ≡ b) _ (λ e. absurd (true≢false (sym (both-right held (b .building) e) ∙ fell))) (λ e. refl)
+
+-- "the four lists as the walk of the level before left them"
+pub later-begins : (T : Tables) (start : Lists) (first second : LevelEntry) (entries : List LevelEntry)
+    → levelAt T (levelsFrom T start (first ∷ second ∷ entries)) 1 .start ≡ levelAt T (levelsFrom T start (first ∷ second ∷ entries)) 0 .left
+unfolding levelsFrom level levelOf levelAt
+later-begins T start first second entries = refl
