@@ -9,7 +9,8 @@ ghost use Rattle.rules.specs.Demand3.{Demand3};
 ghost use Rattle.state.specs.Levels as Kept;
 ghost use Rattle.file.specs.Tables.{tablesOf};
 ghost use Rattle.ready.specs.Ready.{Ready};
-ghost use Rattle.compile.specs.Endings.{blockSize, zeroed, bitsOf, outcomeOf, lengthOf, answerOf, Within, callVerdict, memory, memoryBy};
+ghost use Rattle.compile.specs.Endings.{blockSize, zeroed, bitsOf, outcomeOf, lengthOf, answerOf, Within, callVerdict, memory};
+ghost use Rattle.compile.specs.Endings.{memoryBy};
 ghost use Rattle.checks.specs.Checked.{fileVerdict};
 use checks::Verdict;
 use checks::verify;
@@ -52,7 +53,8 @@ fn wipe(block: &mut [u8])
     }
 }
 
-// A block, all zero. It is read first: of memory that is lent again and again most is zero from the call before, and reading is cheaper than writing.
+// A block, all zero. It is read first: of memory that is lent again and again most is zero from the call before, and reading is cheaper
+// than writing.
 fn clear(block: &mut [u8])
     ensures { λ _. ⌜ now (block .exit) ≡ zeroed (now (block .entry)) 0 ⌝ }
 {
@@ -176,7 +178,8 @@ impl Ending {
     }
 }
 
-// The plan of a rule file, written to the front of the plan buffer; afterwards the work area is all zero, and so is the rest of the plan buffer.
+// The plan of a rule file, written to the front of the plan buffer; afterwards the work area is all zero, and so is the rest of the plan
+// buffer.
 #[no_mangle]
 pub extern "C" fn sinalvento_compile(file: &[u8], plan: &mut [u8], work: &mut [u8]) -> u64
     ensures result { λ r. ⌜ (

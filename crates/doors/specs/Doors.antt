@@ -1,4 +1,5 @@
--- "Door table": D1 to D10, each a whole file and the whole plan or the refusal that the written rules give. D1's bytes are document 01's own.
+-- "Door table": D1 to D10, each a whole file and the whole plan or the refusal that the written rules give. D1's bytes are document 01's
+-- own.
 use mathlib.Core.List.{List, [], _∷_}
 use mathlib.Core.Path.{_≡_}
 use Prim.Native.String.{String}
@@ -125,5 +126,6 @@ doors = D1 ∷ D2 ∷ D3 ∷ D4 ∷ D5-scalar ∷ D5-record ∷ D6 ∷ D7 ∷ D8
 
 -- names every definition of the rules, for a proof that computes
 unfoldable pub openRules : Unit {0}
-unfolding openBase openFile openRead openChecks openConstant openLookup openEvents openResolve openWalk openPlacement openLevels openPlan openCompile
+unfolding openBase openFile openRead openChecks openConstant openLookup openEvents openResolve openWalk openPlacement openLevels openPlan
+    openCompile
 openRules = tt

@@ -1,4 +1,5 @@
--- A stored list of answers (docs/ORACLE.md, "The fixed list"): lines `FILE = LINE` in hex, and lines that begin with `#`, which only a reader needs.
+-- A stored list of answers (docs/ORACLE.md, "The fixed list"): lines `FILE = LINE` in hex, and lines that begin with `#`, which only a
+-- reader needs.
 use mathlib.Core.Bool.{Bool, true, false}
 use mathlib.Core.List.{List, [], _∷_}
 use Prim.Native.Nat.{ℕ, _+_}

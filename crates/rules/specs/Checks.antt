@@ -7,7 +7,8 @@ use lib.ListN.{length}
 use lib.Dec.{ltb, leb}
 use Rattle.rules.specs.Base.{both, all, allFrom, concatMap, distinct}
 use Rattle.rules.specs.Limits.{depthLimit, stepLimit}
-use Rattle.rules.specs.File.{Tables, Ty, Predicate, Node, Slot, Binding, Hoisted, Constraint, Comparison, LevelEntry, childTypes, depths, depth, childNodes, isConstant}
+use Rattle.rules.specs.File.{Tables, Ty, Predicate, Node, Slot, Binding, Hoisted, Constraint, Comparison, LevelEntry, childTypes}
+use Rattle.rules.specs.File.{depths, depth, childNodes, isConstant}
 
 -- 8: "number at or past its section's count (FFFF for none excepted)". Addresses, registers, path steps and discs are no such numbers.
 unfoldable pub isName : Tables → ℕ → Bool
@@ -150,7 +151,8 @@ check n p = record { number = n; passes = p }
 -- "in the whole-file checks 8 is tried over the whole file, then 9, and so on"
 abbrev pub checks : List Check
 checks =
-    check 8 numbersIn ∷ check 9 childrenLower ∷ check 10 typesDistinct ∷ check 11 typesShallow ∷ check 12 childrenOnce ∷ check 13 constsConstant ∷
+    check 8 numbersIn ∷ check 9 childrenLower ∷ check 10 typesDistinct ∷ check 11 typesShallow ∷
+    check 12 childrenOnce ∷ check 13 constsConstant ∷
     check 14 pathsFit ∷ []
 
 -- the first check that a file does not pass
@@ -159,5 +161,6 @@ fault [] T = none
 fault (c ∷ cs) T = elim (c .passes T) [ true ↦ fault cs T | false ↦ some (c .number) ]
 
 unfoldable pub openChecks : Unit {0}
-unfolding isName isType isPredicate isNode noneOr typeIn predicateIn nodeIn slotIn bindingIn hoistedIn constraintIn comparisonIn levelIn numbersIn childrenLower typeDistinct typesDistinct typesShallow childrenOnce slotConstant constsConstant slotFits pathsFit fault
+unfolding isName isType isPredicate isNode noneOr typeIn predicateIn nodeIn slotIn bindingIn hoistedIn constraintIn comparisonIn levelIn
+    numbersIn childrenLower typeDistinct typesDistinct typesShallow childrenOnce slotConstant constsConstant slotFits pathsFit fault
 openChecks = tt

@@ -6,7 +6,8 @@ use Prim.Native.Nat.{ℕ, zero, suc, _+_, _/_, _%_}
 use lib.ListN.{length}
 use lib.Dec.{eqb}
 use Rattle.rules.specs.Base.{_>>=_, first, lastOr}
-use Rattle.rules.specs.File.{Tables, FieldTy, Alternative, Ty, Anchor, FieldPattern, Node, Slot, Binding, varName, nameAt, typeAt, nodeAt}
+use Rattle.rules.specs.File.{Tables, FieldTy, Alternative, Ty, Anchor, FieldPattern, Node, Slot, Binding, varName, nameAt, typeAt}
+use Rattle.rules.specs.File.{nodeAt}
 
 -- The encoding: "These replace `put_i64`, `put_str`, `put_bytes`, MARK_RECORD, `UnionTag` and MARK_TERM (00)".
 
@@ -80,7 +81,8 @@ lookup bindings x = do
   b ← lastOr none (λ b. eqb (b .name) x) bindings
   some (b .slot)
 
--- "A Var bound to Const stands for its node." The bindings are the file's: what the walk binds changes no answer (proofs/Consts.antt, `levels-now`).
+-- "A Var bound to Const stands for its node." The bindings are the file's: what the walk binds changes no answer (proofs/Consts.antt,
+-- `levels-now`).
 unfoldable pub constNode : Slot → Option ℕ
 constNode (Slot.Row a p) = none
 constNode (Slot.Key a t) = none
@@ -183,5 +185,7 @@ unfoldable pub constant : Tables → ℕ → ℕ → Option Const
 constant T n t = constantBelow T (length (T .types)) n t
 
 unfoldable pub openConstant : Unit {0}
-unfolding bigEndian32 flipSign encodeInt escape encodePrefix encodeStr encodeBytes encodeRecord unionTag encodeUnion bytesOnly fieldPattern alternativeOf lookup constNode constOf standsFor atInt atStr atBytes constantFields onlyField constantRecord constantNode constantBelow constant
+unfolding bigEndian32 flipSign encodeInt escape encodePrefix encodeStr encodeBytes encodeRecord unionTag encodeUnion bytesOnly fieldPattern
+    alternativeOf lookup constNode constOf standsFor atInt atStr atBytes constantFields onlyField constantRecord constantNode constantBelow
+    constant
 openConstant = tt

@@ -37,7 +37,8 @@ pub data Ending (numbers : List ℕ) (r : ℕ) (output output′ : List ℕ) : T
   accepted : Accepted r output output′ → Ending numbers r output output′
   refused : Refused numbers r output output′ → Ending numbers r output output′
 
--- A call with these refusals that returned r. Output buffer and work area were lent as `output` and `work`, and left as `output′` and `work′`.
+-- A call with these refusals that returned r. Output buffer and work area were lent as `output` and `work`, and left as `output′` and
+-- `work′`.
 pub record Demand1 (numbers : List ℕ) (r : ℕ) (output work output′ work′ : List ℕ) : Type 0 where
   pub ending : Ending numbers r output output′
   pub work-zero : work′ ≡ zeros (length work)

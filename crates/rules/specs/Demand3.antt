@@ -180,5 +180,6 @@ pub record AddsUp (l : PlanLevel) : Type 0 where
   pub well-formed : WellFormed (l .seek)
 
 unfoldable pub openDemand3 : Unit {0}
-unfolding buildingAfter beforeFall partsOf closersOf closersIn number edges alreadyBound entryAt levelAt startOf seekParts seekRange seekEdges
+unfolding buildingAfter beforeFall partsOf closersOf closersIn number edges alreadyBound entryAt levelAt startOf seekParts seekRange
+    seekEdges
 openDemand3 = tt

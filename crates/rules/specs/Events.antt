@@ -64,37 +64,57 @@ pub record Walk : Type 0 where
 unfoldable pub bind : ℕ → Slot → Walk → Walk
 bind x slot w =
     record {
-      lists = record { bindings = w .lists .bindings ++ (record { name = x; slot = slot } ∷ []); constrained = w .lists .constrained; selects = w .lists .selects; diagnostics = w .lists .diagnostics };
+      lists = record {
+        bindings = w .lists .bindings ++ (record { name = x; slot = slot } ∷ []);
+        constrained = w .lists .constrained;
+        selects = w .lists .selects;
+        diagnostics = w .lists .diagnostics;
+      };
       events = w .events;
     }
 
 unfoldable pub constrained : ℕ → Walk → Walk
 constrained x w =
     record {
-      lists = record { bindings = w .lists .bindings; constrained = w .lists .constrained ++ (x ∷ []); selects = w .lists .selects; diagnostics = w .lists .diagnostics };
+      lists = record {
+        bindings = w .lists .bindings;
+        constrained = w .lists .constrained ++ (x ∷ []);
+        selects = w .lists .selects;
+        diagnostics = w .lists .diagnostics;
+      };
       events = w .events;
     }
 
 unfoldable pub select : ℕ → FieldPath → ℕ → Walk → Walk
 select address path disc w =
     record {
-      lists = record { bindings = w .lists .bindings; constrained = w .lists .constrained; selects = w .lists .selects ++ (record { address = address; path = path; disc = disc } ∷ []); diagnostics = w .lists .diagnostics };
+      lists = record {
+        bindings = w .lists .bindings;
+        constrained = w .lists .constrained;
+        selects = w .lists .selects ++ (record { address = address; path = path; disc = disc } ∷ []);
+        diagnostics = w .lists .diagnostics;
+      };
       events = w .events;
     }
 
 unfoldable pub report : ℕ → Code → Walk → Walk
 report n code w =
     record {
-      lists = record { bindings = w .lists .bindings; constrained = w .lists .constrained; selects = w .lists .selects; diagnostics = w .lists .diagnostics ++ (record { node = n; code = code } ∷ []) };
+      lists = record {
+        bindings = w .lists .bindings;
+        constrained = w .lists .constrained;
+        selects = w .lists .selects;
+        diagnostics = w .lists .diagnostics ++ (record { node = n; code = code } ∷ []);
+      };
       events = w .events;
     }
 
 unfoldable pub emit : Event → Walk → Walk
 emit e w = record { lists = w .lists; events = w .events ++ (e ∷ []) }
 
--- What the walk asks of whatever keeps its lists and takes its events. The walk is told over any such S, so that it can be read once for these lists and
--- once for a program's memory. `constant` is asked of the state too, since the Rust's reads the bindings as they stand. `closer` is given what stood before
--- its tag.
+-- What the walk asks of whatever keeps its lists and takes its events. The walk is told over any such S, so that it can be read once for
+-- these lists and once for a program's memory. `constant` is asked of the state too, since the Rust's reads the bindings as they stand.
+-- `closer` is given what stood before its tag.
 pub record Ops (S : Type 0) : Type 0 where
   pub lookup : S → ℕ → Option Slot
   pub constant : S → ℕ → ℕ → Option Const

@@ -271,5 +271,6 @@ unfoldable pub isConstant : Tables → ℕ → Bool
 isConstant T n = getD (constants T) n false
 
 unfoldable pub openFile : Unit {0}
-unfolding varName recordFields factTy recordTy unionTy nameAt typeAt predicateAt nodeAt fieldPath then payload deepest childTypes depthOf depths depth childNodes constantOf constants isConstant
+unfolding varName recordFields factTy recordTy unionTy nameAt typeAt predicateAt nodeAt fieldPath then payload deepest childTypes depthOf
+    depths depth childNodes constantOf constants isConstant
 openFile = tt

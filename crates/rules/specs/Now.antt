@@ -1,5 +1,5 @@
--- The bindings as they stand: the Rust's `constant` reads at each call what is bound by then, where this document's reads the file's bindings. Here is the walk
--- with the Rust's reading; that both give the same levels is proofs/Consts.antt, `levels-now`.
+-- The bindings as they stand: the Rust's `constant` reads at each call what is bound by then, where this document's reads the file's
+-- bindings. Here is the walk with the Rust's reading; that both give the same levels is proofs/Consts.antt, `levels-now`.
 use mathlib.Core.List.{List, [], _∷_}
 use mathlib.Core.Option.{Option}
 use Prim.Native.Nat.{ℕ}

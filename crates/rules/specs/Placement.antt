@@ -40,7 +40,8 @@ pub record Edges : Type 0 where
   pub hi : Option RangeEdge
   pub folded : List ℕ
 
--- closers: how many closer events became parts. opened: for each tag that no closer has ended, the last first, whether building held before it.
+-- closers: how many closer events became parts. opened: for each tag that no closer has ended, the last first, whether building held before
+-- it.
 pub record SeekBuilder : Type 0 where
   pub building : Bool
   pub parts : List SeekKeyPart
@@ -53,33 +54,123 @@ pub record SeekBuilder : Type 0 where
 
 -- "A level starts building, with nothing set." (Rust `SeekBuilder::new`)
 unfoldable pub new : SeekBuilder
-new = record { building = true; parts = []; residuals = []; guide = none; range = none; edges = record { lo = none; hi = none; folded = [] }; closers = 0; opened = [] }
+new =
+    record {
+      building = true;
+      parts = [];
+      residuals = [];
+      guide = none;
+      range = none;
+      edges = record { lo = none; hi = none; folded = [] };
+      closers = 0;
+      opened = [];
+    }
 
 -- One change each.
 unfoldable pub withPart : SeekKeyPart → SeekBuilder → SeekBuilder
-withPart part b = record { building = b .building; parts = b .parts ++ (part ∷ []); residuals = b .residuals; guide = b .guide; range = b .range; edges = b .edges; closers = b .closers; opened = b .opened }
+withPart part b =
+    record {
+      building = b .building;
+      parts = b .parts ++ (part ∷ []);
+      residuals = b .residuals;
+      guide = b .guide;
+      range = b .range;
+      edges = b .edges;
+      closers = b .closers;
+      opened = b .opened;
+    }
 
 unfoldable pub withResidual : FieldPath → Narrowing → SeekBuilder → SeekBuilder
-withResidual path op b = record { building = b .building; parts = b .parts; residuals = b .residuals ++ (record { path = path; op = op } ∷ []); guide = b .guide; range = b .range; edges = b .edges; closers = b .closers; opened = b .opened }
+withResidual path op b =
+    record {
+      building = b .building;
+      parts = b .parts;
+      residuals = b .residuals ++ (record { path = path; op = op } ∷ []);
+      guide = b .guide;
+      range = b .range;
+      edges = b .edges;
+      closers = b .closers;
+      opened = b .opened;
+    }
 
 unfoldable pub withGuide : Guide → SeekBuilder → SeekBuilder
-withGuide guide b = record { building = b .building; parts = b .parts; residuals = b .residuals; guide = some guide; range = b .range; edges = b .edges; closers = b .closers; opened = b .opened }
+withGuide guide b =
+    record {
+      building = b .building;
+      parts = b .parts;
+      residuals = b .residuals;
+      guide = some guide;
+      range = b .range;
+      edges = b .edges;
+      closers = b .closers;
+      opened = b .opened;
+    }
 
 unfoldable pub withRange : Range → SeekBuilder → SeekBuilder
-withRange range b = record { building = b .building; parts = b .parts; residuals = b .residuals; guide = b .guide; range = some range; edges = b .edges; closers = b .closers; opened = b .opened }
+withRange range b =
+    record {
+      building = b .building;
+      parts = b .parts;
+      residuals = b .residuals;
+      guide = b .guide;
+      range = some range;
+      edges = b .edges;
+      closers = b .closers;
+      opened = b .opened;
+    }
 
 unfoldable pub withEdges : Edges → SeekBuilder → SeekBuilder
-withEdges edges b = record { building = b .building; parts = b .parts; residuals = b .residuals; guide = b .guide; range = b .range; edges = edges; closers = b .closers; opened = b .opened }
+withEdges edges b =
+    record {
+      building = b .building;
+      parts = b .parts;
+      residuals = b .residuals;
+      guide = b .guide;
+      range = b .range;
+      edges = edges;
+      closers = b .closers;
+      opened = b .opened;
+    }
 
 unfoldable pub withCloser : SeekBuilder → SeekBuilder
-withCloser b = record { building = b .building; parts = b .parts; residuals = b .residuals; guide = b .guide; range = b .range; edges = b .edges; closers = b .closers + 1; opened = b .opened }
+withCloser b =
+    record {
+      building = b .building;
+      parts = b .parts;
+      residuals = b .residuals;
+      guide = b .guide;
+      range = b .range;
+      edges = b .edges;
+      closers = b .closers + 1;
+      opened = b .opened;
+    }
 
 unfoldable pub withOpened : List Bool → SeekBuilder → SeekBuilder
-withOpened opened b = record { building = b .building; parts = b .parts; residuals = b .residuals; guide = b .guide; range = b .range; edges = b .edges; closers = b .closers; opened = opened }
+withOpened opened b =
+    record {
+      building = b .building;
+      parts = b .parts;
+      residuals = b .residuals;
+      guide = b .guide;
+      range = b .range;
+      edges = b .edges;
+      closers = b .closers;
+      opened = opened;
+    }
 
 -- "Skip: building falls."
 unfoldable pub fall : SeekBuilder → SeekBuilder
-fall b = record { building = false; parts = b .parts; residuals = b .residuals; guide = b .guide; range = b .range; edges = b .edges; closers = b .closers; opened = b .opened }
+fall b =
+    record {
+      building = false;
+      parts = b .parts;
+      residuals = b .residuals;
+      guide = b .guide;
+      range = b .range;
+      edges = b .edges;
+      closers = b .closers;
+      opened = b .opened;
+    }
 
 -- "The first four: a part while building .., else a residual."
 unfoldable pub placePart : SeekKeyPart → FieldPath → Narrowing → SeekBuilder → SeekBuilder
@@ -111,8 +202,10 @@ placeFuzzy path x distance anchor b =
 
 unfoldable pub placeNarrowing : FieldPath → Narrowing → SeekBuilder → SeekBuilder
 placeNarrowing path (Narrowing.Bytes bytes) b = placePart (SeekKeyPart.Bytes bytes) path (Narrowing.Bytes bytes) b
-placeNarrowing path (Narrowing.Tag disc) b = placePart (SeekKeyPart.Bytes (unionTag disc)) path (Narrowing.Tag disc) (withOpened (b .building ∷ b .opened) b)
-placeNarrowing path (Narrowing.RegisterField address at) b = placePart (SeekKeyPart.RegisterField address at) path (Narrowing.RegisterField address at) b
+placeNarrowing path (Narrowing.Tag disc) b =
+    placePart (SeekKeyPart.Bytes (unionTag disc)) path (Narrowing.Tag disc) (withOpened (b .building ∷ b .opened) b)
+placeNarrowing path (Narrowing.RegisterField address at) b =
+    placePart (SeekKeyPart.RegisterField address at) path (Narrowing.RegisterField address at) b
 placeNarrowing path (Narrowing.FactId address) b = placePart (SeekKeyPart.RegisterFactId address) path (Narrowing.FactId address) b
 placeNarrowing path (Narrowing.Prefix prefix) b = placePrefix path prefix b
 placeNarrowing path (Narrowing.Fuzzy x distance anchor) b = placeFuzzy path x distance anchor b
@@ -229,5 +322,7 @@ unfoldable pub seekKey : SeekBuilder → SeekKey
 seekKey b = seek (b .parts) (b .range) (b .edges .lo) (b .edges .hi)
 
 unfoldable pub openPlacement : Unit {0}
-unfolding new withPart withResidual withGuide withRange withEdges withCloser withOpened fall placePart placePrefix rangeAt attachable placeFuzzy placeNarrowing closePart placeCloser flipped isVar compared takeHi takeLo takeEdge sided foldFrom placeBound place placeAll joined unranged seek seekKey
+unfolding new withPart withResidual withGuide withRange withEdges withCloser withOpened fall placePart placePrefix rangeAt attachable
+    placeFuzzy placeNarrowing closePart placeCloser flipped isVar compared takeHi takeLo takeEdge sided foldFrom placeBound place placeAll
+    joined unranged seek seekKey
 openPlacement = tt

@@ -138,7 +138,8 @@ residual r = path (r .path) ++ op (r .op)
 
 unfoldable pub levelBytes : PlanLevel → List ℕ
 levelBytes l =
-    u16 (l .narrowings) ++ u16 (l .closers) ++ u16 (l .parts) ++ seek (l .seek) ++ guide (l .guide) ++ counted residual (l .residuals) ++ counted u16 (l .folded)
+    u16 (l .narrowings) ++ u16 (l .closers) ++ u16 (l .parts) ++ seek (l .seek) ++ guide (l .guide) ++ counted residual (l .residuals) ++
+    counted u16 (l .folded)
 
 unfoldable pub planBytes : Plan → List ℕ
 planBytes p =
@@ -146,5 +147,6 @@ planBytes p =
     counted diagnostic (p .diagnostics)
 
 unfoldable pub openPlan : Unit {0}
-unfolding planLevel planOf plan u16 u32 counted text path anchor fuzzy optional slot binding select diagnostic part inclusive edge seek guide op residual levelBytes planBytes
+unfolding planLevel planOf plan u16 u32 counted text path anchor fuzzy optional slot binding select diagnostic part inclusive edge seek
+    guide op residual levelBytes planBytes
 openPlan = tt

@@ -5,8 +5,10 @@ use mathlib.Core.Option.{Option, none, some}
 use Prim.Native.Nat.{ℕ, zero, suc, _+_, _*_}
 use lib.ListN.{getD}
 use lib.Dec.{ltb, leb, eqb}
-use Rattle.rules.specs.Limits.{nameLimit, typeLimit, predicateLimit, nodeLimit, bindingLimit, hoistedLimit, fetchedLimit, constraintLimit, comparisonLimit, levelLimit}
-use Rattle.rules.specs.File.{Tables, FieldTy, Alternative, Ty, Predicate, Anchor, FieldPattern, Node, FieldPath, Slot, Binding, Hoisted, Fetched, Constraint, CompareOp, Comparison, LevelEntry}
+use Rattle.rules.specs.Limits.{nameLimit, typeLimit, predicateLimit, nodeLimit, bindingLimit, hoistedLimit, fetchedLimit}
+use Rattle.rules.specs.Limits.{constraintLimit, comparisonLimit, levelLimit}
+use Rattle.rules.specs.File.{Tables, FieldTy, Alternative, Ty, Predicate, Anchor, FieldPattern, Node, FieldPath, Slot, Binding}
+use Rattle.rules.specs.File.{Hoisted, Fetched, Constraint, CompareOp, Comparison, LevelEntry}
 
 -- what was read and the bytes after it, or the number of the refusal
 pub data Read (A : Type 0) : Type 0 where
@@ -172,7 +174,8 @@ unfoldable pub node : Reader Node
 node =
     kind
     (intNode ∷ one Node.Str ∷ bytesNode ∷ one Node.Var ∷ pure Node.Wildcard ∷ pure Node.Never ∷ one Node.Prefix ∷ fuzzyNode ∷ recordNode ∷
-    two Node.Access ∷ one Node.Value ∷ two Node.Select ∷ pure Node.Disjunction ∷ pure Node.Subquery ∷ two Node.Fact ∷ pure Node.Arith ∷ pure Node.Error ∷ [])
+    two Node.Access ∷ one Node.Value ∷ two Node.Select ∷ pure Node.Disjunction ∷ pure Node.Subquery ∷ two Node.Fact ∷
+    pure Node.Arith ∷ pure Node.Error ∷ [])
 
 unfoldable pub path : Reader FieldPath
 path = do
@@ -278,8 +281,22 @@ file = do
   ks ← section constraintLimit constraint
   cs ← section comparisonLimit comparison
   ls ← section levelLimit level
-  end (record { names = ns; types = ts; predicates = ps; nodes = ms; bindings = bs; hoisted = hs; fetched = fs; constraints = ks; comparisons = cs; levels = ls })
+  end
+      (record {
+        names = ns;
+        types = ts;
+        predicates = ps;
+        nodes = ms;
+        bindings = bs;
+        hoisted = hs;
+        fetched = fs;
+        constraints = ks;
+        comparisons = cs;
+        levels = ls;
+      })
 
 unfoldable pub openRead : Unit {0}
-unfolding follow _>>=_ pure refuse u8 u16 u32 optional many several kind section char name fieldTy alternative factTy recordTy unionTy type predicate anchor fieldPattern one two intNode bytesNode fuzzyNode recordNode node path rowSlot keySlot derivedSlot fieldSlot valueSlot constSlot slot binding hoisted fetched constraint op comparison level end file
+unfolding follow _>>=_ pure refuse u8 u16 u32 optional many several kind section char name fieldTy alternative factTy recordTy unionTy type
+    predicate anchor fieldPattern one two intNode bytesNode fuzzyNode recordNode node path rowSlot keySlot derivedSlot fieldSlot valueSlot
+    constSlot slot binding hoisted fetched constraint op comparison level end file
 openRead = tt

@@ -3,7 +3,8 @@ use mathlib.Core.Bool.{true, false}
 use mathlib.Core.Option.{Option, none, some}
 use Prim.Native.Nat.{ℕ, zero, suc}
 use lib.ListN.{length}
-use Rattle.rules.specs.File.{Tables, Alternative, Node, FieldPath, Slot, typeAt, nodeAt, isConstant, factTy, unionTy, fieldPath, then, payload}
+use Rattle.rules.specs.File.{Tables, Alternative, Node, FieldPath, Slot, typeAt, nodeAt, isConstant, factTy, unionTy, fieldPath, then}
+use Rattle.rules.specs.File.{payload}
 use Rattle.rules.specs.Constant.{alternativeOf}
 use Rattle.rules.specs.Lookup.{hoistedSlot, fetchedRegister, fieldOf, slotAt, rowField, rowValue, foldedSlot}
 use Rattle.rules.specs.Events.{Code, Ops}
@@ -42,8 +43,13 @@ module _ {S : Type 0} (o : Ops S) (T : Tables) where
   dereference n (Slot.Row a p) = give (some (Slot.Row a p))
   dereference n (Slot.Key a t) = give (some (Slot.Key a t))
   dereference n (Slot.Derived a) = give (some (Slot.Derived a))
-  dereference n (Slot.Field a path t) = elim (factTy (typeAt T t)) [ none ↦ give (some (Slot.Field a path t)) | some p ↦ fetchedRow n p (fetchedRegister T a path) ]
-  dereference n (Slot.Value a t) = elim (factTy (typeAt T t)) [ none ↦ give (some (Slot.Value a t)) | some p ↦ declined n Code.NyiFactField ]
+  dereference n (Slot.Field a path t) =
+      elim (factTy (typeAt T t)) [
+        | none ↦ give (some (Slot.Field a path t))
+        | some p ↦ fetchedRow n p (fetchedRegister T a path)
+      ]
+  dereference n (Slot.Value a t) =
+      elim (factTy (typeAt T t)) [ none ↦ give (some (Slot.Value a t)) | some p ↦ declined n Code.NyiFactField ]
   dereference n (Slot.Const c) = give (some (Slot.Const c))
 
   -- Rust `field_slot`, past a reference: only a row is left
@@ -82,13 +88,21 @@ module _ {S : Type 0} (o : Ops S) (T : Tables) where
   -- a select's payload; the select records the union's own path
   unfoldable pub selected : ℕ → FieldPath → Option Alternative → Resolver S
   selected address path none = give none
-  selected address path (some alt) = λ w. record { slot = some (Slot.Field address (payload path (alt .disc)) (alt .type)); walk = select address path (alt .disc) w }
+  selected address path (some alt) = λ w.
+      record {
+        slot = some (Slot.Field address (payload path (alt .disc)) (alt .type));
+        walk = select address path (alt .disc) w;
+      }
 
   unfoldable pub selectSlot : ℕ → Slot → ℕ → Resolver S
   selectSlot n (Slot.Row a p) x = declined n Code.NyiFactField
   selectSlot n (Slot.Key a t) x = declined n Code.NyiFactField
   selectSlot n (Slot.Derived a) x = declined n Code.NyiFactField
-  selectSlot n (Slot.Field a path t) x = elim (unionTy (typeAt T t)) [ none ↦ declined n Code.NyiFactField | some alts ↦ selected a path (alternativeOf alts x) ]
+  selectSlot n (Slot.Field a path t) x =
+      elim (unionTy (typeAt T t)) [
+        | none ↦ declined n Code.NyiFactField
+        | some alts ↦ selected a path (alternativeOf alts x)
+      ]
   selectSlot n (Slot.Value a t) x = declined n Code.NyiFactField
   selectSlot n (Slot.Const c) x = declined n Code.NyiFactField
 
@@ -124,11 +138,13 @@ module _ {S : Type 0} (o : Ops S) (T : Tables) where
   -- `resolve` at the nodes below a number: a base is lower than its access (refusal 9)
   unfoldable pub resolveBelow : ℕ → ℕ → Resolver S
   resolveBelow zero n = give none
-  resolveBelow (suc limit) n = elim (isConstant T n) [ true ↦ give (some (Slot.Const n)) | false ↦ resolveNode (resolveBelow limit) n (nodeAt T n) ]
+  resolveBelow (suc limit) n =
+      elim (isConstant T n) [ true ↦ give (some (Slot.Const n)) | false ↦ resolveNode (resolveBelow limit) n (nodeAt T n) ]
 
   unfoldable pub resolve : ℕ → Resolver S
   resolve n = resolveBelow (length (T .nodes)) n
 
 unfoldable pub openResolve : Unit {0}
-unfolding follow _>>=_ give declined fetchedRow dereference fieldOfRow fieldSlot valueSlot selected selectSlot resolveNode resolveBelow resolve
+unfolding follow _>>=_ give declined fetchedRow dereference fieldOfRow fieldSlot valueSlot selected selectSlot resolveNode resolveBelow
+    resolve
 openResolve = tt

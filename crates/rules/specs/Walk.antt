@@ -6,7 +6,8 @@ use Prim.Native.Nat.{ℕ, zero, suc}
 use lib.ListN.{length}
 use lib.Dec.{eqb}
 use Rattle.rules.specs.Base.{filter}
-use Rattle.rules.specs.File.{Tables, FieldTy, Alternative, Anchor, FieldPattern, Node, FieldPath, Slot, Constraint, LevelEntry, typeAt, predicateAt, nodeAt, recordFields, factTy, recordTy, unionTy, fieldPath, then, payload}
+use Rattle.rules.specs.File.{Tables, FieldTy, Alternative, Anchor, FieldPattern, Node, FieldPath, Slot, Constraint, LevelEntry}
+use Rattle.rules.specs.File.{typeAt, predicateAt, nodeAt, recordFields, factTy, recordTy, unionTy, fieldPath, then, payload}
 use Rattle.rules.specs.Constant.{Const, fieldPattern, alternativeOf, onlyField}
 use Rattle.rules.specs.Events.{Code, Narrowing, Lists, Walk, Ops, walkOps}
 use Rattle.rules.specs.Resolve.{resolve, fieldSlot}
@@ -131,10 +132,18 @@ module _ {S : Type 0} (o : Ops S) (T : Tables) where
 
     -- Rust `matched`
     unfoldable pub matched : ℕ → Slot → ℕ → FieldPath → S → S
-    matched n (Slot.Row from p) t path w = elim (refersTo p (factTy (typeAt T t))) [ true ↦ narrow path (Narrowing.FactId from) w | false ↦ report n Code.RejectTypeMismatch w ]
+    matched n (Slot.Row from p) t path w =
+        elim (refersTo p (factTy (typeAt T t))) [
+          | true ↦ narrow path (Narrowing.FactId from) w
+          | false ↦ report n Code.RejectTypeMismatch w
+        ]
     matched n (Slot.Key from ty) t path w = report n Code.NyiWholeKey (skip w)
     matched n (Slot.Derived from) t path w = report n Code.NyiValueMatch (skip w)
-    matched n (Slot.Field from at ty) t path w = elim (eqb from address) [ true ↦ report n Code.NyiRepeatedVariable w | false ↦ narrow path (Narrowing.RegisterField from at) w ]
+    matched n (Slot.Field from at ty) t path w =
+        elim (eqb from address) [
+          | true ↦ report n Code.NyiRepeatedVariable w
+          | false ↦ narrow path (Narrowing.RegisterField from at) w
+        ]
     matched n (Slot.Value from ty) t path w = report n Code.NyiValueMatch w
     matched n (Slot.Const folded) t path w = elim (constant w folded t) [ some c ↦ narrowBy c path w | none ↦ partial folded t path w ]
 
@@ -152,7 +161,8 @@ module _ {S : Type 0} (o : Ops S) (T : Tables) where
 
     -- Rust `inject`: ".. unless the whole union is constant: then bytes"
     unfoldable pub inject : List FieldPattern → List Alternative → FieldWalk S
-    inject fields alts n t path w = elim (constant w n t) [ some c ↦ narrowBy c path w | none ↦ injectOnly n (onlyField fields) alts path w ]
+    inject fields alts n t path w =
+        elim (constant w n t) [ some c ↦ narrowBy c path w | none ↦ injectOnly n (onlyField fields) alts path w ]
 
     -- Rust `field`, its last arm: a read, or a record's pieces
     unfoldable pub readAnswer : ℕ → Option Slot → ℕ → FieldPath → S → S → S
@@ -254,5 +264,7 @@ unfoldable pub walkLevel : Tables → LevelEntry → Lists → Walk
 walkLevel T l lists = key (walkOps T) T (l .address) (l .node) (predicateAt T (l .predicate) .key) (record { lists = lists; events = [] })
 
 unfoldable pub openWalk : Unit {0}
-unfolding narrowing narrowBy anchorRank rank eachField constraintsOf ranked constrainEach constrainBy constrain refersTo deferred unresolved partialFields partial matched injectAlternative injectOnly inject readAnswer read ranged variable fieldNode fieldBelow field wholeFields wholeRead wholeVariable wholeKey recordKey key walkLevel
+unfolding narrowing narrowBy anchorRank rank eachField constraintsOf ranked constrainEach constrainBy constrain refersTo deferred unresolved
+    partialFields partial matched injectAlternative injectOnly inject readAnswer read ranged variable fieldNode fieldBelow field wholeFields
+    wholeRead wholeVariable wholeKey recordKey key walkLevel
 openWalk = tt

@@ -13,7 +13,8 @@ use Rattle.rules.specs.Walk.{key}
 use Rattle.rules.specs.Placement.{Range, RangeEdge}
 use Rattle.rules.specs.Plan as Plan
 use Rattle.rules.specs.Compile.{Outcome}
-use Rattle.state.specs.State.{Ends, Level, newLevel, Target, measuring, State, state, noEnds, stop, bindingsAt, constrainedAt, selectsAt, diagnosticsAt}
+use Rattle.state.specs.State.{Ends, Level, newLevel, Target, measuring, State, state, noEnds, stop, bindingsAt, constrainedAt}
+use Rattle.state.specs.State.{selectsAt, diagnosticsAt}
 use Rattle.state.specs.Ops.{ops}
 
 -- The four seeks, as numbers of the plan: 0 Prefix, 1 Composite, 2 PrefixRange, 3 Bounded.
@@ -41,7 +42,8 @@ joining l = joins (l .plain) (l .range) (l .edges .lo) (l .edges .hi)
 unfoldable pub head : Level → List ℕ
 head l =
     let c = l .counts in
-    Plan.u16 (c .narrowings) ++ Plan.u16 (c .closers) ++ Plan.u16 (c .parts) ++ (seekOf l ∷ (elim (joining l) [ true ↦ Plan.u16 (c .joined) | false ↦ [] ]))
+    Plan.u16 (c .narrowings) ++ Plan.u16 (c .closers) ++ Plan.u16 (c .parts) ++
+    (seekOf l ∷ (elim (joining l) [ true ↦ Plan.u16 (c .joined) | false ↦ [] ]))
 
 unfoldable pub between : Option Range → Option RangeEdge → Option RangeEdge → List ℕ
 between range (some lo) hi = Plan.edge (some lo) ++ Plan.edge hi
@@ -98,11 +100,12 @@ bare l = both (eqb (l .counts .parts) 0) (eqb (l .counts .residuals) 0)
 unfoldable pub framed : ℕ → State → State
 framed at m = state (m .over) (m .ends) (m .level) (m .target) (m .work) (frame at (m .level) (m .plan))
 
--- Measured, it is walked once more from the lists as they were, and written. A bare one has nothing more to write, and its lists are made already: it
--- is not walked again.
+-- Measured, it is walked once more from the lists as they were, and written. A bare one has nothing more to write, and its lists are made
+-- already: it is not walked again.
 unfoldable pub rewritten : Tables → LevelEntry → Ends → ℕ → State → State
 rewritten T l e at m =
-    let target : Target = record { writing = true; joining = joining (m .level); partsAt = partsAt at (m .level); restAt = restAt at (m .level) } in
+    let target : Target =
+    record { writing = true; joining = joining (m .level); partsAt = partsAt at (m .level); restAt = restAt at (m .level) } in
     elim (bare (m .level)) [ true ↦ framed at m | false ↦ walked T l (begin e target (framed at m)) ]
 
 unfoldable pub measured : Tables → LevelEntry → Ends → ℕ → State → Written
@@ -137,7 +140,9 @@ finished w =
     elim (w .state .over) [
       | true ↦ w
       | false ↦ elim (leb (w .at + length (lists (w .state))) (min planLimit (length (w .state .plan)))) [
-        | true ↦ written (w .at + length (lists (w .state))) (state false (w .state .ends) (w .state .level) (w .state .target) (w .state .work) (sets (w .state .plan) (w .at) (lists (w .state))))
+        | true ↦ written (w .at + length (lists (w .state)))
+            (state false (w .state .ends) (w .state .level) (w .state .target) (w .state .work)
+            (sets (w .state .plan) (w .at) (lists (w .state))))
         | false ↦ written (w .at) (stop (w .state))
       ]
     ]
@@ -153,5 +158,6 @@ unfoldable pub outcomeOf : Written → Outcome
 outcomeOf w = elim (w .state .over) [ true ↦ Outcome.refused 15 | false ↦ Outcome.planned (take (w .at) (w .state .plan)) ]
 
 unfoldable pub openLevels : Unit {0}
-unfolding seekNumber seekOf joins joining head between middle tail partsAt middleAt restAt tailAt levelEnd begin walked frame bare framed rewritten measured level levels lists finished started compiled outcomeOf
+unfolding seekNumber seekOf joins joining head between middle tail partsAt middleAt restAt tailAt levelEnd begin walked frame bare framed
+    rewritten measured level levels lists finished started compiled outcomeOf
 openLevels = tt

@@ -14,7 +14,8 @@ use Rattle.rules.specs.Constant.{lookup, constant, unionTag, term}
 use Rattle.rules.specs.Events.{Code, Narrowing, Ops}
 use Rattle.rules.specs.Placement.{SeekKeyPart, Guide, Edges, rangeAt, foldFrom}
 use Rattle.rules.specs.Plan as Plan
-use Rattle.state.specs.State.{Ends, ends, Counts, counts, Level, State, state, constrainedAt, selectsAt, diagnosticsAt, runsEnd, stop, unless, made, fits}
+use Rattle.state.specs.State.{Ends, ends, Counts, counts, Level, State, state, constrainedAt, selectsAt, diagnosticsAt, runsEnd, stop}
+use Rattle.state.specs.State.{unless, made, fits}
 
 -- A record at a list's end, if its run has room: where the list ends, where its run ends, the record, and the ends with that list's moved.
 unfoldable pub append : ℕ → ℕ → List ℕ → (ℕ → Ends) → State → State
@@ -37,7 +38,8 @@ bind x slot s =
 unfoldable pub constrained : ℕ → State → State
 constrained x s =
     let e = s .ends in
-    unless (append (e .constrained) selectsAt (Plan.u16 x) (λ end. ends (e .bindings) (e .bindingCount) end (e .selects) (e .selectCount) (e .diagnostics))) s
+    unless (append (e .constrained) selectsAt (Plan.u16 x)
+    (λ end. ends (e .bindings) (e .bindingCount) end (e .selects) (e .selectCount) (e .diagnostics))) s
 
 unfoldable pub select : ℕ → FieldPath → ℕ → State → State
 select address path disc s =
@@ -48,7 +50,8 @@ select address path disc s =
 unfoldable pub report : ℕ → Code → State → State
 report n code s =
     let e = s .ends in
-    unless (append (e .diagnostics) runsEnd (Plan.diagnostic (record { node = n; code = code })) (λ end. ends (e .bindings) (e .bindingCount) (e .constrained) (e .selects) (e .selectCount) end)) s
+    unless (append (e .diagnostics) runsEnd (Plan.diagnostic (record { node = n; code = code }))
+    (λ end. ends (e .bindings) (e .bindingCount) (e .constrained) (e .selects) (e .selectCount) end)) s
 
 -- The level with other counts, or without building.
 unfoldable pub recount : Counts → Level → Level
@@ -65,7 +68,8 @@ narrowed c = counts (c .narrowings + 1) (c .closers) (c .parts) (c .residuals) (
 unfoldable pub grow : Level → ℕ → List ℕ → State → State
 grow l at bytes s =
     elim (fits l) [
-      | true ↦ state (s .over) (s .ends) l (s .target) (s .work) (elim (s .target .writing) [ true ↦ sets (s .plan) at bytes | false ↦ s .plan ])
+      | true ↦ state (s .over) (s .ends) l (s .target) (s .work)
+          (elim (s .target .writing) [ true ↦ sets (s .plan) at bytes | false ↦ s .plan ])
       | false ↦ stop s
     ]
 
@@ -85,7 +89,8 @@ withPart part c l =
     record {
       building = l .building;
       plain = both (l .plain) (isBytes part);
-      counts = counts (c .narrowings) (c .closers) (c .parts + 1) (c .residuals) (c .joined + length (partText part)) (c .parted + length (Plan.part part)) (c .rest);
+      counts = counts (c .narrowings) (c .closers) (c .parts + 1) (c .residuals)
+          (c .joined + length (partText part)) (c .parted + length (Plan.part part)) (c .rest);
       guide = l .guide;
       range = l .range;
       edges = l .edges;
@@ -106,15 +111,25 @@ unfoldable pub putResidual : FieldPath → Narrowing → State → State
 putResidual path op s =
     let form = Plan.residual (record { path = path; op = op }) in
     let c = s .level .counts in
-    grow (recount (counts (c .narrowings + 1) (c .closers) (c .parts) (c .residuals + 1) (c .joined) (c .parted) (c .rest + length form)) (s .level)) (s .target .restAt + c .rest) form s
+    let after = counts (c .narrowings + 1) (c .closers) (c .parts) (c .residuals + 1) (c .joined) (c .parted) (c .rest + length form) in
+    grow (recount after (s .level)) (s .target .restAt + c .rest) form s
 
 -- "The first four: a part while building .., else a residual."
 unfoldable pub narrowPart : SeekKeyPart → FieldPath → Narrowing → State → State
-narrowPart part path op s = elim (s .level .building) [ true ↦ putPart part (narrowed (s .level .counts)) s | false ↦ putResidual path op s ]
+narrowPart part path op s =
+    elim (s .level .building) [ true ↦ putPart part (narrowed (s .level .counts)) s | false ↦ putResidual path op s ]
 
 -- "Prefix: while building it becomes the range, and building falls; else a residual."
 unfoldable pub withRange : FieldPath → List ℕ → Level → Level
-withRange path prefix l = record { building = false; plain = l .plain; counts = narrowed (l .counts); guide = l .guide; range = some (record { path = path; prefix = prefix }); edges = l .edges }
+withRange path prefix l =
+    record {
+      building = false;
+      plain = l .plain;
+      counts = narrowed (l .counts);
+      guide = l .guide;
+      range = some (record { path = path; prefix = prefix });
+      edges = l .edges;
+    }
 
 unfoldable pub narrowPrefix : FieldPath → List ℕ → State → State
 narrowPrefix path prefix s =
@@ -128,7 +143,15 @@ unfoldable pub attachable : Level → FieldPath → Bool
 attachable l path = elim (l .guide) [ some guide ↦ false | none ↦ elim (l .building) [ true ↦ true | false ↦ rangeAt (l .range) path ] ]
 
 unfoldable pub withGuide : Guide → Level → Level
-withGuide guide l = record { building = false; plain = l .plain; counts = narrowed (l .counts); guide = some guide; range = l .range; edges = l .edges }
+withGuide guide l =
+    record {
+      building = false;
+      plain = l .plain;
+      counts = narrowed (l .counts);
+      guide = some guide;
+      range = l .range;
+      edges = l .edges;
+    }
 
 unfoldable pub narrowFuzzy : FieldPath → ℕ → ℕ → Anchor → State → State
 narrowFuzzy path x distance anchor s =
@@ -140,7 +163,8 @@ narrowFuzzy path x distance anchor s =
 unfoldable pub narrowing : FieldPath → Narrowing → State → State
 narrowing path (Narrowing.Bytes bytes) s = narrowPart (SeekKeyPart.Bytes bytes) path (Narrowing.Bytes bytes) s
 narrowing path (Narrowing.Tag disc) s = narrowPart (SeekKeyPart.Bytes (unionTag disc)) path (Narrowing.Tag disc) s
-narrowing path (Narrowing.RegisterField address at) s = narrowPart (SeekKeyPart.RegisterField address at) path (Narrowing.RegisterField address at) s
+narrowing path (Narrowing.RegisterField address at) s =
+    narrowPart (SeekKeyPart.RegisterField address at) path (Narrowing.RegisterField address at) s
 narrowing path (Narrowing.FactId address) s = narrowPart (SeekKeyPart.RegisterFactId address) path (Narrowing.FactId address) s
 narrowing path (Narrowing.Prefix prefix) s = narrowPrefix path prefix s
 narrowing path (Narrowing.Fuzzy x distance anchor) s = narrowFuzzy path x distance anchor s
@@ -167,7 +191,15 @@ closer before s = unless (close (before .level .building)) s
 
 -- "Bound: while building, the comparisons .."
 unfoldable pub withEdges : Edges → Level → Level
-withEdges edges l = record { building = l .building; plain = l .plain; counts = l .counts; guide = l .guide; range = l .range; edges = edges }
+withEdges edges l =
+    record {
+      building = l .building;
+      plain = l .plain;
+      counts = l .counts;
+      guide = l .guide;
+      range = l .range;
+      edges = edges;
+    }
 
 unfoldable pub boundLevel : Tables → ℕ → ℕ → Level → Level
 boundLevel T x t l = elim (l .building) [ true ↦ withEdges (foldFrom T x t 0 (T .comparisons) (l .edges)) l | false ↦ l ]
@@ -175,8 +207,8 @@ boundLevel T x t l = elim (l .building) [ true ↦ withEdges (foldFrom T x t 0 (
 unfoldable pub bound : Tables → ℕ → ℕ → State → State
 bound T x t s = unless (relevel (boundLevel T x t)) s
 
--- A slot that the tables have room for: its predicate and its type are the file's, and its path goes on below the step limit. Every slot that a walk binds
--- is one, so nothing is ever dropped here; the test spares a claim about the work area's content.
+-- A slot that the tables have room for: its predicate and its type are the file's, and its path goes on below the step limit. Every slot
+-- that a walk binds is one, so nothing is ever dropped here; the test spares a claim about the work area's content.
 unfoldable pub roomy : Tables → Slot → Bool
 roomy T (Slot.Row a p) = noneOr (isPredicate T) p
 roomy T (Slot.Key a t) = isType T t
@@ -207,5 +239,7 @@ ops T =
     }
 
 unfoldable pub openOps : Unit {0}
-unfolding append appendCounted bind constrained select report recount fall narrowed grow partText isBytes withPart partAt partForm putPart putResidual narrowPart withRange narrowPrefix attachable withGuide narrowFuzzy narrowing narrow relevel skip closed close closer withEdges boundLevel bound roomy fitting
+unfolding append appendCounted bind constrained select report recount fall narrowed grow partText isBytes withPart partAt partForm putPart
+    putResidual narrowPart withRange narrowPrefix attachable withGuide narrowFuzzy narrowing narrow relevel skip closed close closer
+    withEdges boundLevel bound roomy fitting
 openOps = tt

@@ -1,4 +1,5 @@
--- What the compiler keeps while it walks: the four lists as records in the work area, a level as counts and sizes, and where its bytes go in the plan.
+-- What the compiler keeps while it walks: the four lists as records in the work area, a level as counts and sizes, and where its bytes go
+-- in the plan.
 use mathlib.Core.Bool.{Bool, true, false}
 use mathlib.Core.List.{List, [], _∷_}
 use mathlib.Core.Option.{Option, none}
@@ -44,7 +45,8 @@ ends b bs c s ss d = record { bindings = b; bindingCount = bs; constrained = c; 
 unfoldable pub noEnds : Ends
 noEnds = ends bindingsAt 0 constrainedAt selectsAt 0 diagnosticsAt
 
--- Counts of a level's narrowings, closers that became parts, parts and residuals; the bytes of its parts joined and in plan form, and of its residuals in plan form.
+-- Counts of a level's narrowings, closers that became parts, parts and residuals; the bytes of its parts joined and in plan form, and of
+-- its residuals in plan form.
 pub record Counts : Type 0 where
   pub narrowings : ℕ
   pub closers : ℕ
@@ -68,7 +70,15 @@ pub record Level : Type 0 where
 
 -- "A level starts building, with nothing set."
 unfoldable pub newLevel : Level
-newLevel = record { building = true; plain = true; counts = counts 0 0 0 0 0 0 0; guide = none; range = none; edges = record { lo = none; hi = none; folded = [] } }
+newLevel =
+    record {
+      building = true;
+      plain = true;
+      counts = counts 0 0 0 0 0 0 0;
+      guide = none;
+      range = none;
+      edges = record { lo = none; hi = none; folded = [] };
+    }
 
 -- Whether a level is written or only measured; whether its parts are joined; where its parts and its residuals begin in the plan.
 pub record Target : Type 0 where
@@ -108,8 +118,8 @@ bindingsIn (suc n) bytes = elim (Read.binding bytes) [ Read.got b rest ↦ b ∷
 unfoldable pub made : State → List Binding
 made s = let bytes = slice bindingsAt (s .ends .bindings) (s .work) in bindingsIn (length bytes) bytes
 
--- Sizes: a level is too long where its parts, joined while all are bytes, and its residuals are longer than a plan. The other numbers are kept below what
--- their fields hold; past that the plan is too long too, since each of what they count has a byte of its own.
+-- Sizes: a level is too long where its parts, joined while all are bytes, and its residuals are longer than a plan. The other numbers are
+-- kept below what their fields hold; past that the plan is too long too, since each of what they count has a byte of its own.
 unfoldable pub partBytes : Level → ℕ
 partBytes l = elim (l .plain) [ true ↦ l .counts .joined | false ↦ l .counts .parted ]
 
