@@ -1,12 +1,21 @@
-// The stored list of the Rust bodies' answers on standard input: how many were compared, and how many differ.
+// The stored list of what the original Rust functions answered, on standard input: how many answers were compared, and how many differ.
 ghost use mathlib.Core.Path.{_≡_};
 ghost use Prim.Native.Nat.{_<_};
 ghost use Rattle.replay.specs.Pairs as Pairs;
-ghost use Rattle.replay.specs.Pairs.{counted, tallied, split};
+ghost use Rattle.replay.specs.Pairs.{countLimit, counted, tallied, split};
+use answer::FILE_ROOM;
+use answer::LINE_ROOM;
 use answer::answer;
 use bytes::scan::find;
 use lines::unhex;
 
+// The longest file in hex that is compared: two digits for each byte of FILE_ROOM.
+const HEX_LIMIT: usize = 65538;
+
+// Room for the whole list.
+const TEXT_ROOM: usize = 524288;
+
+// How many answers were compared, and how many of them differ.
 struct Tally {
     compared: usize,
     different: usize,
@@ -20,18 +29,19 @@ fn agrees(pair: &[u8]) -> bool
     if pair.len() - e < 3 {
         return false;
     }
-    if e > 65538 {
+    if e > HEX_LIMIT {
         return false;
     }
-    let mut file = [0u8; 32769];
+    let mut file = [0u8; FILE_ROOM];
     unhex(&pair[..e], &mut file);
     let n = e / 2;
-    let mut out = [0u8; 32768];
+    let mut out = [0u8; LINE_ROOM];
     let m = answer(&file[..n], &mut out);
     let at = e + 3;
     check::same(&out[..m], &pair[at..])
 }
 
+// Whether a line is none to compare: empty, or a comment.
 fn skipped(line: &[u8]) -> bool
     ensures { λ r. ⌜ r ≡ Pairs.skipped (now (line .entry)) ⌝ }
 {
@@ -41,9 +51,9 @@ fn skipped(line: &[u8]) -> bool
     line[0] == b'#'
 }
 
-// One line more.
+// The tally after one line more.
 fn count(line: &[u8], t: Tally) -> Tally
-    requires { ⌜ (t .compared < 18446744073709551615) × (t .different < 18446744073709551615) ⌝ }
+    requires { ⌜ (t .compared < countLimit) × (t .different < countLimit) ⌝ }
     ensures { λ r. ⌜ r ≡ counted (now (line .entry)) t ⌝ }
 {
     if skipped(line) {
@@ -62,7 +72,7 @@ fn count(line: &[u8], t: Tally) -> Tally
     }
 }
 
-// All lines of a text.
+// The tally of all lines of a text.
 fn replay(text: &[u8]) -> Tally
     ensures { λ r. ⌜ r ≡ tallied (split (now (text .entry))) (record { compared = 0; different = 0 }) ⌝ }
 {
@@ -83,7 +93,7 @@ fn replay(text: &[u8]) -> Tally
 }
 
 fn main() {
-    let mut text = [0u8; 524288];
+    let mut text = [0u8; TEXT_ROOM];
     let n = io::read_full(libc::STDIN_FILENO, &mut text);
     let t = replay(&text[..n]);
     io::print_decimal(libc::STDOUT_FILENO, t.compared as u64);
