@@ -25,7 +25,8 @@ use Rattle.constant.specs.declared.Const.the-variants as Co
 use Rattle.records.specs.Records.{written}
 use Rattle.records.specs.declared.Place.{Place}
 use Rattle.encode.specs.Written.{orEmpty, bytesOf, Here}
-use Rattle.seek.specs.Seek.{Alike, constantBytes}
+use Rattle.seek.specs.Seek.{constantBytes}
+use Rattle.seek.proofs.Grows.{Alike}
 
 pub record Known (T : Tables) (n t len : ℕ) : Type 0 where
   pub bytes : bytesOf T n t ≡ some (constantBytes T n t)

@@ -2,14 +2,15 @@
 use mathlib.Core.Path.{_≡_, refl, sym, ap, _∙_, transport}
 use mathlib.Core.Bool.{Bool, true, false}
 use mathlib.Core.List.{List}
-use Prim.Native.Nat.{ℕ}
+use Prim.Native.Nat.{ℕ, min}
 use lib.Seq.{sets}
 use Rattle.rules.specs.File.{Tables}
 use Rattle.rules.proofs.Cases.{true≢false}
+use Rattle.state.specs.State as Kept
 use Rattle.state.specs.State.{Ends, Level, State, state, stop, unless, fits}
-use Rattle.state.specs.Ops.{grow}
+use Rattle.state.specs.Ops.{grow, narrowed, closed}
 use Rattle.records.specs.Records.{put, written}
-use Rattle.seek.specs.Seek.{sumsOf, counted, countsOf, guideOf, rangeOf, edgesOf, levelOf, stateOf, fitting, resummed, overrun, recounted, grownBy}
+use Rattle.seek.specs.Seek.{sumsOf, counted, countsOf, guideOf, rangeOf, edgesOf, levelOf, stateOf, fitting, overrun, recounted, grownBy}
 use Rattle.seek.specs.declared.Counts.{Counts}
 use Rattle.seek.specs.declared.Sums.{Sums}
 use Rattle.seek.specs.declared.SeekBuilder.{SeekBuilder}
@@ -30,6 +31,20 @@ unless-over f s e = sym (pick-true (s .over) s (f s) e)
 pub unless-not : (f : State → State) (s : State) → s .over ≡ false → f s ≡ unless f s
 unfolding unless
 unless-not f s e = sym (pick-false (s .over) s (f s) e)
+
+-- Equal sizes, or both too long for a plan: a constant's length is known up to a cap alone.
+abbrev pub Alike : ℕ → ℕ → Type 0
+Alike m n = min 16385 m ≡ min 16385 n
+
+-- the level with other counts
+unfoldable pub resummed : Bool → Sums → Level → Level
+resummed plain c l =
+    record { building = l .building; plain = plain; counts = sumsOf c; guide = l .guide; range = l .range; edges = l .edges }
+
+-- a closer counts as one, any other part as a narrowing
+abbrev pub counting : Bool → Kept.Counts → Kept.Counts
+counting true c = closed c
+counting false c = narrowed c
 
 module _ (l : Level) (at : ℕ) (bytes : List ℕ) (s : State) where
   pub grow-yes : fitting (l .plain) (l .counts) ≡ true

@@ -16,9 +16,9 @@ use Rattle.state.specs.Ops.{grow, narrowed, closed, putPart, putResidual, narro
 use Rattle.records.specs.Records.{written, behind}
 use Rattle.records.specs.declared.Place.{Place}
 use Rattle.records.proofs.Places.{follows, text-written, behind-writes}
-use Rattle.seek.specs.Seek.{Alike, countsOf, levelOf, stateOf}
+use Rattle.seek.specs.Seek.{countsOf, levelOf, stateOf}
 use Rattle.seek.specs.declared.SeekBuilder.{SeekBuilder}
-use Rattle.seek.proofs.Grows.{pick-true, pick-false, unless-over, unless-not}
+use Rattle.seek.proofs.Grows.{pick-true, pick-false, unless-over, unless-not, Alike}
 
 module _ (b : SeekBuilder) (T : Tables) (e : Ends) (w p : List ℕ) where
   pub stays : (f : State → State) → b .over ≡ true → stateOf T b e w p ≡ unless f (stateOf T b e w p)

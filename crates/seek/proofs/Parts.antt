@@ -17,13 +17,13 @@ use Rattle.state.specs.State as Kept
 use Rattle.state.specs.State.{Ends, Level, State, counts}
 use Rattle.state.specs.Ops.{grow, narrowed, closed, recount, isBytes, partText, withPart, partAt, partForm, putPart, putResidual}
 use Rattle.records.specs.Records.{written, formOf}
-use Rattle.seek.specs.Seek.{Alike, partsSize, fitting, sumsOf, summed, countsOf, levelOf, stateOf, resummed, partSums, restSums, counting, grownBy, partPlace, restPlace, partBy, residualBy}
+use Rattle.seek.specs.Seek.{partsSize, fitting, sumsOf, summed, countsOf, levelOf, stateOf, partSums, restSums, grownBy, partPlace, restPlace, partBy, residualBy}
 use Rattle.seek.specs.declared.Counts.{Counts}
 use Rattle.seek.specs.declared.Sums.{Sums}
 use Rattle.seek.specs.declared.SeekBuilder.{SeekBuilder}
 use Rattle.seek.specs.declared.Placed.{Placed}
 use Rattle.seek.proofs.Fits.{too-long}
-use Rattle.seek.proofs.Grows.{pick-true, pick-false, grow-no, grown-joined, grown-at, grown-fits, grown-is}
+use Rattle.seek.proofs.Grows.{pick-true, pick-false, grow-no, grown-joined, grown-at, grown-fits, grown-is, Alike, resummed, counting}
 
 pub sums-same : (c : Counts) (n l o r j f x : ℕ) → n ≡ c .narrowings → l ≡ c .closers → o ≡ c .others → r ≡ c .residuals → j ≡ c .joined → f ≡ c .framed → x ≡ c .rest
     → record { narrowings = n; closers = l; others = o; residuals = r; joined = j; framed = f; rest = x } ≡ summed c

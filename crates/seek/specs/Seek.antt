@@ -1,9 +1,8 @@
 -- What the code's level stands for in the state that the compiler keeps (crate state).
-use mathlib.Core.Path.{_≡_}
 use mathlib.Core.Bool.{Bool, true, false}
 use mathlib.Core.List.{List, [], _∷_}
 use mathlib.Core.Option.{Option, none, some, Option·getD}
-use Prim.Native.Nat.{ℕ, _+_, _<_, min}
+use Prim.Native.Nat.{ℕ, _+_, _<_}
 use Rattle.rules.specs.Base.{_>>=_, both}
 use Rattle.rules.specs.File.{Tables, nameAt}
 use Rattle.rules.specs.Constant.{constant, bytesOnly, encodePrefix}
@@ -11,7 +10,6 @@ use Rattle.rules.specs.Placement as Placement
 use Rattle.rules.specs.Placement.{RangeEdge, Edges}
 use Rattle.state.specs.State as Kept
 use Rattle.state.specs.State.{Ends, Level, State, state, counts, fits}
-use Rattle.state.specs.Ops.{narrowed, closed}
 use Rattle.paths.specs.Paths.{pathOf}
 use Rattle.views.specs.Views.{anchorOf}
 use Rattle.seek.specs.declared.Counts.{Counts}
@@ -135,15 +133,6 @@ fitting plain c =
     let edges : Edges = record { lo = none; hi = none; folded = [] } in
     fits (record { building = true; plain = plain; counts = c; guide = none; range = none; edges = edges })
 
--- Equal sizes, or both too long for a plan: a constant's length is known up to a cap alone.
-abbrev pub Alike : ℕ → ℕ → Type 0
-Alike m n = min 16385 m ≡ min 16385 n
-
--- the level with other counts
-unfoldable pub resummed : Bool → Sums → Level → Level
-resummed plain c l =
-    record { building = l .building; plain = plain; counts = sumsOf c; guide = l .guide; range = l .range; edges = l .edges }
-
 -- one part more
 unfoldable pub partSums : Bool → ℕ → ℕ → Sums → Sums
 partSums true text frame c =
@@ -219,11 +208,6 @@ fell b =
       folded = b .folded;
       target = b .target;
     }
-
--- a closer counts as one, any other part as a narrowing
-abbrev pub counting : Bool → Kept.Counts → Kept.Counts
-counting true c = closed c
-counting false c = narrowed c
 
 -- the level with no room left
 unfoldable pub overrun : SeekBuilder → SeekBuilder
