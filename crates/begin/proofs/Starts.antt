@@ -17,7 +17,8 @@ use Rattle.views.specs.declared.NodeView.{NodeView}
 use Rattle.views.specs.declared.NodeView.the-variants as Nv
 use Rattle.views.specs.declared.Anchor.{Anchor}
 use Rattle.views.proofs.NodeView as NodeViews
-use Rattle.slots.specs.Slots.{slotOf, slotOption, maybe}
+use Rattle.slots.specs.Slots.{slotOf, slotOption, maybe, IsSlot}
+use Rattle.slots.specs.declared.Slot.{Slot}
 use Rattle.slots.specs.declared.MaybeSlot.{MaybeSlot}
 use Rattle.tables.specs.Tables.{SeenRun}
 use Rattle.tables.specs.declared.Run.{Run}
@@ -31,8 +32,8 @@ use Rattle.step.proofs.Parts.{lists-of}
 use Rattle.begin.specs.Begin.{isInjection, still, Start, readStart, placeStart, variableStart, nodeStart, start}
 
 -- a name looked up, whatever the level
-pub looked-up : (T : Tables) (x : ℕ) (m : MaybeSlot) (w : Walk) (l : Lists) (work plan : List ℕ) → l ≡ listsOf w → ((level : Level) (g : Target) (p : List ℕ) → slotOption m ≡ ops T .lookup (stateWith l level g work p) x) → slotOption m ≡ ops T .lookup (walkState T w work plan) x
-looked-up T x m w l work plan e k = k _ _ plan ∙ ap (λ (s : State). ops T .lookup s x) (lists-of T w l work plan e)
+pub looked-up : (T : Tables) (x : ℕ) (m : MaybeSlot) (w : Walk) (l : Lists) (work plan : List ℕ) → l ≡ listsOf w → ((level : Level) (g : Target) (p : List ℕ) → IsSlot (ops T .lookup (stateWith l level g work p) x) m) → slotOption m ≡ ops T .lookup (walkState T w work plan) x
+looked-up T x m w l work plan e k = k _ _ plan .is ∙ ap (λ (s : State). ops T .lookup s x) (lists-of T w l work plan e)
 
 -- a variable, by whether its name is bound
 module _ (T : Tables) (a x t : ℕ) (path : File.FieldPath) (s₀ : State) (m : MaybeSlot) (k : slotOption m ≡ ops T .lookup s₀ x) where

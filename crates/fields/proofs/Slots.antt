@@ -15,56 +15,54 @@ use Rattle.rules.specs.Lookup.{FieldAt, fieldOf, slotAt, rowField, rowValue, fo
 use Rattle.rules.proofs.Sound.{Child, Sound}
 use Rattle.rules.proofs.Keeps.{field-child}
 use Rattle.paths.specs.Paths.{pathOf}
+use Rattle.paths.specs.declared.Address.{Address}
 use Rattle.paths.specs.declared.FieldPath.{FieldPath}
 use Rattle.views.specs.Views.{typeOf, SeenType}
 use Rattle.views.specs.declared.TypeView.{TypeView}
-use Rattle.slots.specs.Slots.{slotWith, slotOf, Room}
+use Rattle.slots.specs.Slots.{fieldSlot, justSlot, noSlot, IsSlot, Room}
 use Rattle.slots.specs.declared.Slot.{Slot}
-use Rattle.slots.specs.declared.SlotKind.{SlotKind}
+use Rattle.slots.specs.declared.MaybeSlot.{MaybeSlot}
+use Rattle.slots.proofs.Tidy.{no-slot, field-is, slot-as}
 use Rattle.fields.specs.Found.{valueSide}
 
 -- a type that was seen as a view
 pub fact-seen : {f : List ℕ} {ty : Ty} {v : TypeView} (w : TypeView) → SeenType f ty v → v ≡ w → factTy (typeOf f w) ≡ factTy ty
 fact-seen {f} w s e = ap (λ (w : TypeView). factTy (typeOf f w)) (sym e) ∙ ap factTy (s .is)
 
--- a slot whose path has no meaning
-pub plain-is : {r : Option File.Slot} (s : Slot) (k : SlotKind) → r ≡ some (slotOf s) → s .kind ≡ k → r ≡ some (slotWith k (s .path))
-plain-is s k e h = e ∙ ap (λ (k : SlotKind). some (slotWith k (s .path))) h
-
-module _ (a : ℕ) (place : ℕ → File.FieldPath) {o : Option FieldAt} {r : Option File.Slot} where
-  pub no-field : r ≡ none → o ≡ none → r ≡ slotAt a place o
+module _ (a : Address) (place : ℕ → File.FieldPath) {o : Option FieldAt} {r : MaybeSlot} where
+  pub no-field : r ≡ noSlot → o ≡ none → IsSlot (slotAt (a .0) place o) r
   unfolding slotAt _>>=_
-  no-field h e = h ∙ ap (slotAt a place) (sym e)
+  no-field h e = slot-as (no-slot h) (ap (slotAt (a .0) place) (sym e))
 
-  pub field-is : {s : File.Slot} {q : File.FieldPath} (i t : ℕ) → r ≡ some s → s ≡ File.Slot.Field a q t → q ≡ place i → o ≡ some (record { index = i; type = t }) → r ≡ slotAt a place o
+  pub field-at : {s : Slot} {q : FieldPath} (i t : ℕ) → r ≡ justSlot s → s ≡ fieldSlot a q t → pathOf q ≡ place i → o ≡ some (record { index = i; type = t }) → IsSlot (slotAt (a .0) place o) r
   unfolding slotAt _>>=_
-  field-is i t h k l e = h ∙ ap some (k ∙ ap (λ (q : File.FieldPath). File.Slot.Field a q t) l) ∙ ap (slotAt a place) (sym e)
+  field-at {s} {q} i t h k l e = slot-as (field-is s a q t h k) (ap (λ (q : File.FieldPath). some (File.Slot.Field (a .0) q t)) l ∙ ap (slotAt (a .0) place) (sym e))
 
-module _ (T : Tables) (a : ℕ) {o : Option ℕ} {r : Option File.Slot} where
-  pub no-row-field : (x : ℕ) → r ≡ none → o ≡ none → r ≡ rowField T a o x
+module _ (T : Tables) (a : ℕ) {o : Option ℕ} {r : MaybeSlot} where
+  pub no-row-field : (x : ℕ) → r ≡ noSlot → o ≡ none → IsSlot (rowField T a o x) r
   unfolding rowField _>>=_
-  no-row-field x h e = h ∙ ap (λ (o : Option ℕ). rowField T a o x) (sym e)
+  no-row-field x h e = slot-as (no-slot h) (ap (λ (o : Option ℕ). rowField T a o x) (sym e))
 
-  pub row-field-is : (x p : ℕ) (entry : File.Predicate) → r ≡ slotAt a fieldPath (fieldOf (typeAt T (entry .key)) x) → entry ≡ predicateAt T p → o ≡ some p → r ≡ rowField T a o x
+  pub row-field-is : (x p : ℕ) (entry : File.Predicate) → IsSlot (slotAt a fieldPath (fieldOf (typeAt T (entry .key)) x)) r → entry ≡ predicateAt T p → o ≡ some p → IsSlot (rowField T a o x) r
   unfolding rowField _>>=_
-  row-field-is x p entry h k e = h ∙ ap (λ (q : File.Predicate). slotAt a fieldPath (fieldOf (typeAt T (q .key)) x)) k ∙ ap (λ (o : Option ℕ). rowField T a o x) (sym e)
+  row-field-is x p entry h k e = slot-as h (ap (λ (q : File.Predicate). slotAt a fieldPath (fieldOf (typeAt T (q .key)) x)) k ∙ ap (λ (o : Option ℕ). rowField T a o x) (sym e))
 
-  pub no-row-value : r ≡ none → o ≡ none → r ≡ rowValue T a o
+  pub no-row-value : r ≡ noSlot → o ≡ none → IsSlot (rowValue T a o) r
   unfolding rowValue _>>=_
-  no-row-value h e = h ∙ ap (rowValue T a) (sym e)
+  no-row-value h e = slot-as (no-slot h) (ap (rowValue T a) (sym e))
 
-  pub row-value-is : (p : ℕ) (entry : File.Predicate) → r ≡ valueSide a (entry .value) → entry ≡ predicateAt T p → o ≡ some p → r ≡ rowValue T a o
+  pub row-value-is : (p : ℕ) (entry : File.Predicate) → IsSlot (valueSide a (entry .value)) r → entry ≡ predicateAt T p → o ≡ some p → IsSlot (rowValue T a o) r
   unfolding rowValue _>>=_
-  row-value-is p entry h k e = h ∙ ap (λ (q : File.Predicate). valueSide a (q .value)) k ∙ ap (rowValue T a) (sym e)
+  row-value-is p entry h k e = slot-as h (ap (λ (q : File.Predicate). valueSide a (q .value)) k ∙ ap (rowValue T a) (sym e))
 
-module _ (a : ℕ) {o : Option ℕ} {r : Option File.Slot} where
-  pub no-value : r ≡ none → o ≡ none → r ≡ valueSide a o
+module _ (a : ℕ) {o : Option ℕ} {r : MaybeSlot} where
+  pub no-value : r ≡ noSlot → o ≡ none → IsSlot (valueSide a o) r
   unfolding _>>=_
-  no-value h e = h ∙ ap (valueSide a) (sym e)
+  no-value h e = slot-as (no-slot h) (ap (valueSide a) (sym e))
 
-  pub value-is : (t : ℕ) → r ≡ some (File.Slot.Value a t) → o ≡ some t → r ≡ valueSide a o
+  pub value-is : (t : ℕ) → IsSlot (some (File.Slot.Value a t)) r → o ≡ some t → IsSlot (valueSide a o) r
   unfolding _>>=_
-  value-is t h e = h ∙ ap (valueSide a) (sym e)
+  value-is t h e = slot-as h (ap (valueSide a) (sym e))
 
 module _ (T : Tables) (n x : ℕ) where
   pub folded-is : {r : Option ℕ} (fs : List FieldPattern) → r ≡ fieldPattern fs x → some fs ≡ recordFields (nodeAt T n) → r ≡ foldedField T n x
@@ -75,13 +73,13 @@ module _ (T : Tables) (n x : ℕ) where
   unfolding foldedField _>>=_
   no-folded e = ap (λ (o : Option (List FieldPattern)). o >>= λ fs. fieldPattern fs x) e
 
-  pub no-folded-slot : {r : Option File.Slot} → r ≡ none → none ≡ foldedField T n x → r ≡ foldedSlot T n x
+  pub no-folded-slot : {r : MaybeSlot} → r ≡ noSlot → none ≡ foldedField T n x → IsSlot (foldedSlot T n x) r
   unfolding foldedSlot _>>=_
-  no-folded-slot h e = h ∙ ap (λ (o : Option ℕ). o >>= λ m. some (File.Slot.Const m)) e
+  no-folded-slot h e = slot-as (no-slot h) (ap (λ (o : Option ℕ). o >>= λ m. some (File.Slot.Const m)) e)
 
-  pub folded-slot-is : {r : Option File.Slot} (m : ℕ) → r ≡ some (File.Slot.Const m) → some m ≡ foldedField T n x → r ≡ foldedSlot T n x
+  pub folded-slot-is : {r : MaybeSlot} (m : ℕ) → IsSlot (some (File.Slot.Const m)) r → some m ≡ foldedField T n x → IsSlot (foldedSlot T n x) r
   unfolding foldedSlot _>>=_
-  folded-slot-is m h e = h ∙ ap (λ (o : Option ℕ). o >>= λ m. some (File.Slot.Const m)) e
+  folded-slot-is m h e = slot-as h (ap (λ (o : Option ℕ). o >>= λ m. some (File.Slot.Const m)) e)
 
 -- how many steps a path counts
 pub counts : (room : ℕ) (q : FieldPath) → q .count ≤ room → length (q .steps) ≡ room → length (pathOf q .steps) ≡ q .count

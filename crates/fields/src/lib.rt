@@ -6,11 +6,11 @@ ghost use Rattle.rules.specs.Limits.{stepLimit};
 ghost use Rattle.rules.specs.File.{typeAt, factTy, fieldPath, then};
 ghost use Rattle.rules.specs.Lookup.{fieldFrom, fieldOf, samePath, fetchedRegister, foldedField, foldedSlot, slotAt, rowField, rowValue};
 ghost use Rattle.file.specs.Tables.{Indexed, tablesOf};
-ghost use Rattle.paths.specs.Paths.{pathOf, Holds};
+ghost use Rattle.paths.specs.Paths.{pathOf, pathFor, Holds};
 ghost use Rattle.views.specs.Views.{fieldAt, pathAt, run, fetchedOf, predicateOption, typeOption, PathInside};
 ghost use Rattle.ready.specs.Ready.{Ready};
 ghost use Rattle.tables.specs.Tables.{foundOption};
-ghost use Rattle.slots.specs.Slots.{slotOption, Room};
+ghost use Rattle.slots.specs.Slots.{IsSlot, Room};
 ghost use Rattle.fields.specs.Found.{placeOf, nameOption, addressOption, hoistedName, fetches, valueSide};
 use entries::node_of;
 use entries::predicate_of;
@@ -90,7 +90,8 @@ pub fn field_of(file: &[u8], index: &[u16], ty: usize, name: usize) -> FieldAt
 pub fn path_at(file: &[u8], at: usize) -> FieldPath
     requires { ⌜ PathInside (now file) at ⌝ }
     requires { ⌜ getD (now file) (at + 2) 0 ≤ stepLimit ⌝ }
-    ensures { λ r. ⌜ Holds r (pathAt (now (file .entry)) at) ⌝ }
+    ensures holds { λ r. ⌜ Holds r (pathAt (now (file .entry)) at) ⌝ }
+    ensures whole { λ r. ⌜ r ≡ pathFor (pathAt (now (file .entry)) at) ⌝ }
 {
     let field = word_at(file, at) as u16;
     let count = wide(file[at + 2]);
@@ -154,7 +155,10 @@ pub fn fetched_register(
 ) -> MaybeAddress
     requires { ⌜ Indexed (now file) (now index) ⌝ }
     requires { ⌜ path .count ≤ stepLimit ⌝ }
-    ensures { λ r. ⌜ addressOption r ≡ fetchedRegister (tablesOf (now (file .entry))) (address .0) (pathOf path) ⌝ }
+    ensures { λ r. ⌜ (
+        let T = tablesOf (now (file .entry)) in
+        addressOption r ≡ fetchedRegister T (address .0) (pathOf path)
+        ) ⌝ }
 {
     let n = count_of(file, index, 6);
     let mut i: usize = 0;
@@ -204,7 +208,10 @@ pub fn fact_ty(file: &[u8], index: &[u16], ty: usize) -> MaybePredicate
 // A field of a key, at its own path.
 pub fn key_field(file: &[u8], index: &[u16], address: Address, ty: usize, name: usize) -> MaybeSlot
     requires { ⌜ Indexed (now file) (now index) ⌝ }
-    ensures { λ r. ⌜ slotOption r ≡ slotAt (address .0) fieldPath (fieldOf (typeAt (tablesOf (now (file .entry))) ty) name) ⌝ }
+    ensures { λ r. ⌜ (
+        let T = tablesOf (now (file .entry)) in
+        IsSlot (slotAt (address .0) fieldPath (fieldOf (typeAt T ty) name)) r
+        ) ⌝ }
 {
     match field_of(file, index, ty, name) {
         FieldAt::Nothing => nothing(),
@@ -223,7 +230,10 @@ pub fn path_field(
 ) -> MaybeSlot
     requires { ⌜ Ready (now file) (now index) ⌝ }
     requires { ⌜ Room (tablesOf (now file)) (pathOf path) ty ⌝ }
-    ensures { λ r. ⌜ slotOption r ≡ slotAt (address .0) (then (pathOf path)) (fieldOf (typeAt (tablesOf (now (file .entry))) ty) name) ⌝ }
+    ensures { λ r. ⌜ (
+        let T = tablesOf (now (file .entry)) in
+        IsSlot (slotAt (address .0) (then (pathOf path)) (fieldOf (typeAt T ty) name)) r
+        ) ⌝ }
 {
     match field_of(file, index, ty, name) {
         FieldAt::Nothing => nothing(),
@@ -240,7 +250,10 @@ pub fn row_field(
     name: usize,
 ) -> MaybeSlot
     requires { ⌜ Indexed (now file) (now index) ⌝ }
-    ensures { λ r. ⌜ slotOption r ≡ rowField (tablesOf (now (file .entry))) (address .0) (predicateOption predicate) name ⌝ }
+    ensures { λ r. ⌜ (
+        let T = tablesOf (now (file .entry)) in
+        IsSlot (rowField T (address .0) (predicateOption predicate) name) r
+        ) ⌝ }
 {
     match predicate {
         MaybePredicate::Nothing => nothing(),
@@ -253,7 +266,7 @@ pub fn row_field(
 
 // The value side of a predicate's row.
 fn value_side(address: Address, value: MaybeType) -> MaybeSlot
-    ensures { λ r. ⌜ slotOption r ≡ valueSide (address .0) (typeOption value) ⌝ }
+    ensures { λ r. ⌜ IsSlot (valueSide (address .0) (typeOption value)) r ⌝ }
 {
     match value {
         MaybeType::Nothing => nothing(),
@@ -269,7 +282,10 @@ pub fn row_value(
     predicate: MaybePredicate,
 ) -> MaybeSlot
     requires { ⌜ Indexed (now file) (now index) ⌝ }
-    ensures { λ r. ⌜ slotOption r ≡ rowValue (tablesOf (now (file .entry))) (address .0) (predicateOption predicate) ⌝ }
+    ensures { λ r. ⌜ (
+        let T = tablesOf (now (file .entry)) in
+        IsSlot (rowValue T (address .0) (predicateOption predicate)) r
+        ) ⌝ }
 {
     match predicate {
         MaybePredicate::Nothing => nothing(),
@@ -296,7 +312,7 @@ pub fn folded_field(file: &[u8], index: &[u16], folded: usize, name: usize) -> F
 // A field of a folded constant is a constant of its own.
 pub fn folded_slot(file: &[u8], index: &[u16], folded: usize, name: usize) -> MaybeSlot
     requires { ⌜ Indexed (now file) (now index) ⌝ }
-    ensures { λ r. ⌜ slotOption r ≡ foldedSlot (tablesOf (now (file .entry))) folded name ⌝ }
+    ensures { λ r. ⌜ IsSlot (foldedSlot (tablesOf (now (file .entry))) folded name) r ⌝ }
 {
     match folded_field(file, index, folded, name) {
         Found::Nothing => nothing(),

@@ -17,8 +17,8 @@ use Rattle.state.specs.Ops.{fitting, ops}
 use Rattle.views.specs.Views.{slotOf, SlotInside}
 use Rattle.views.specs.declared.SlotView.{SlotView}
 use Rattle.tables.specs.Tables.{SeenSlot, MaybeInside}
-use Rattle.tables.specs.declared.MaybeSlot.{MaybeSlot}
-use Rattle.tables.specs.declared.MaybeSlot.the-variants as Ms
+use Rattle.tables.specs.declared.MaybeSlotView.{MaybeSlotView}
+use Rattle.tables.specs.declared.MaybeSlotView.the-variants as Ms
 use Rattle.lists.specs.Lists.{stateWith}
 use Rattle.lists.specs.declared.Lists.{Lists}
 
@@ -75,7 +75,7 @@ module _ (x : ℕ) where
         go (some b) h = absurd (some≢none (b .slot) h)
 
 -- an answer that is a view, or nothing
-module _ (f : List ℕ) (o : Option Slot) (r : MaybeSlot) (s : SeenSlot f o r) where
+module _ (f : List ℕ) (o : Option Slot) (r : MaybeSlotView) (s : SeenSlot f o r) where
   pub view-inside : (v : SlotView) → r ≡ Ms.Just v → SlotInside f v
   view-inside v e = subst (MaybeInside f) e (s .inside)
 
@@ -90,7 +90,7 @@ pub whole : (w : List ℕ) (n m : ℕ) → n ≡ m → length w < n → take (le
 whole w n m e h = take-all (length w) w (omega arith) ∙ sym (take-all m w (omega arith))
 
 module _ (T : Tables) (l : Lists) (lv : Level) (tg : Target) (w p : List ℕ) (x end : ℕ) (e : take end w ≡ take (l .ends .bindings) w)
-    (r : MaybeSlot) (s : SeenSlot (take end w) (lookup (bindingsIn (length (take end w)) (take end w)) x) r) where
+    (r : MaybeSlotView) (s : SeenSlot (take end w) (lookup (bindingsIn (length (take end w)) (take end w)) x) r) where
   made-is : made (stateWith l lv tg w p) ≡ bindingsIn (length (take end w)) (take end w)
   unfolding made
   made-is = ap (λ (bytes : List ℕ). bindingsIn (length bytes) bytes) (sym e)

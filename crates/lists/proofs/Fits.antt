@@ -17,7 +17,7 @@ use Rattle.rules.proofs.Cases.{both-left, both-right, ltb-lt, leb-le}
 use Rattle.state.specs.Ops.{fitting, roomy}
 use Rattle.file.specs.Steps.{depthsBase}
 use Rattle.file.specs.Tables.{tablesOf}
-use Rattle.paths.specs.Paths.{pathOf, Holds}
+use Rattle.paths.specs.Paths.{Holds}
 use Rattle.paths.specs.declared.FieldPath.{FieldPath}
 use Rattle.paths.specs.declared.Address.{Address}
 use Rattle.ready.specs.Ready.{Ready}
@@ -30,7 +30,9 @@ use Rattle.views.specs.Views.{predicateOption, sizeOf, byteAt, pathAt, long, Sl
 use Rattle.views.specs.declared.SlotView.{SlotView}
 use Rattle.views.specs.declared.SlotView.the-variants as Sv
 use Rattle.views.proofs.Runs.{length-run}
-use Rattle.slots.specs.Slots.{slotOf, slotWith}
+use Rattle.slots.specs.Slots.{slotWith, noPath, plainSlot, fieldSlot, justSlot, noSlot, Stands, IsSlot}
+use Rattle.slots.specs.declared.MaybeSlot.{MaybeSlot}
+use Rattle.slots.proofs.Tidy.{plain-stands, field-stands, stands-as, just-is, no-slot, slot-as}
 use Rattle.slots.specs.declared.SlotKind.{SlotKind}
 use Rattle.slots.specs.declared.Slot.{Slot}
 use Rattle.lists.specs.Lists.{fitsTables, ShortSlot}
@@ -100,11 +102,11 @@ inside-as f v w e i = subst (SlotInside f) e i
 pub short-as : (f : List ℕ) (v w : SlotView) → v ≡ w → ShortSlot f v → ShortSlot f w
 short-as f v w e i = subst (ShortSlot f) e i
 
-pub plain-slot : (f : List ℕ) (v w : SlotView) (k : SlotKind) (s : Slot) → v ≡ w → s .kind ≡ k → slotWith k (s .path) ≡ Views.slotOf f w → slotOf s ≡ Views.slotOf f v
-plain-slot f v w k s e g h = ap (λ (j : SlotKind). slotWith j (s .path)) g ∙ h ∙ ap (Views.slotOf f) (sym e)
+pub plain-slot : (f : List ℕ) (v w : SlotView) (k : SlotKind) (s : Slot) → v ≡ w → s ≡ plainSlot k → slotWith k noPath ≡ Views.slotOf f w → Stands (Views.slotOf f v) s
+plain-slot f v w k s e g h = stands-as (plain-stands k g) (h ∙ ap (Views.slotOf f) (sym e))
 
-pub field-slot : (f : List ℕ) (v : SlotView) (a : Address) (at t : ℕ) (p : FieldPath) (s : File.Slot) → v ≡ Sv.Field a at t → Holds p (pathAt f at) → s ≡ File.Slot.Field (a .0) (pathOf p) t → s ≡ Views.slotOf f v
-field-slot f v a at t p s e g h = h ∙ ap (λ (q : File.FieldPath). File.Slot.Field (a .0) q t) (g .is) ∙ ap (Views.slotOf f) (sym e)
+pub field-slot : (f : List ℕ) (v : SlotView) (a : Address) (at t : ℕ) (p : FieldPath) (s : Slot) → v ≡ Sv.Field a at t → Holds p (pathAt f at) → s ≡ fieldSlot a p t → Stands (Views.slotOf f v) s
+field-slot f v a at t p s e g h = stands-as (field-stands a p t h) (ap (λ (q : File.FieldPath). File.Slot.Field (a .0) q t) (g .is) ∙ ap (Views.slotOf f) (sym e))
 
 -- a slot that fits has a path of few steps: its type is at least one deep
 module _ (f ix : List ℕ) (r : Ready f ix) (g : List ℕ) where
@@ -126,8 +128,8 @@ module _ (T : Tables) (s : File.Slot) (b : Bool) (e : b ≡ fitsTables T s) wher
   unfolding fitting
   chosen c h = ap (λ (t : Bool). elim t as (λ _. Option File.Slot) [ true ↦ some s | false ↦ none ]) (sym h ∙ e)
 
-  pub fitted-yes : (o : Option File.Slot) (s' : File.Slot) → b ≡ true → o ≡ some s' → s' ≡ s → o ≡ fitting T (some s)
-  fitted-yes o s' h g k = g ∙ ap some k ∙ chosen true h
+  pub fitted-yes : (r : MaybeSlot) (s′ : Slot) → b ≡ true → r ≡ justSlot s′ → Stands s s′ → IsSlot (fitting T (some s)) r
+  fitted-yes r s′ h g k = slot-as (just-is g k) (chosen true h)
 
-  pub fitted-no : (o : Option File.Slot) → b ≡ false → o ≡ none → o ≡ fitting T (some s)
-  fitted-no o h g = g ∙ chosen false h
+  pub fitted-no : (r : MaybeSlot) → b ≡ false → r ≡ noSlot → IsSlot (fitting T (some s)) r
+  fitted-no r h g = slot-as (no-slot g) (chosen false h)

@@ -12,7 +12,7 @@ use Rattle.rules.specs.Constant.{lookup}
 use Rattle.state.specs.State.{bindingsIn}
 use Rattle.file.specs.Steps.{word, stepAt}
 use Rattle.tables.specs.Tables.{SeenSlot}
-use Rattle.tables.specs.declared.MaybeSlot.the-variants as Ms
+use Rattle.tables.specs.declared.MaybeSlotView.the-variants as Ms
 use Rattle.lists.specs.Lists.{placeOf, endOf, apart, nearest, SeenAt}
 use Rattle.lists.proofs.Scans.{Scanning, scan-start, scan-none, scan-end, scan-ended, scan-more, forward, later-miss, place-none, found-none}
 

@@ -28,7 +28,7 @@ use Rattle.views.proofs.Slots.{BindingRead}
 use Rattle.tables.specs.declared.Found.{Found}
 use Rattle.tables.specs.declared.Found.the-variants as Fo
 use Rattle.tables.specs.Tables.{SeenSlot}
-use Rattle.tables.specs.declared.MaybeSlot.the-variants as Ms
+use Rattle.tables.specs.declared.MaybeSlotView.the-variants as Ms
 use Rattle.views.specs.Views.{slotOf, SlotInside}
 use Rattle.views.specs.declared.SlotView.{SlotView}
 use Rattle.lists.specs.Lists.{bindingRead, bindingAt, slotAt, slotFrom, placeOf, endOf, later, Readable, FoundReads, SeenAt, SeenView}

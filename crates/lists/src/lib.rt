@@ -1,10 +1,10 @@
-// The four lists as runs of records in the work area, each record in the plan's form. A record that its run has no room for means that the plan
-// is too long: `over` is set, and nothing changes any more.
+// The four lists as runs of records in the work area, each record in the plan's form. A record that its run has no room for means
+// that the plan is too long: `over` is set, and nothing changes any more.
 ghost use mathlib.Core.Path.{_≡_};
 ghost use mathlib.Core.Bool.{true, false};
 ghost use mathlib.Core.List.{List, _∷_, _++_};
 ghost use mathlib.Core.Option.{Option·getD, some};
-ghost use Prim.Native.Nat.{ℕ, _+_, _-_, _*_, _≤_, _<_};
+ghost use Prim.Native.Nat.{ℕ, _+_, _-_, _*_, _≤_, _<_, min};
 ghost use lib.Dec.{ltb, leb};
 ghost use lib.ListN.{length, getD, take};
 ghost use Rattle.rules.specs.Base.{both};
@@ -25,9 +25,10 @@ ghost use Rattle.views.specs.Views as Views;
 ghost use Rattle.views.specs.Views.{sizeOf, orNone, predicateOption, pathAt, PathInside, SlotInside};
 ghost use Rattle.ready.specs.Ready.{Ready};
 ghost use Rattle.tables.specs.Tables.{SeenSlot};
-ghost use Rattle.slots.specs.Slots.{slotOf, slotOption};
+ghost use Rattle.slots.specs.Slots.{slotOf, Stands, IsSlot};
 ghost use Rattle.records.specs.Records.{put, reach};
-ghost use Rattle.lists.specs.Lists.{stateWith, overrun, codeOf, fitsTables, placeOf, plainSizes, endOf, later, apart, nearest, slotFrom, Readable, SeenAt, SeenView, ShortSlot};
+ghost use Rattle.lists.specs.Lists.{stateWith, overrun, codeOf, fitsTables, placeOf, plainSizes, endOf};
+ghost use Rattle.lists.specs.Lists.{later, apart, nearest, slotFrom, Readable, SeenAt, SeenView, ShortSlot};
 use fields::path_at;
 use file::DEPTHS;
 use file::least;
@@ -49,6 +50,7 @@ use slots::SlotKind;
 use slots::just;
 use slots::nothing;
 use tables::Found;
+use tables::MaybeSlotView;
 use views::MaybePredicate;
 use views::SlotView;
 use views::count_of;
@@ -125,7 +127,11 @@ fn code_number(code: Code) -> u8
 
 // A diagnostic more.
 pub fn report(work: &mut [u8], l: Lists, node: usize, code: Code) -> Lists
-    ensures { λ r. ⌜ ((lv : Level) (tg : Target) (p : List ℕ) → stateWith r lv tg (now (work .exit)) p ≡ Ops.report node (codeOf code) (stateWith l lv tg (now (work .entry)) p)) ⌝ }
+    ensures { λ r. ⌜ ((lv : Level) (tg : Target) (p : List ℕ) → (
+        let before = stateWith l lv tg (now (work .entry)) p in
+        let after = stateWith r lv tg (now (work .exit)) p in
+        after ≡ Ops.report node (codeOf code) before
+        )) ⌝ }
 {
     if l.over {
         return l;
@@ -146,7 +152,11 @@ pub fn report(work: &mut [u8], l: Lists, node: usize, code: Code) -> Lists
 
 // A constrained name more.
 pub fn constrained(work: &mut [u8], l: Lists, name: usize) -> Lists
-    ensures { λ r. ⌜ ((lv : Level) (tg : Target) (p : List ℕ) → stateWith r lv tg (now (work .exit)) p ≡ Ops.constrained name (stateWith l lv tg (now (work .entry)) p)) ⌝ }
+    ensures { λ r. ⌜ ((lv : Level) (tg : Target) (p : List ℕ) → (
+        let before = stateWith l lv tg (now (work .entry)) p in
+        let after = stateWith r lv tg (now (work .exit)) p in
+        after ≡ Ops.constrained name before
+        )) ⌝ }
 {
     if l.over {
         return l;
@@ -166,7 +176,11 @@ pub fn constrained(work: &mut [u8], l: Lists, name: usize) -> Lists
 
 // A select more.
 pub fn select(work: &mut [u8], l: Lists, address: Address, path: FieldPath, disc: u32) -> Lists
-    ensures { λ r. ⌜ ((lv : Level) (tg : Target) (p : List ℕ) → stateWith r lv tg (now (work .exit)) p ≡ Ops.select (address .0) (pathOf path) disc (stateWith l lv tg (now (work .entry)) p)) ⌝ }
+    ensures { λ r. ⌜ ((lv : Level) (tg : Target) (p : List ℕ) → (
+        let before = stateWith l lv tg (now (work .entry)) p in
+        let after = stateWith r lv tg (now (work .exit)) p in
+        after ≡ Ops.select (address .0) (pathOf path) disc before
+        )) ⌝ }
 {
     if l.over {
         return l;
@@ -258,7 +272,11 @@ fn put_slot(work: &mut [u8], at: usize, slot: Slot)
 
 // A binding more.
 pub fn bind(work: &mut [u8], l: Lists, name: usize, slot: Slot) -> Lists
-    ensures { λ r. ⌜ ((lv : Level) (tg : Target) (p : List ℕ) → stateWith r lv tg (now (work .exit)) p ≡ Ops.bind name (slotOf slot) (stateWith l lv tg (now (work .entry)) p)) ⌝ }
+    ensures { λ r. ⌜ ((lv : Level) (tg : Target) (p : List ℕ) → (
+        let before = stateWith l lv tg (now (work .entry)) p in
+        let after = stateWith r lv tg (now (work .exit)) p in
+        after ≡ Ops.bind name (slotOf slot) before
+        )) ⌝ }
 {
     if l.over {
         return l;
@@ -357,7 +375,10 @@ fn end_at(bytes: &[u8], p: usize) -> usize
 
 // The last binding of a name among records one after another, up to the first that is none.
 fn find(bytes: &[u8], name: usize) -> Found
-    ensures { λ r. ⌜ SeenAt (now (bytes .entry)) (Constant.lookup (bindingsIn (length (now (bytes .entry))) (now (bytes .entry))) name) r ⌝ }
+    ensures { λ r. ⌜ (
+        let records = now (bytes .entry) in
+        SeenAt records (Constant.lookup (bindingsIn (length records) records) name) r
+        ) ⌝ }
 {
     let mut found: usize = 0;
     let mut p: usize = 0;
@@ -423,8 +444,8 @@ fn apart(a: u8, b: u8, low: u8, high: u8) -> u8
     (a ^ low) | (b ^ high)
 }
 
-// How near two bytes side by side come to a name's two: 0 where these stand somewhere. One byte to carry and no branch, so that the loop becomes
-// vector code.
+// How near two bytes side by side come to a name's two: 0 where these stand somewhere. One byte to carry and no branch, so that the
+// loop becomes vector code.
 fn nearest(bytes: &[u8], low: u8, high: u8) -> u8
     ensures { λ r. ⌜ r ≡ nearest (now (bytes .entry)) low high (length (now (bytes .entry)) - 1) ⌝ }
 {
@@ -438,17 +459,21 @@ fn nearest(bytes: &[u8], low: u8, high: u8) -> u8
     near
 }
 
-// The slot of a name's last entry among the records. Most names have none, and then their two bytes seldom stand anywhere: no record is read.
-fn made_slot(bytes: &[u8], name: usize) -> tables::MaybeSlot
-    ensures { λ r. ⌜ SeenSlot (now (bytes .entry)) (Constant.lookup (bindingsIn (length (now (bytes .entry))) (now (bytes .entry))) name) r ⌝ }
+// The slot of a name's last entry among the records. Most names have none, and then their two bytes seldom stand anywhere: no record
+// is read.
+fn made_slot(bytes: &[u8], name: usize) -> MaybeSlotView
+    ensures { λ r. ⌜ (
+        let records = now (bytes .entry) in
+        SeenSlot records (Constant.lookup (bindingsIn (length records) records) name) r
+        ) ⌝ }
 {
     if nearest(bytes, (name % 256) as u8, (name / 256 % 256) as u8) != 0 {
-        return tables::MaybeSlot::Nothing;
+        return MaybeSlotView::Nothing;
     }
     if let Found::At(p) = find(bytes, name) {
-        tables::MaybeSlot::Just(slot_at(bytes, p))
+        MaybeSlotView::Just(slot_at(bytes, p))
     } else {
-        tables::MaybeSlot::Nothing
+        MaybeSlotView::Nothing
     }
 }
 
@@ -478,7 +503,11 @@ fn predicate_in(file: &[u8], index: &[u16], p: MaybePredicate) -> bool
 fn path_fits(file: &[u8], index: &[u16], bytes: &[u8], at: usize, t: usize) -> bool
     requires { ⌜ Ready (now file) (now index) ⌝ }
     requires { ⌜ PathInside (now bytes) at ⌝ }
-    ensures { λ r. ⌜ r ≡ both (isType (tablesOf (now (file .entry))) t) (leb (length (pathAt (now (bytes .entry)) at .steps) + depth (tablesOf (now (file .entry))) t) depthLimit) ⌝ }
+    ensures { λ r. ⌜ (
+        let T = tablesOf (now (file .entry)) in
+        let steps = pathAt (now (bytes .entry)) at .steps in
+        r ≡ both (isType T t) (leb (length steps + depth T t) depthLimit)
+        ) ⌝ }
 {
     if !numbered(file, index, 1, t) {
         return false;
@@ -510,7 +539,7 @@ fn slot_fits(file: &[u8], index: &[u16], bytes: &[u8], v: SlotView) -> bool
 fn slot_of(bytes: &[u8], v: SlotView) -> Slot
     requires { ⌜ SlotInside (now bytes) v ⌝ }
     requires { ⌜ ShortSlot (now bytes) v ⌝ }
-    ensures { λ r. ⌜ slotOf r ≡ Views.slotOf (now (bytes .entry)) v ⌝ }
+    ensures { λ r. ⌜ Stands (Views.slotOf (now (bytes .entry)) v) r ⌝ }
 {
     match v {
         SlotView::Row(a, p) => Slot::plain(SlotKind::Row(a, p)),
@@ -526,7 +555,10 @@ fn slot_of(bytes: &[u8], v: SlotView) -> Slot
 fn fitted(file: &[u8], index: &[u16], bytes: &[u8], v: SlotView) -> MaybeSlot
     requires { ⌜ Ready (now file) (now index) ⌝ }
     requires { ⌜ SlotInside (now bytes) v ⌝ }
-    ensures { λ r. ⌜ slotOption r ≡ fitting (tablesOf (now (file .entry))) (some (Views.slotOf (now (bytes .entry)) v)) ⌝ }
+    ensures { λ r. ⌜ (
+        let T = tablesOf (now (file .entry)) in
+        IsSlot (fitting T (some (Views.slotOf (now (bytes .entry)) v))) r
+        ) ⌝ }
 {
     if slot_fits(file, index, bytes, v) {
         just(slot_of(bytes, v))
@@ -538,9 +570,12 @@ fn fitted(file: &[u8], index: &[u16], bytes: &[u8], v: SlotView) -> MaybeSlot
 // The file's own slot of a name.
 fn own_slot(file: &[u8], index: &[u16], name: usize) -> MaybeSlot
     requires { ⌜ Ready (now file) (now index) ⌝ }
-    ensures { λ r. ⌜ slotOption r ≡ fitting (tablesOf (now (file .entry))) (Constant.lookup (tablesOf (now (file .entry)) .bindings) name) ⌝ }
+    ensures { λ r. ⌜ (
+        let T = tablesOf (now (file .entry)) in
+        IsSlot (fitting T (Constant.lookup (T .bindings) name)) r
+        ) ⌝ }
 {
-    if let tables::MaybeSlot::Just(v) = tables::lookup(file, index, name) {
+    if let MaybeSlotView::Just(v) = tables::lookup(file, index, name) {
         fitted(file, index, file, v)
     } else {
         nothing()
@@ -549,7 +584,11 @@ fn own_slot(file: &[u8], index: &[u16], name: usize) -> MaybeSlot
 
 // Where the bindings end, within the work area.
 fn made_end(work: &[u8], l: Lists) -> usize
-    ensures { λ r. ⌜ (take r (now (work .entry)) ≡ take (l .ends .bindings) (now (work .entry))) × (r ≤ length (now (work .entry))) ⌝ }
+    ensures { λ r. ⌜ (
+        let bytes = now (work .entry) in
+        let end = l .ends .bindings in
+        (take r bytes ≡ take end bytes) × (r ≤ length bytes) × (r ≡ min end (length bytes))
+        ) ⌝ }
 {
     let ends = l.ends;
     let end = wide32(ends.bindings);
@@ -562,11 +601,15 @@ fn made_end(work: &[u8], l: Lists) -> usize
 // The slot of a name's last entry: of those that the walks have made, else of the file's own.
 pub fn lookup(file: &[u8], index: &[u16], work: &[u8], l: Lists, name: usize) -> MaybeSlot
     requires { ⌜ Ready (now file) (now index) ⌝ }
-    ensures { λ r. ⌜ ((lv : Level) (tg : Target) (p : List ℕ) → slotOption r ≡ ops (tablesOf (now (file .entry))) .lookup (stateWith l lv tg (now (work .entry)) p) name) ⌝ }
+    ensures { λ r. ⌜ ((lv : Level) (tg : Target) (p : List ℕ) → (
+        let T = tablesOf (now (file .entry)) in
+        let before = stateWith l lv tg (now (work .entry)) p in
+        IsSlot (ops T .lookup before name) r
+        )) ⌝ }
 {
     let end = made_end(work, l);
     let bytes = &work[..end];
-    if let tables::MaybeSlot::Just(v) = made_slot(bytes, name) {
+    if let MaybeSlotView::Just(v) = made_slot(bytes, name) {
         fitted(file, index, bytes, v)
     } else {
         own_slot(file, index, name)

@@ -4,7 +4,7 @@ ghost use Prim.Native.Nat.{_+_, _≤_, _<_};
 ghost use Rattle.rules.specs.Limits.{stepLimit};
 ghost use Rattle.rules.specs.File.{fieldPath, then, payload};
 ghost use Rattle.rules.specs.Lookup.{samePath};
-ghost use Rattle.paths.specs.Paths.{pathOf, Holds};
+ghost use Rattle.paths.specs.Paths.{pathOf, pathFor, stepped, Holds};
 
 pub struct Address(pub u16);
 
@@ -21,8 +21,10 @@ impl FieldPath {
     // How many steps a path may have: the length of `steps`.
     pub const STEP_LIMIT: usize = 15;
 
+    // The path to a field of a key: no steps yet.
     pub fn field(idx: u16) -> Self
-        ensures { λ r. ⌜ Holds r (fieldPath idx) ⌝ }
+        ensures holds { λ r. ⌜ Holds r (fieldPath idx) ⌝ }
+        ensures whole { λ r. ⌜ r ≡ pathFor (fieldPath idx) ⌝ }
     {
         FieldPath {
             steps: [0u32; FieldPath::STEP_LIMIT],
@@ -31,9 +33,11 @@ impl FieldPath {
         }
     }
 
+    // One step further, to a field of what the path leads to.
     pub fn then(self, idx: u32) -> Self
         requires { ⌜ self .count < stepLimit ⌝ }
-        ensures { λ r. ⌜ Holds r (then (pathOf self) idx) ⌝ }
+        ensures holds { λ r. ⌜ Holds r (then (pathOf self) idx) ⌝ }
+        ensures whole { λ r. ⌜ r ≡ stepped self idx ⌝ }
     {
         let mut p = self;
         let n = p.count;
@@ -42,13 +46,16 @@ impl FieldPath {
         p
     }
 
+    // One step further, to the payload of a union's alternative.
     pub fn payload(self, disc: u32) -> Self
         requires { ⌜ self .count < stepLimit ⌝ }
-        ensures { λ r. ⌜ Holds r (payload (pathOf self) disc) ⌝ }
+        ensures holds { λ r. ⌜ Holds r (payload (pathOf self) disc) ⌝ }
+        ensures whole { λ r. ⌜ r ≡ stepped self disc ⌝ }
     {
         self.then(disc)
     }
 
+    // Whether two paths lead to the same place.
     pub fn same(self, other: FieldPath) -> bool
         requires { ⌜ (self .count ≤ stepLimit) × (other .count ≤ stepLimit) ⌝ }
         ensures { λ r. ⌜ r ≡ samePath (pathOf self) (pathOf other) ⌝ }

@@ -21,10 +21,13 @@ use Rattle.rules.proofs.Cases.{true≢false}
 use Rattle.state.specs.State.{Level, Target, State, newLevel, measuring}
 use Rattle.state.specs.Ops as Ops
 use Rattle.state.specs.Ops.{ops}
-use Rattle.slots.specs.Slots.{maybe, slotWith, slotOf, Roomy}
+use Rattle.slots.specs.Slots.{maybe, slotWith, slotOf, fieldSlot as slotOfField, justSlot, noSlot, tidied, IsSlot, Roomy}
+use Rattle.slots.specs.declared.MaybeSlot.{MaybeSlot}
+use Rattle.slots.proofs.Tidy.{no-slot, field-is, slot-as}
 use Rattle.slots.specs.declared.Slot.{Slot}
 use Rattle.slots.specs.declared.SlotKind.{SlotKind}
 use Rattle.paths.specs.Paths.{pathOf}
+use Rattle.paths.specs.declared.Address.{Address}
 use Rattle.paths.specs.declared.FieldPath.{FieldPath}
 use Rattle.file.proofs.Readers.{lt-or-le}
 use Rattle.views.specs.Views.{nodeOf, SeenNode}
@@ -35,7 +38,7 @@ use Rattle.tables.specs.declared.Run.{Run}
 use Rattle.fields.proofs.Slots.{counts}
 use Rattle.lists.specs.Lists.{stateWith}
 use Rattle.lists.specs.declared.Lists.{Lists}
-use Rattle.resolve.specs.Resolved.{given, Answers, Follows, Rooms, baseOf, readSlot, readPast, leafSlot, leafAt}
+use Rattle.resolve.specs.Resolved.{given, found, answerWith, answerOf, Answers, Follows, Rooms, baseOf, readSlot, readPast, leafSlot, leafAt}
 use Rattle.resolve.specs.declared.Answer.{Answer}
 use Rattle.resolve.specs.declared.Read.{Read}
 use Rattle.resolve.specs.declared.Base.{Base}
@@ -67,30 +70,38 @@ alternative T n a p x o = elim o [ none ↦ declined (ops T) T n Code.NyiFactFie
 abbrev chosen : Tables → ℕ → Bool → Resolver State
 chosen T n b = elim b [ true ↦ give (some (File.Slot.Const n)) | false ↦ resolveNode (ops T) T (resolve (ops T) T) n (nodeAt T n) ]
 
-module _ {l : Lists} {w : List ℕ} {r : Answer} {w′ : List ℕ} where
-  pub gives-is : {x y : Option File.Slot} → Answers (give x) l w r w′ → x ≡ y → Answers (give y) l w r w′
-  gives-is h e = subst (λ (x : Option File.Slot). Answers (give x) l w r w′) e h
+-- a slot that was found, with the lists as they were
+pub gives-is : {l : Lists} {w : List ℕ} {r : Answer} {f : MaybeSlot} {x : Option File.Slot} → r ≡ answerWith f l → IsSlot x f → Answers (give x) l w r w
+unfolding give
+gives-is {l} {w} {r} {f} {x} e h =
+    record {
+      is = λ level target plan.
+          ap (λ (a : Answer). answerOf a level target w plan) e ∙ ap (λ (o : Option File.Slot). record { slot = o; walk = stateWith l level target w plan }) (h .is);
+      tidy = ap found e ∙ h .tidy ∙ ap (λ (a : Answer). tidied (found a)) (sym e);
+    }
 
+module _ {l : Lists} {w : List ℕ} {r : Answer} {w′ : List ℕ} where
   -- nothing, and a diagnostic
-  pub declined-is : (T : Tables) (n : ℕ) (code : Code) {f : Option File.Slot} {m : Lists}
-      → ((level : Level) (target : Target) (plan : List ℕ) → stateWith m level target w′ plan ≡ Ops.report n code (stateWith l level target w plan)) → f ≡ none → Answers (give f) m w′ r w′ → Answers (declined (ops T) T n code) l w r w′
+  pub declined-is : (T : Tables) (n : ℕ) (code : Code) {f : MaybeSlot} {m : Lists}
+      → ((level : Level) (target : Target) (plan : List ℕ) → stateWith m level target w′ plan ≡ Ops.report n code (stateWith l level target w plan)) → f ≡ noSlot → r ≡ answerWith f m → Answers (declined (ops T) T n code) l w r w′
   unfolding declined give
-  declined-is T n code e f h = record { is = λ level target plan. gives-is′ f h .is level target plan ∙ ap (λ (s : State). record { slot = none; walk = s }) (e level target plan) }
-    where
-      gives-is′ : {x : Option File.Slot} {m : Lists} → x ≡ none → Answers (give x) m w′ r w′ → Answers (give none) m w′ r w′
-      gives-is′ {x} {m} e h = subst (λ (x : Option File.Slot). Answers (give x) m w′ r w′) e h
+  declined-is T n code e f h =
+      let a = gives-is {w = w′} h (no-slot f) in
+      record { is = λ level target plan. a .is level target plan ∙ ap (λ (s : State). record { slot = none; walk = s }) (e level target plan); tidy = a .tidy }
 
   -- a select, and its payload
-  pub selected-is : (T : Tables) (a : ℕ) (p q : File.FieldPath) (alt : Alternative) {o : Option Alternative} {f : Option File.Slot} {s : File.Slot} {m : Lists}
-      → ((level : Level) (target : Target) (plan : List ℕ) → stateWith m level target w′ plan ≡ Ops.select a p (alt .disc) (stateWith l level target w plan)) → f ≡ some s → s ≡ File.Slot.Field a q (alt .type) → q ≡ payload p (alt .disc) → o ≡ some alt
-      → Answers (give f) m w′ r w′ → Answers (selected (ops T) T a p o) l w r w′
+  pub selected-is : (T : Tables) (a : Address) (p : File.FieldPath) (q : FieldPath) (alt : Alternative) {o : Option Alternative} {f : MaybeSlot} {s : Slot} {m : Lists}
+      → ((level : Level) (target : Target) (plan : List ℕ) → stateWith m level target w′ plan ≡ Ops.select (a .0) p (alt .disc) (stateWith l level target w plan)) → f ≡ justSlot s → s ≡ slotOfField a q (alt .type) → pathOf q ≡ payload p (alt .disc)
+      → o ≡ some alt → r ≡ answerWith f m → Answers (selected (ops T) T (a .0) p o) l w r w′
   unfolding selected give
   selected-is T a p q alt {o} {f} {s} {m} e u v x y h =
-      subst (λ (o : Option Alternative). Answers (selected (ops T) T a p o) l w r w′) (sym y)
+      let b = gives-is {w = w′} h (slot-as (field-is s a q (alt .type) u v) (ap (λ (q : File.FieldPath). some (File.Slot.Field (a .0) q (alt .type))) x)) in
+      subst (λ (o : Option Alternative). Answers (selected (ops T) T (a .0) p o) l w r w′) (sym y)
       (record {
         is = λ level target plan.
-            h .is level target plan ∙ ap (λ (o : Option File.Slot). record { slot = o; walk = stateWith m level target w′ plan }) (u ∙ ap some (v ∙ ap (λ (q : File.FieldPath). File.Slot.Field a q (alt .type)) x))
-            ∙ ap (λ (t : State). record { slot = some (File.Slot.Field a (payload p (alt .disc)) (alt .type)); walk = t }) (e level target plan);
+            b .is level target plan
+            ∙ ap (λ (t : State). record { slot = some (File.Slot.Field (a .0) (payload p (alt .disc)) (alt .type)); walk = t }) (e level target plan);
+        tidy = b .tidy;
       })
 
   pub none-selected : (T : Tables) (a : ℕ) (p : File.FieldPath) {o : Option Alternative} → o ≡ none → Answers (give none) l w r w′ → Answers (selected (ops T) T a p o) l w r w′
@@ -159,25 +170,27 @@ module _ {l : Lists} {w : List ℕ} {r : Answer} {w′ : List ℕ} where
   -- one read after another
   pub next-is : {g : Resolver State} {h : File.Slot → Resolver State} (a : Answer) {v : List ℕ} → Answers g l w a v → Follows h a v r w′ → Answers (g >>= h) l w r w′
   unfolding _>>=_
-  next-is {g} {h} a e k = record { is = λ level target plan. k .is level target plan ∙ ap (λ (a : Rules.Answer State). follow a h) (e .is level target plan) }
+  next-is {g} {h} a e k = record { is = λ level target plan. k .is level target plan ∙ ap (λ (a : Rules.Answer State). follow a h) (e .is level target plan); tidy = k .tidy }
 
 -- a node that reads of no other
-pub leaf-is : {l : Lists} {w : List ℕ} {r : Answer} (T : Tables) (n : ℕ) (node : Node) {f : Option File.Slot} → ((level : Level) (target : Target) (plan : List ℕ) → f ≡ leafSlot T (ops T .lookup (stateWith l level target w plan)) n node) → Answers (give f) l w r w
+pub leaf-is : {l : Lists} {w : List ℕ} {r : Answer} (T : Tables) (n : ℕ) (node : Node) {f : MaybeSlot} → ((level : Level) (target : Target) (plan : List ℕ) → IsSlot (leafSlot T (ops T .lookup (stateWith l level target w plan)) n node) f) → r ≡ answerWith f l
     → Answers (λ s. record { slot = leafSlot T (ops T .lookup s) n node; walk = s }) l w r w
 unfolding give
 leaf-is {l} {w} {r} T n node e h =
-    record { is = λ level target plan. h .is level target plan ∙ ap (λ (o : Option File.Slot). record { slot = o; walk = stateWith l level target w plan }) (e level target plan) }
+    record { is = λ level target plan. gives-is {w = w} h (e level target plan) .is level target plan; tidy = gives-is {w = w} h (e newLevel measuring []) .tidy }
 
 -- a read that goes on from an answer
 module _ {g : File.Slot → Resolver State} {a : Answer} {w : List ℕ} where
-  pub follows-none : a .some ≡ false → Follows g a w a w
-  unfolding follow
-  follows-none e = record { is = λ level target plan. go level target plan (a .some) e }
-    where
-      go : (level : Level) (target : Target) (plan : List ℕ) (b : Bool) → b ≡ false
-          → _≡_ {A = Rules.Answer State} (record { slot = maybe b (slotOf (a .slot)); walk = stateWith (a .lists) level target w plan }) (follow (record { slot = maybe b (slotOf (a .slot)); walk = stateWith (a .lists) level target w plan }) g)
-      go level target plan true e = absurd (true≢false e)
-      go level target plan false e = refl
+  pub follows-none : {r : Answer} {f : MaybeSlot} → a .some ≡ false → f ≡ noSlot → r ≡ answerWith f (a .lists) → Follows g a w r w
+  unfolding follow give
+  follows-none {r} {f} e u h =
+      let b = gives-is {w = w} h (no-slot u) in
+      record {
+        is = λ level target plan.
+            b .is level target plan
+            ∙ ap (λ (b : Bool). follow (record { slot = maybe b (slotOf (a .slot)); walk = stateWith (a .lists) level target w plan }) g) (sym e);
+        tidy = b .tidy;
+      }
 
   pub follows-some : {r : Answer} {w′ : List ℕ} → a .some ≡ true → Answers (g (slotOf (a .slot))) (a .lists) w r w′ → Follows g a w r w′
   unfolding follow
@@ -186,6 +199,7 @@ module _ {g : File.Slot → Resolver State} {a : Answer} {w : List ℕ} where
         is = λ level target plan.
             h .is level target plan
             ∙ ap (λ (b : Bool). follow (record { slot = maybe b (slotOf (a .slot)); walk = stateWith (a .lists) level target w plan }) g) (sym e);
+        tidy = h .tidy;
       }
 
 -- what an answer gave fits
@@ -288,7 +302,7 @@ base-lower T lower n read b e =
     (λ h. absurd (no-base (e ∙ ap baseOf (List·getD-eq-default (T .nodes) Node.Error h)))) (lt-or-le n (length (T .nodes)))
 
 pub answers-as : {g h : Resolver State} {l : Lists} {w : List ℕ} {r : Answer} {w′ : List ℕ} → ((s : State) → g s ≡ h s) → Answers g l w r w′ → Answers h l w r w′
-answers-as {g} {h} {l} {w} k a = record { is = λ level target plan. a .is level target plan ∙ k (stateWith l level target w plan) }
+answers-as {g} {h} {l} {w} k a = record { is = λ level target plan. a .is level target plan ∙ k (stateWith l level target w plan); tidy = a .tidy }
 
 -- a leaf by its constancy
 module _ (T : Tables) (n : ℕ) where

@@ -10,15 +10,18 @@ use lib.ListN.{length, getD, set, take, length-set, List·getD-eq-default}
 use lib.Seq.{sets, sets-eq, length-sets, take-suc, take-append-seam}
 use Rattle.rules.specs.File.{Tables, Node, nodeAt, isConstant}
 use Rattle.rules.specs.Resolve as Rules
-use Rattle.rules.specs.Resolve.{_>>=_, resolve}
-use Rattle.rules.proofs.Cases.{by-test}
+use Rattle.rules.specs.Resolve.{_>>=_, give, resolve}
+use Rattle.rules.proofs.Cases.{by-test, some≢none}
 use Rattle.rules.proofs.Sound.{Sound}
 use Rattle.file.proofs.Readers.{lt-or-le}
 use Rattle.state.specs.State.{Level, Target, State, newLevel, measuring}
 use Rattle.state.specs.Ops.{ops}
 use Rattle.lists.specs.Lists.{stateWith}
 use Rattle.lists.specs.declared.Lists.{Lists}
-use Rattle.resolve.specs.Resolved.{given, answerOf, Answers, Follows, Climbs, Rooms, baseOf, readPast, leafAt}
+use Rattle.slots.specs.Slots.{noSlot, tidied}
+use Rattle.slots.specs.declared.MaybeSlot.{MaybeSlot}
+use Rattle.slots.proofs.Tidy.{no-slot}
+use Rattle.resolve.specs.Resolved.{given, found, answerWith, answerOf, Answers, Follows, Climbs, Rooms, baseOf, readPast, leafAt}
 use Rattle.resolve.specs.Chains.{readOf, passing, chain, ending, bottom, readBy, readUp, climb}
 use Rattle.resolve.specs.declared.Answer.{Answer}
 use Rattle.resolve.specs.declared.Chain.{Chain}
@@ -27,7 +30,7 @@ use Rattle.resolve.specs.declared.Base.{Base}
 use Rattle.resolve.specs.declared.Base.the-variants as Bs
 use Rattle.resolve.proofs.Steps.{Lower}
 use Rattle.resolve.proofs.Rooms.{read-room, resolved-room}
-use Rattle.resolve.proofs.Answers.{no-base, base-lower, resolve-constant, resolve-other, stepBy, constant-leaf, other-leaf, answers-as, rooms-from}
+use Rattle.resolve.proofs.Answers.{no-base, base-lower, resolve-constant, resolve-other, stepBy, constant-leaf, other-leaf, answers-as, rooms-from, gives-is}
 
 module _ (T : Tables) where
   -- what a node reads of, by its constancy
@@ -178,17 +181,18 @@ module _ (T : Tables) where
   up-rooms S n a = go (baseOf (nodeAt T n))
     where
       go : (x : Base) → Rooms T (a .slot) → Rooms T (readBy T n x a .slot)
-      go Bs.Nothing h = h
+      go Bs.Nothing h = λ s e. absurd (some≢none s (sym e))
       go (Bs.Of read b) h = read-room S n read a h
 
   -- with k nodes left: the whole climb is the climb that is left
   pub record Up (trail : List ℕ) (passed : ℕ) (end : Answer) (w : List ℕ) (below : Answer) (w′ : List ℕ) (k : ℕ) : Type 0 where
     pub is : (level : Level) (target : Target) (plan : List ℕ) → climb T (take passed trail) (answerOf end level target w plan) ≡ climb T (take k trail) (answerOf below level target w′ plan)
     pub rooms : Rooms T (given below)
+    pub tidy : found below ≡ tidied (found below)
     pub within : k ≤ passed
 
-  pub up-first : (trail : List ℕ) (passed : ℕ) (end : Answer) (w : List ℕ) → Rooms T (given end) → Up trail passed end w end w passed
-  up-first trail passed end w h = record { is = λ level target plan. refl; rooms = h; within = omega arith }
+  pub up-first : (trail : List ℕ) (passed : ℕ) (end : Answer) (w : List ℕ) → Rooms T (given end) → found end ≡ tidied (found end) → Up trail passed end w end w passed
+  up-first trail passed end w h t = record { is = λ level target plan. refl; rooms = h; tidy = t; within = omega arith }
 
   module _ {trail : List ℕ} {passed : ℕ} {end : Answer} {w : List ℕ} {below : Answer} {w′ : List ℕ} {k : ℕ} (u : Up trail passed end w below w′ k) where
     pub up-more : (S : Sound T) {j n : ℕ} {r : Answer} {w″ : List ℕ} → k ≡ j + 1 → j < length trail → n ≡ getD trail j 0 → Climbs (readUp T n) below w′ r w″ → Up trail passed end w r w″ j
@@ -198,22 +202,25 @@ module _ (T : Tables) where
               u .is level target plan ∙ climb-more trail k j _ e h ∙ ap (λ (n : ℕ). climb T (take j trail) (readUp T n (answerOf below level target w′ plan))) (sym g)
               ∙ ap (climb T (take j trail)) (sym (c .is level target plan));
           rooms = subst (Rooms T) (sym (ap (λ (a : Rules.Answer State). a .slot) (c .is newLevel measuring []))) (up-rooms S n _ (u .rooms));
+          tidy = c .tidy;
           within = omega (arith, u .within);
         }
 
     pub up-end : k ≡ 0 → Climbs (climb T (take passed trail)) end w below w′
     unfolding climb
-    up-end e = record { is = λ level target plan. sym (u .is level target plan ∙ ap (λ (k : ℕ). climb T (take k trail) (answerOf below level target w′ plan)) e) }
+    up-end e = record { is = λ level target plan. sym (u .is level target plan ∙ ap (λ (k : ℕ). climb T (take k trail) (answerOf below level target w′ plan)) e); tidy = u .tidy }
 
   -- a read of the answer below, by what the node reads of
   module _ (n : ℕ) {a : Answer} {w : List ℕ} where
-    pub up-nothing : Bs.Nothing ≡ baseOf (nodeAt T n) → Climbs (readUp T n) a w a w
-    unfolding readUp
-    up-nothing e = record { is = λ level target plan. ap (λ (x : Base). readBy T n x (answerOf a level target w plan)) e }
+    pub up-nothing : {r : Answer} {f : MaybeSlot} → Bs.Nothing ≡ baseOf (nodeAt T n) → f ≡ noSlot → r ≡ answerWith f (a .lists) → Climbs (readUp T n) a w r w
+    unfolding readUp give
+    up-nothing {r} {f} e u h =
+        let b = gives-is {w = w} h (no-slot u) in
+        record { is = λ level target plan. b .is level target plan ∙ ap (λ (x : Base). readBy T n x (answerOf a level target w plan)) e; tidy = b .tidy }
 
     pub up-read : {r : Answer} {w′ : List ℕ} (read : Read) (b : ℕ) → Bs.Of read b ≡ baseOf (nodeAt T n) → Follows (readPast T n read) a w r w′ → Climbs (readUp T n) a w r w′
     unfolding readUp
-    up-read {r} {w′} read b e h = record { is = λ level target plan. h .is level target plan ∙ ap (λ (x : Base). readBy T n x (answerOf a level target w plan)) e }
+    up-read {r} {w′} read b e h = record { is = λ level target plan. h .is level target plan ∙ ap (λ (x : Base). readBy T n x (answerOf a level target w plan)) e; tidy = h .tidy }
 
   module _ (lower : Lower T) where
     -- a chain has fewer nodes than its first one's number, and so than the file may have
@@ -271,6 +278,7 @@ module _ (T : Tables) where
                 ∙ ap (λ (c : Chain). climb T (take (c .passed) trail) (resolve (ops T) T (c .node) s)) (d .0)
                 ∙ ap (λ (ns : List ℕ). climb T ns (resolve (ops T) T (bottom T (length before) node) s)) (chain-kept before trail node (d .1) (omega arith))
                 ∙ climb-all (length before) node s;
+            tidy = k .tidy;
           }
 
       -- the end's slot has room, and the trail holds the way

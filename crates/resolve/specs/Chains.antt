@@ -2,6 +2,7 @@
 use Prim.Native.Nat.{ℕ, zero, suc}
 use mathlib.Core.Bool.{true, false}
 use mathlib.Core.List.{List, [], _∷_}
+use mathlib.Core.Option.{none}
 use Rattle.rules.specs.File.{Tables, nodeAt, isConstant}
 use Rattle.rules.specs.Resolve as Rules
 use Rattle.rules.specs.Resolve.{follow}
@@ -33,7 +34,7 @@ bottom T zero n = n
 bottom T (suc most) n = ending n (bottom T most) (readOf T n)
 
 abbrev pub readBy : Tables → ℕ → Base → Rules.Answer State → Rules.Answer State
-readBy T n Nothing below = below
+readBy T n Nothing below = record { slot = none; walk = below .walk }
 readBy T n (Of read base) below = follow below (readPast T n read)
 
 -- what a node reads, of the answer of the node below it

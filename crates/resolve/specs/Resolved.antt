@@ -11,7 +11,8 @@ use Rattle.rules.specs.Resolve as Rules
 use Rattle.rules.specs.Resolve.{Resolver, follow, _>>=_}
 use Rattle.state.specs.State.{Level, Target, State}
 use Rattle.state.specs.Ops.{ops}
-use Rattle.slots.specs.Slots.{maybe, slotOf, Roomy}
+use Rattle.slots.specs.Slots.{maybe, slotOf, tidied, Roomy}
+use Rattle.slots.specs.declared.MaybeSlot.{MaybeSlot}
 use Rattle.lists.specs.Lists.{stateWith}
 use Rattle.lists.specs.declared.Lists.{Lists}
 use Rattle.resolve.specs.declared.Answer.{Answer}
@@ -23,21 +24,31 @@ use Rattle.resolve.specs.declared.Base.the-variants.{Nothing, Of}
 abbrev pub given : Answer → Option File.Slot
 given r = maybe (r .some) (slotOf (r .slot))
 
+-- an answer's slot, if there is one, and an answer from its parts
+abbrev pub found : Answer → MaybeSlot
+found r = record { some = r .some; slot = r .slot }
+
+abbrev pub answerWith : MaybeSlot → Lists → Answer
+answerWith f lists = record { some = f .some; slot = f .slot; lists = lists }
+
 -- an answer, with the work area as the read left it
 abbrev pub answerOf : Answer → Level → Target → List ℕ → List ℕ → Rules.Answer State
 answerOf r level target work plan = record { slot = given r; walk = stateWith (r .lists) level target work plan }
 
--- r, with w′ in the work area, is what g gives of the lists l with w there
+-- r, with w′ in the work area, is what g gives of the lists l with w there, and nothing in its slot is left free
 pub record Answers (g : Resolver State) (l : Lists) (w : List ℕ) (r : Answer) (w′ : List ℕ) : Type 0 where
   pub is : (level : Level) (target : Target) (plan : List ℕ) → answerOf r level target w′ plan ≡ g (stateWith l level target w plan)
+  pub tidy : found r ≡ tidied (found r)
 
 -- the same of a read that goes on from the answer a
 pub record Follows (g : File.Slot → Resolver State) (a : Answer) (w : List ℕ) (r : Answer) (w′ : List ℕ) : Type 0 where
   pub is : (level : Level) (target : Target) (plan : List ℕ) → answerOf r level target w′ plan ≡ follow (answerOf a level target w plan) g
+  pub tidy : found r ≡ tidied (found r)
 
 -- the same of what f makes of the answer a
 pub record Climbs (f : Rules.Answer State → Rules.Answer State) (a : Answer) (w : List ℕ) (r : Answer) (w′ : List ℕ) : Type 0 where
   pub is : (level : Level) (target : Target) (plan : List ℕ) → answerOf r level target w′ plan ≡ f (answerOf a level target w plan)
+  pub tidy : found r ≡ tidied (found r)
 
 -- a slot that was given has room for the steps below its type
 abbrev pub Rooms : Tables → Option File.Slot → Type 0
@@ -94,4 +105,8 @@ leafSlot T lookup n Node.Error = none
 
 -- a constant is its own slot
 unfoldable pub leafAt : Tables → ℕ → Resolver State
-leafAt T n = λ s. record { slot = elim (isConstant T n) [ true ↦ some (File.Slot.Const n) | false ↦ leafSlot T (ops T .lookup s) n (nodeAt T n) ]; walk = s }
+leafAt T n = λ s.
+    record {
+      slot = elim (isConstant T n) [ true ↦ some (File.Slot.Const n) | false ↦ leafSlot T (ops T .lookup s) n (nodeAt T n) ];
+      walk = s;
+    }

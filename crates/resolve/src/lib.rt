@@ -16,11 +16,12 @@ ghost use Rattle.paths.specs.Paths.{pathOf};
 ghost use Rattle.state.specs.State.{Level, Target};
 ghost use Rattle.state.specs.Ops.{ops};
 ghost use Rattle.ready.specs.Ready.{Ready};
-ghost use Rattle.slots.specs.Slots.{slotOf, slotOption, Room, Roomy};
+ghost use Rattle.slots.specs.Slots.{slotOf, tidied, IsSlot, Room, Roomy};
 ghost use Rattle.lists.specs.Lists.{codeOf, stateWith};
 ghost use Rattle.fields.specs.Found.{addressOption};
 ghost use Rattle.tables.specs.Tables.{alternativeOption};
-ghost use Rattle.resolve.specs.Resolved.{given, Answers, Follows, Climbs, Rooms, baseOf, readSlot, readPast, leafSlot, leafAt};
+ghost use Rattle.resolve.specs.Resolved.{given, found, answerWith, Answers, Follows, Climbs, Rooms};
+ghost use Rattle.resolve.specs.Resolved.{baseOf, readSlot, readPast, leafSlot, leafAt};
 ghost use Rattle.resolve.specs.Chains.{readOf, chain, bottom, readUp, climb};
 use entries::node_of;
 use fields::MaybeAddress;
@@ -84,7 +85,7 @@ pub struct Chain {
 
 // A read that adds nothing.
 pub fn gives(found: MaybeSlot, lists: Lists) -> Answer
-    ensures { λ r. ⌜ ((w : List ℕ) → Answers (give (slotOption found)) lists w r w) ⌝ }
+    ensures { λ r. ⌜ r ≡ answerWith found lists ⌝ }
 {
     let slot = found.slot;
     Answer {
@@ -96,7 +97,11 @@ pub fn gives(found: MaybeSlot, lists: Lists) -> Answer
 
 // A read that gives nothing and says why.
 pub fn declined(work: &mut [u8], node: usize, code: Code, lists: Lists) -> Answer
-    ensures { λ r. ⌜ ((T : Tables) → Answers (Rules.declined (ops T) T node (codeOf code)) lists (now (work .entry)) r (now (work .exit))) ⌝ }
+    ensures { λ r. ⌜ (
+        let before = now (work .entry) in
+        let after = now (work .exit) in
+        ((T : Tables) → Answers (Rules.declined (ops T) T node (codeOf code)) lists before r after)
+        ) ⌝ }
 {
     let l = report(work, lists, node, code);
     gives(nothing(), l)
@@ -110,7 +115,11 @@ fn fetched_row(
     register: MaybeAddress,
     lists: Lists,
 ) -> Answer
-    ensures { λ r. ⌜ ((T : Tables) → Answers (Rules.fetchedRow (ops T) T node (predicate .0) (addressOption register)) lists (now (work .entry)) r (now (work .exit))) ⌝ }
+    ensures { λ r. ⌜ (
+        let before = now (work .entry) in
+        let after = now (work .exit) in
+        ((T : Tables) → Answers (Rules.fetchedRow (ops T) T node (predicate .0) (addressOption register)) lists before r after)
+        ) ⌝ }
 {
     match register {
         MaybeAddress::Nothing => declined(work, node, Code::NyiFactField, lists),
@@ -132,7 +141,12 @@ fn dereference_field(
     lists: Lists,
 ) -> Answer
     requires { ⌜ Indexed (now file) (now index) ⌝ }
-    ensures { λ r. ⌜ Answers (Rules.dereference (ops (tablesOf (now (file .entry)))) (tablesOf (now (file .entry))) node (File.Slot.Field (address .0) (pathOf path) ty)) lists (now (work .entry)) r (now (work .exit)) ⌝ }
+    ensures { λ r. ⌜ (
+        let T = tablesOf (now (file .entry)) in
+        let before = now (work .entry) in
+        let after = now (work .exit) in
+        Answers (Rules.dereference (ops T) T node (File.Slot.Field (address .0) (pathOf path) ty)) lists before r after
+        ) ⌝ }
 {
     match fact_ty(file, index, ty) {
         MaybePredicate::Nothing => gives(just(Slot::field(address, path, ty)), lists),
@@ -156,7 +170,12 @@ fn dereference_value(
     lists: Lists,
 ) -> Answer
     requires { ⌜ Indexed (now file) (now index) ⌝ }
-    ensures { λ r. ⌜ Answers (Rules.dereference (ops (tablesOf (now (file .entry)))) (tablesOf (now (file .entry))) node (File.Slot.Value (address .0) ty)) lists (now (work .entry)) r (now (work .exit)) ⌝ }
+    ensures { λ r. ⌜ (
+        let T = tablesOf (now (file .entry)) in
+        let before = now (work .entry) in
+        let after = now (work .exit) in
+        Answers (Rules.dereference (ops T) T node (File.Slot.Value (address .0) ty)) lists before r after
+        ) ⌝ }
 {
     match fact_ty(file, index, ty) {
         MaybePredicate::Nothing => gives(just(Slot::plain(SlotKind::Value(address, ty))), lists),
@@ -174,27 +193,35 @@ pub fn dereference(
     lists: Lists,
 ) -> Answer
     requires { ⌜ Indexed (now file) (now index) ⌝ }
-    ensures { λ r. ⌜ Answers (Rules.dereference (ops (tablesOf (now (file .entry)))) (tablesOf (now (file .entry))) node (slotOf slot)) lists (now (work .entry)) r (now (work .exit)) ⌝ }
+    ensures { λ r. ⌜ (
+        let T = tablesOf (now (file .entry)) in
+        let before = now (work .entry) in
+        let after = now (work .exit) in
+        Answers (Rules.dereference (ops T) T node (slotOf slot)) lists before r after
+        ) ⌝ }
 {
     let kind = slot.kind;
     match kind {
-        SlotKind::Row(a, p) => gives(just(slot), lists),
-        SlotKind::Key(a, t) => gives(just(slot), lists),
-        SlotKind::Derived(a) => gives(just(slot), lists),
+        SlotKind::Row(a, p) => gives(just(Slot::plain(SlotKind::Row(a, p))), lists),
+        SlotKind::Key(a, t) => gives(just(Slot::plain(SlotKind::Key(a, t))), lists),
+        SlotKind::Derived(a) => gives(just(Slot::plain(SlotKind::Derived(a))), lists),
         SlotKind::Field(a, t) => dereference_field(file, index, work, node, a, slot.path, t, lists),
         SlotKind::Value(a, t) => dereference_value(file, index, work, node, a, t, lists),
-        SlotKind::Const(n) => gives(just(slot), lists),
+        SlotKind::Const(n) => gives(just(Slot::plain(SlotKind::Const(n))), lists),
     }
 }
 
 // A field of a row that a reference names: of anything else there is none.
 fn field_of_row(file: &[u8], index: &[u16], name: usize, row: Answer) -> Answer
     requires { ⌜ Indexed (now file) (now index) ⌝ }
-    ensures { λ r. ⌜ ((w : List ℕ) → Follows (Rules.fieldOfRow (ops (tablesOf (now (file .entry)))) (tablesOf (now (file .entry))) name) row w r w) ⌝ }
+    ensures { λ r. ⌜ (
+        let T = tablesOf (now (file .entry)) in
+        ((w : List ℕ) → Follows (Rules.fieldOfRow (ops T) T name) row w r w)
+        ) ⌝ }
 {
     let lists = row.lists;
     if !row.some {
-        return row;
+        return gives(nothing(), lists);
     }
     let slot = row.slot;
     let kind = slot.kind;
@@ -221,7 +248,12 @@ fn field_below(
 ) -> Answer
     requires { ⌜ Ready (now file) (now index) ⌝ }
     requires { ⌜ Room (tablesOf (now file)) (pathOf path) ty ⌝ }
-    ensures { λ r. ⌜ Answers (Rules.fieldSlot (ops (tablesOf (now (file .entry)))) (tablesOf (now (file .entry))) node (File.Slot.Field (address .0) (pathOf path) ty) name) lists (now (work .entry)) r (now (work .exit)) ⌝ }
+    ensures { λ r. ⌜ (
+        let T = tablesOf (now (file .entry)) in
+        let before = now (work .entry) in
+        let after = now (work .exit) in
+        Answers (Rules.fieldSlot (ops T) T node (File.Slot.Field (address .0) (pathOf path) ty) name) lists before r after
+        ) ⌝ }
 {
     match fact_ty(file, index, ty) {
         MaybePredicate::Nothing => gives(path_field(file, index, address, path, ty, name), lists),
@@ -246,7 +278,12 @@ pub fn field_slot(
 ) -> Answer
     requires { ⌜ Ready (now file) (now index) ⌝ }
     requires { ⌜ Roomy (tablesOf (now file)) (slotOf slot) ⌝ }
-    ensures { λ r. ⌜ Answers (Rules.fieldSlot (ops (tablesOf (now (file .entry)))) (tablesOf (now (file .entry))) node (slotOf slot) name) lists (now (work .entry)) r (now (work .exit)) ⌝ }
+    ensures { λ r. ⌜ (
+        let T = tablesOf (now (file .entry)) in
+        let before = now (work .entry) in
+        let after = now (work .exit) in
+        Answers (Rules.fieldSlot (ops T) T node (slotOf slot) name) lists before r after
+        ) ⌝ }
 {
     let kind = slot.kind;
     match kind {
@@ -262,7 +299,10 @@ pub fn field_slot(
 // The value side of a row, and of nothing else.
 pub fn value_slot(file: &[u8], index: &[u16], slot: Slot, lists: Lists) -> Answer
     requires { ⌜ Indexed (now file) (now index) ⌝ }
-    ensures { λ r. ⌜ ((w : List ℕ) → Answers (Rules.valueSlot (ops (tablesOf (now (file .entry)))) (tablesOf (now (file .entry))) (slotOf slot)) lists w r w) ⌝ }
+    ensures { λ r. ⌜ (
+        let T = tablesOf (now (file .entry)) in
+        ((w : List ℕ) → Answers (Rules.valueSlot (ops T) T (slotOf slot)) lists w r w)
+        ) ⌝ }
 {
     let kind = slot.kind;
     match kind {
@@ -284,7 +324,11 @@ fn selected(
     lists: Lists,
 ) -> Answer
     requires { ⌜ ((a : File.Alternative) → alternativeOption found ≡ some a → length (pathOf path .steps) < stepLimit) ⌝ }
-    ensures { λ r. ⌜ ((T : Tables) → Answers (Rules.selected (ops T) T (address .0) (pathOf path) (alternativeOption found)) lists (now (work .entry)) r (now (work .exit))) ⌝ }
+    ensures { λ r. ⌜ (
+        let before = now (work .entry) in
+        let after = now (work .exit) in
+        ((T : Tables) → Answers (Rules.selected (ops T) T (address .0) (pathOf path) (alternativeOption found)) lists before r after)
+        ) ⌝ }
 {
     match found {
         MaybeAlternative::Nothing => gives(nothing(), lists),
@@ -309,7 +353,12 @@ fn select_field(
 ) -> Answer
     requires { ⌜ Ready (now file) (now index) ⌝ }
     requires { ⌜ Room (tablesOf (now file)) (pathOf path) ty ⌝ }
-    ensures { λ r. ⌜ Answers (Rules.selectSlot (ops (tablesOf (now (file .entry)))) (tablesOf (now (file .entry))) node (File.Slot.Field (address .0) (pathOf path) ty) name) lists (now (work .entry)) r (now (work .exit)) ⌝ }
+    ensures { λ r. ⌜ (
+        let T = tablesOf (now (file .entry)) in
+        let before = now (work .entry) in
+        let after = now (work .exit) in
+        Answers (Rules.selectSlot (ops T) T node (File.Slot.Field (address .0) (pathOf path) ty) name) lists before r after
+        ) ⌝ }
 {
     match union_ty(file, index, ty) {
         Run::Nothing => declined(work, node, Code::NyiFactField, lists),
@@ -335,7 +384,12 @@ pub fn select_slot(
 ) -> Answer
     requires { ⌜ Ready (now file) (now index) ⌝ }
     requires { ⌜ Roomy (tablesOf (now file)) (slotOf slot) ⌝ }
-    ensures { λ r. ⌜ Answers (Rules.selectSlot (ops (tablesOf (now (file .entry)))) (tablesOf (now (file .entry))) node (slotOf slot) name) lists (now (work .entry)) r (now (work .exit)) ⌝ }
+    ensures { λ r. ⌜ (
+        let T = tablesOf (now (file .entry)) in
+        let before = now (work .entry) in
+        let after = now (work .exit) in
+        Answers (Rules.selectSlot (ops T) T node (slotOf slot) name) lists before r after
+        ) ⌝ }
 {
     let kind = slot.kind;
     match kind {
@@ -361,7 +415,11 @@ pub fn select_slot(
 // The slot of the row that a node was hoisted to.
 pub fn hoisted_slot(file: &[u8], index: &[u16], work: &[u8], node: usize, lists: Lists) -> MaybeSlot
     requires { ⌜ Ready (now file) (now index) ⌝ }
-    ensures { λ r. ⌜ ((lv : Level) (tg : Target) (p : List ℕ) → slotOption r ≡ hoistedSlot (tablesOf (now (file .entry))) (ops (tablesOf (now (file .entry))) .lookup (stateWith lists lv tg (now (work .entry)) p)) node) ⌝ }
+    ensures { λ r. ⌜ ((lv : Level) (tg : Target) (p : List ℕ) → (
+        let T = tablesOf (now (file .entry)) in
+        let before = stateWith lists lv tg (now (work .entry)) p in
+        IsSlot (hoistedSlot T (ops T .lookup before) node) r
+        )) ⌝ }
 {
     match hoisted_name(file, index, node) {
         MaybeName::Nothing => nothing(),
@@ -372,7 +430,11 @@ pub fn hoisted_slot(file: &[u8], index: &[u16], work: &[u8], node: usize, lists:
 // A node's slot, if it reads of no other node.
 fn leaf(file: &[u8], index: &[u16], work: &[u8], node: usize, lists: Lists) -> MaybeSlot
     requires { ⌜ Ready (now file) (now index) ⌝ }
-    ensures { λ r. ⌜ ((lv : Level) (tg : Target) (p : List ℕ) → slotOption r ≡ leafSlot (tablesOf (now (file .entry))) (ops (tablesOf (now (file .entry))) .lookup (stateWith lists lv tg (now (work .entry)) p)) node (nodeAt (tablesOf (now (file .entry))) node)) ⌝ }
+    ensures { λ r. ⌜ ((lv : Level) (tg : Target) (p : List ℕ) → (
+        let T = tablesOf (now (file .entry)) in
+        let before = stateWith lists lv tg (now (work .entry)) p in
+        IsSlot (leafSlot T (ops T .lookup before) node (nodeAt T node)) r
+        )) ⌝ }
 {
     match node_of(file, index, node) {
         NodeView::Int(at) => nothing(),
@@ -434,7 +496,7 @@ fn read_slot(
     ensures { λ r. ⌜ Follows (readSlot (tablesOf (now (file .entry))) node read) place (now (work .entry)) r (now (work .exit)) ⌝ }
 {
     if !place.some {
-        return place;
+        return gives(nothing(), place.lists);
     }
     let slot = place.slot;
     let lists = place.lists;
@@ -459,7 +521,7 @@ fn read_past(
     ensures { λ r. ⌜ Follows (readPast (tablesOf (now (file .entry))) node read) base (now (work .entry)) r (now (work .exit)) ⌝ }
 {
     if !base.some {
-        return base;
+        return gives(nothing(), base.lists);
     }
     let slot = base.slot;
     let lists = base.lists;
@@ -501,8 +563,8 @@ fn read_of(file: &[u8], index: &[u16], node: usize) -> Base
     base_of(file, index, node)
 }
 
-// Goes down a chain of reads, from each node to the one that it reads of, and writes the nodes that it passes to the trail: until one reads of no
-// other, or the trail is full.
+// Goes down a chain of reads, from each node to the one that it reads of, and writes the nodes that it passes to the trail: until one
+// reads of no other, or the trail is full.
 fn descend(file: &[u8], index: &[u16], node: usize, trail: &mut [u16]) -> Chain
     requires { ⌜ Ready (now file) (now index) ⌝ }
     ensures passes { λ r. ⌜ (
@@ -539,7 +601,7 @@ fn read_up(file: &[u8], index: &[u16], work: &mut [u8], node: usize, below: Answ
         ) ⌝ }
 {
     match base_of(file, index, node) {
-        Base::Nothing => below,
+        Base::Nothing => gives(nothing(), below.lists),
         Base::Of(read, _) => read_past(file, index, work, node, read, below),
     }
 }
@@ -555,6 +617,7 @@ fn ascend(
 ) -> Answer
     requires { ⌜ Ready (now file) (now index) ⌝ }
     requires { ⌜ Rooms (tablesOf (now file)) (given end) ⌝ }
+    requires { ⌜ found end ≡ tidied (found end) ⌝ }
     requires { ⌜ passed ≤ length (now trail) ⌝ }
     ensures { λ r. ⌜ (
         let T = tablesOf (now (file .entry)) in
@@ -570,7 +633,7 @@ fn ascend(
     below
 }
 
-// A chain of any length: a file has no more nodes than the trail has places. The trail is large, so it stands here and in no other frame.
+// A chain of any length: a file has no more nodes than the trail has places.
 fn resolve_long(file: &[u8], index: &[u16], work: &mut [u8], node: usize, lists: Lists) -> Answer
     requires { ⌜ Ready (now file) (now index) ⌝ }
     ensures { λ r. ⌜ (
@@ -584,8 +647,8 @@ fn resolve_long(file: &[u8], index: &[u16], work: &mut [u8], node: usize, lists:
     ascend(file, index, work, &trail, chain.passed, end)
 }
 
-// Where a pattern's value lives. A chain of reads may be as long as a file has nodes, so it is walked by loops, down and up again; nearly every chain
-// is short, and is done with a short trail.
+// Where a pattern's value lives. A chain of reads may be as long as a file has nodes, so it is walked by loops, down and up again;
+// nearly every chain is short, and is done with a short trail.
 pub fn resolve(file: &[u8], index: &[u16], work: &mut [u8], node: usize, lists: Lists) -> Answer
     requires { ⌜ Ready (now file) (now index) ⌝ }
     ensures { λ r. ⌜ (

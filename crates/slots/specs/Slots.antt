@@ -1,12 +1,14 @@
 -- What a slot of the code stands for in the written rules.
 use Prim.Native.Nat.{ℕ, _+_, _≤_, _<_}
+use mathlib.Core.Path.{_≡_}
 use mathlib.Core.Bool.{Bool, true, false}
 use mathlib.Core.Option.{Option, none, some}
 use lib.ListN.{length}
 use Rattle.rules.specs.Limits.{depthLimit}
 use Rattle.rules.specs.File as File
-use Rattle.rules.specs.File.{Tables, depth}
-use Rattle.paths.specs.Paths.{pathOf}
+use Rattle.rules.specs.File.{Tables, depth, fieldPath}
+use Rattle.paths.specs.Paths.{pathOf, pathFor}
+use Rattle.paths.specs.declared.Address.{Address}
 use Rattle.paths.specs.declared.FieldPath.{FieldPath}
 use Rattle.views.specs.Views.{predicateOption}
 use Rattle.slots.specs.declared.SlotKind.{SlotKind}
@@ -31,6 +33,52 @@ maybe false a = none
 
 abbrev pub slotOption : MaybeSlot → Option File.Slot
 slotOption s = maybe (s .some) (slotOf (s .slot))
+
+-- the path of a slot that is no Field: it has no meaning
+abbrev pub noPath : FieldPath
+noPath = pathFor (fieldPath 0)
+
+abbrev pub plainSlot : SlotKind → Slot
+plainSlot kind = record { kind = kind; path = noPath }
+
+abbrev pub fieldSlot : Address → FieldPath → ℕ → Slot
+fieldSlot a path t = record { kind = Field a t; path = path }
+
+abbrev pub justSlot : Slot → MaybeSlot
+justSlot slot = record { some = true; slot = slot }
+
+abbrev pub noSlot : MaybeSlot
+noSlot = record { some = false; slot = plainSlot (Const 0) }
+
+-- a slot with what it means and no more
+abbrev pub tidyWith : SlotKind → FieldPath → Slot
+tidyWith (Row a p) path = plainSlot (Row a p)
+tidyWith (Key a t) path = plainSlot (Key a t)
+tidyWith (Derived a) path = plainSlot (Derived a)
+tidyWith (Field a t) path = fieldSlot a path t
+tidyWith (Value a t) path = plainSlot (Value a t)
+tidyWith (Const n) path = plainSlot (Const n)
+
+abbrev pub tidySlot : Slot → Slot
+tidySlot s = tidyWith (s .kind) (s .path)
+
+abbrev pub tidyMaybe : Bool → Slot → MaybeSlot
+tidyMaybe true slot = justSlot (tidySlot slot)
+tidyMaybe false slot = noSlot
+
+-- the same of a slot that may be none
+abbrev pub tidied : MaybeSlot → MaybeSlot
+tidied r = tidyMaybe (r .some) (r .slot)
+
+-- s is the slot x, and nothing in it is left free: the path of a slot that is no Field is `noPath`
+pub record Stands (x : File.Slot) (s : Slot) : Type 0 where
+  pub is : slotOf s ≡ x
+  pub tidy : s ≡ tidySlot s
+
+-- r is the slot x, if there is one, and nothing in it is left free: where there is none, it is `noSlot`
+pub record IsSlot (x : Option File.Slot) (r : MaybeSlot) : Type 0 where
+  pub is : slotOption r ≡ x
+  pub tidy : r ≡ tidied r
 
 -- a Field's path has room for every step below its type
 pub record Room (T : Tables) (p : File.FieldPath) (t : ℕ) : Type 0 where

@@ -24,8 +24,8 @@ use Rattle.views.specs.Views.{run, alternativeAt, patternAt, alternativeOf, pat
 use Rattle.ready.specs.Ready.{flag}
 use Rattle.ready.proofs.Ranges.{numbers-in}
 use Rattle.tables.specs.Tables.{SeenSlot, constBound}
-use Rattle.tables.specs.declared.MaybeSlot.{MaybeSlot}
-use Rattle.tables.specs.declared.MaybeSlot.the-variants as Ms
+use Rattle.tables.specs.declared.MaybeSlotView.{MaybeSlotView}
+use Rattle.tables.specs.declared.MaybeSlotView.the-variants as Ms
 use Rattle.tables.proofs.Tags.{no-const}
 use Rattle.views.specs.declared.FieldPattern.{FieldPattern}
 use Rattle.views.specs.declared.Alternative.{Alternative}
@@ -174,7 +174,7 @@ pub last-slot : (f : List ℕ) (o : Option Slot) (b : Binding) (v : BindingView)
 last-slot f o b v s e = record { is = ap (λ (b : Binding). some (b .slot)) (s .is) ∙ e; inside = s .inside }
 
 -- the Const of the slot that was found
-module _ (f : List ℕ) (o : Option Slot) (r : MaybeSlot) (s : SeenSlot f o r) where
+module _ (f : List ℕ) (o : Option Slot) (r : MaybeSlotView) (s : SeenSlot f o r) where
   pub const-none : r ≡ Ms.Nothing → none ≡ (o >>= constNode)
   unfolding _>>=_
   const-none e = ap (λ (q : Option Slot). q >>= constNode) (subst (SeenSlot f o) e s .is)

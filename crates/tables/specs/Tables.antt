@@ -14,8 +14,8 @@ use Rattle.tables.specs.declared.Run.{Run}
 use Rattle.tables.specs.declared.Run.the-variants as Ru
 use Rattle.tables.specs.declared.MaybeAlternative.{MaybeAlternative}
 use Rattle.tables.specs.declared.MaybeAlternative.the-variants as Ma
-use Rattle.tables.specs.declared.MaybeSlot.{MaybeSlot}
-use Rattle.tables.specs.declared.MaybeSlot.the-variants as Ms
+use Rattle.tables.specs.declared.MaybeSlotView.{MaybeSlotView}
+use Rattle.tables.specs.declared.MaybeSlotView.the-variants as Ms
 
 abbrev pub foundOption : Found → Option ℕ
 foundOption Fo.Nothing = none
@@ -29,7 +29,7 @@ abbrev pub alternativeOption : MaybeAlternative → Option File.Alternative
 alternativeOption Ma.Nothing = none
 alternativeOption (Ma.Just a) = some (alternativeOf a)
 
-abbrev pub slotOption : List ℕ → MaybeSlot → Option File.Slot
+abbrev pub slotOption : List ℕ → MaybeSlotView → Option File.Slot
 slotOption f Ms.Nothing = none
 slotOption f (Ms.Just s) = some (slotOf f s)
 
@@ -38,7 +38,7 @@ abbrev pub RunInside : List ℕ → ℕ → Run → Type 0
 RunInside f w Ru.Nothing = Unit {0}
 RunInside f w (Ru.Of n p) = p + w * n ≤ length f
 
-abbrev pub MaybeInside : List ℕ → MaybeSlot → Type 0
+abbrev pub MaybeInside : List ℕ → MaybeSlotView → Type 0
 MaybeInside f Ms.Nothing = Unit {0}
 MaybeInside f (Ms.Just s) = SlotInside f s
 
@@ -47,7 +47,7 @@ pub record SeenRun {A : Type 0} (f : List ℕ) (at : ℕ → A) (w : ℕ) (o : O
   pub is : runOption at w r ≡ o
   pub inside : RunInside f w r
 
-pub record SeenSlot (f : List ℕ) (o : Option File.Slot) (r : MaybeSlot) : Type 0 where
+pub record SeenSlot (f : List ℕ) (o : Option File.Slot) (r : MaybeSlotView) : Type 0 where
   pub is : slotOption f r ≡ o
   pub inside : MaybeInside f r
 

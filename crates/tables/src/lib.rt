@@ -41,7 +41,8 @@ pub enum MaybeAlternative {
     Just(Alternative),
 }
 
-pub enum MaybeSlot {
+// A slot as a view of the bytes that it stands in.
+pub enum MaybeSlotView {
     Nothing,
     Just(SlotView),
 }
@@ -136,20 +137,20 @@ pub fn alternative_of(file: &[u8], at: usize, n: usize, name: usize) -> MaybeAlt
 }
 
 // The slot of a name's last entry among the file's own bindings: its number stands in the index.
-pub fn lookup(file: &[u8], index: &[u16], name: usize) -> MaybeSlot
+pub fn lookup(file: &[u8], index: &[u16], name: usize) -> MaybeSlotView
     requires { ⌜ Ready (now file) (now index) ⌝ }
     ensures { λ r. ⌜ SeenSlot (now (file .entry)) (Constant.lookup (tablesOf (now (file .entry)) .bindings) name) r ⌝ }
 {
     if name >= count_of(file, index, NAMES) {
-        return MaybeSlot::Nothing;
+        return MaybeSlotView::Nothing;
     }
     let k = wide16(index[LAST_BINDINGS + name]);
     if k == 0 {
-        return MaybeSlot::Nothing;
+        return MaybeSlotView::Nothing;
     }
     let b = binding_at(file, index, k - 1);
     let s = b.slot;
-    MaybeSlot::Just(s)
+    MaybeSlotView::Just(s)
 }
 
 // The Const that a name is bound to.
@@ -157,7 +158,7 @@ fn const_of(file: &[u8], index: &[u16], name: usize) -> Found
     requires { ⌜ Ready (now file) (now index) ⌝ }
     ensures { λ r. ⌜ foundOption r ≡ constBound (tablesOf (now (file .entry)) .bindings) name ⌝ }
 {
-    let MaybeSlot::Just(s) = lookup(file, index, name) else {
+    let MaybeSlotView::Just(s) = lookup(file, index, name) else {
         return Found::Nothing;
     };
     if let SlotView::Const(m) = s {

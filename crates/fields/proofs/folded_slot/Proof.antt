@@ -1,6 +1,7 @@
 use mathlib.Core.Path.{sym, ap, _∙_}
 use Rattle.tables.specs.Tables.{foundOption}
-use Rattle.fields.proofs.Slots.{plain-is, folded-slot-is, no-folded-slot}
+use Rattle.fields.proofs.Slots.{folded-slot-is, no-folded-slot}
+use Rattle.slots.proofs.Tidy.{plain-is}
 use borrow.Author.Needs.{needs}
 use Rattle.fields.proofs.folded_slot.Statement.{statement}
 use Rattle.fields.proofs.folded_slot.Tie as tie

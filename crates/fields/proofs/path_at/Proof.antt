@@ -1,14 +1,15 @@
 use native.Mathlib.Omega.{arith}
-use mathlib.Core.Path.{_≡_, refl}
-use Prim.Native.Nat.{_≤_, _-_, _+_}
+use mathlib.Core.Path.{_≡_, refl, sym, _∙_}
+use lib.Seq.{sets}
+use Prim.Native.Nat.{_≤_, _-_, _+_, _*_}
 use lib.ListN.{length, take, length-set}
 use Rattle.views.specs.Views.{run, long, PathInside}
-use Rattle.fields.proofs.PathsAt.{copied, holds}
+use Rattle.fields.proofs.PathsAt.{none-copied, copied, holds, all-left, left, none-left, whole}
 use Rattle.fields.proofs.path_at.Statement.{statement}
 use Rattle.fields.proofs.path_at.Tie as tie
 
 abbrev Inv-loop : tie.InvT-loop
-Inv-loop file at field count steps₀ i₀ steps i = (take i steps ≡ run (long file) 4 i (at + 3)) × (i ≤ count) × (length steps ≡ 15)
+Inv-loop file at field count steps₀ i₀ steps i = (take i steps ≡ run (long file) 4 i (at + 3)) × (i ≤ count) × (length steps ≡ 15) × (sets steps₀ 0 (run (long file) 4 count (at + 3)) ≡ sets steps i (run (long file) 4 (count - i) (at + 3 + 4 * i)))
 
 abbrev μ-loop : tie.MeasureT-loop
 μ-loop file at field count steps₀ i₀ steps i = count - i
@@ -32,8 +33,7 @@ wide-requires : tie.Need-wide-requires Inv-loop μ-loop
 wide-requires c κs = tt
 
 loop-holds : tie.Need-loop-holds Inv-loop μ-loop
-unfolding run
-loop-holds c = (refl, omega arith, refl)
+loop-holds c = (none-copied _ _, omega arith, refl, all-left _ _ _ _)
 
 add-long-at : tie.Need-add-long-at Inv-loop μ-loop
 unfolding PathInside
@@ -65,13 +65,13 @@ loop-less c = omega arith
 loop-again : tie.Need-loop-again Inv-loop μ-loop
 loop-again c =
     let l = c .before .before in
-    (copied _ _ _ _ _ (omega (arith, l .before .wide .ensures)) (c .long-at .ensures) (l .loop .inv .0), omega arith, simp length-set (l .loop .inv .2))
+    (copied _ _ _ _ _ (omega (arith, l .before .wide .ensures)) (c .long-at .ensures) (l .loop .inv .0), omega arith, simp length-set (l .loop .inv .2), l .loop .inv .3 ∙ left _ _ _ _ _ _ (omega arith) (c .long-at .ensures))
 
 returns : tie.Need-returns Inv-loop μ-loop
 returns c =
     let l = c .before in
     let e : l .loop .i ≡ l .before .wide .result = omega arith in
-    holds _ _ _ (l .before .before .before .word-at .ensures .0) (l .before .wide .ensures .0) (rw e at (l .loop .inv .0))
+    (holds _ _ _ (l .before .before .before .word-at .ensures .0) (l .before .wide .ensures .0) (rw e at (l .loop .inv .0)), whole _ _ _ (l .before .before .before .word-at .ensures .0) (l .before .wide .ensures .0) (sym (l .loop .inv .3 ∙ none-left _ _ _ _ _ (omega arith))))
 
 pub path-at-spec : {M : Type 1} → statement M
 path-at-spec =

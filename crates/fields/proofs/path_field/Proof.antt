@@ -2,7 +2,7 @@ use mathlib.Core.Path.{sym, ap, _∙_}
 use Rattle.rules.specs.File.{then}
 use Rattle.rules.proofs.Sound.{sound, passed-all}
 use Rattle.fields.specs.Found.{placeOf}
-use Rattle.fields.proofs.Slots.{no-field, field-is, field-room}
+use Rattle.fields.proofs.Slots.{no-field, field-at, field-room}
 use borrow.Author.Needs.{needs}
 use Rattle.fields.proofs.path_field.Statement.{statement}
 use Rattle.fields.proofs.path_field.Tie as tie
@@ -41,7 +41,7 @@ returns c = no-field _ _ (c .nothing .ensures) (sym (c .before .before .before .
 
 returns-2 : tie.Need-returns-2
 returns-2 c =
-    field-is _ _ _ _ (c .just .ensures) (c .before .field .ensures) (c .before .before .then .ensures .is ∙ ap (λ p. then p (c .before .before .before .before .before .i .given .0 .0)) (c .before .before .before .within .ensures .0))
+    field-at _ _ _ _ (c .just .ensures) (c .before .field .ensures) (c .before .before .then .ensures .0 .is ∙ ap (λ p. then p (c .before .before .before .before .before .i .given .0 .0)) (c .before .before .before .within .ensures .0))
     (sym (c .before .before .before .before .before .before .before .field-of .ensures) ∙ ap placeOf (c .before .before .before .before .before .i .given .1))
 
 pub path-field-spec : {M : Type 1} → statement M

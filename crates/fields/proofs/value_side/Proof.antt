@@ -1,6 +1,7 @@
 use mathlib.Core.Path.{ap}
 use Rattle.views.specs.Views.{typeOption}
-use Rattle.fields.proofs.Slots.{plain-is, no-value, value-is}
+use Rattle.fields.proofs.Slots.{no-value, value-is}
+use Rattle.slots.proofs.Tidy.{plain-is}
 use borrow.Author.Needs.{needs}
 use Rattle.fields.proofs.value_side.Statement.{statement}
 use Rattle.fields.proofs.value_side.Tie as tie

@@ -1,5 +1,6 @@
 use mathlib.Core.Path.{sym, _∙_}
 use lib.Seq.{length-take-le}
+use Rattle.slots.proofs.Tidy.{slot-as}
 use Rattle.lists.proofs.Finds.{view-inside, of-made, of-file}
 use borrow.Author.Needs.{needs}
 use Rattle.lists.proofs.lookup.Statement.{statement}
@@ -33,10 +34,10 @@ own-slot-requires : tie.Need-own-slot-requires
 own-slot-requires c κs = search needs
 
 returns : tie.Need-returns
-returns c = λ lv tg p. c .fitted .ensures ∙ of-made _ _ lv tg _ p _ (c .before .before .before .before .before .before .made-end .result) (c .before .before .before .before .before .before .made-end .ensures .0) _ (c .before .before .before .before .made-slot .ensures) _ (c .before .before .v .given .1)
+returns c = λ lv tg p. slot-as (c .fitted .ensures) (of-made _ _ lv tg _ p _ (c .before .before .before .before .before .before .made-end .result) (c .before .before .before .before .before .before .made-end .ensures .0) _ (c .before .before .before .before .made-slot .ensures) _ (c .before .before .v .given .1))
 
 returns-2 : tie.Need-returns-2
-returns-2 c = λ lv tg p. c .own-slot .ensures ∙ of-file _ _ lv tg _ p _ (c .before .before .before .before .before .made-end .result) (c .before .before .before .before .before .made-end .ensures .0) _ (c .before .before .before .made-slot .ensures) (c .before .enum-told .given .1)
+returns-2 c = λ lv tg p. slot-as (c .own-slot .ensures) (of-file _ _ lv tg _ p _ (c .before .before .before .before .before .made-end .result) (c .before .before .before .before .before .made-end .ensures .0) _ (c .before .before .before .made-slot .ensures) (c .before .enum-told .given .1))
 
 pub lookup-spec : {M : Type 1} → statement M
 lookup-spec =

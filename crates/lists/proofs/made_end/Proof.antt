@@ -14,7 +14,7 @@ returns : tie.Need-returns
 returns c = search needs
 
 returns-2 : tie.Need-returns-2
-returns-2 c = (whole _ _ _ (c .before .wide32 .ensures .0) (c .if1 .left), omega arith)
+returns-2 c = (whole _ _ _ (c .before .wide32 .ensures .0) (c .if1 .left), omega arith, omega (arith, c .before .wide32 .ensures .0, c .if1 .left))
 
 pub made-end-spec : {M : Type 1} → statement M
 made-end-spec = tie.close (tie.spec wide32-requires returns returns-2)

@@ -15,7 +15,7 @@ abbrev μ-loop : tie.MeasureT-loop
 μ-loop file index work₀ trail passed below₀ k₀ work below k = k
 
 loop-holds : tie.Need-loop-holds Inv-loop μ-loop
-loop-holds c = (up-first _ _ _ _ _ (c .before .before .before .before .pre .1 .0), refl)
+loop-holds c = (up-first _ _ _ _ _ (c .before .before .before .before .pre .1 .0) (c .before .before .before .before .pre .1 .1 .0), refl)
 
 sub-k : tie.Need-sub-k Inv-loop μ-loop
 sub-k c = search needs
@@ -39,7 +39,7 @@ loop-again : tie.Need-loop-again Inv-loop μ-loop
 loop-again c =
     let l = c .before .before .before .before .before .before .before .loop in
     let a = c .before .before .before .before .before .before .before .before .before .before .before .before in
-    (up-more _ (l .inv .0) (sound _ (passed-all _ (a .pre .0 .accepted))) (omega (arith, c .before .before .before .before .before .before .loop-test .taken)) (omega (arith, l .inv .0 .within, a .pre .1 .1, c .before .before .before .before .before .before .loop-test .taken)) (c .before .before .before .wide16 .ensures) (c .before .before .read-up .ensures), c .before .before .read-up .kept .1 .1 .0 ∙ l .inv .1)
+    (up-more _ (l .inv .0) (sound _ (passed-all _ (a .pre .0 .accepted))) (omega (arith, c .before .before .before .before .before .before .loop-test .taken)) (omega (arith, l .inv .0 .within, a .pre .1 .1 .1, c .before .before .before .before .before .before .loop-test .taken)) (c .before .before .before .wide16 .ensures) (c .before .before .read-up .ensures), c .before .before .read-up .kept .1 .1 .0 ∙ l .inv .1)
 
 same-length : tie.Need-same-length Inv-loop μ-loop
 same-length c = c .before .loop .inv .1

@@ -16,7 +16,7 @@ same-length : tie.Need-same-length
 same-length c = search needs
 
 returns : tie.Need-returns
-returns c = λ T. declined-is T _ _ (c .before .before .before .before .report .ensures) (c .before .nothing .ensures) (c .gives .ensures _)
+returns c = λ T. declined-is T _ _ (c .before .before .before .before .report .ensures) (c .before .nothing .ensures) (c .gives .ensures)
 
 pub declined-spec : {M : Type 1} → statement M
 declined-spec =

@@ -1,6 +1,5 @@
-use mathlib.Core.Path.{ap, _∙_}
-use mathlib.Core.Option.{some}
 use Rattle.rules.specs.Resolve as Rules
+use Rattle.slots.proofs.Tidy.{plain-is}
 use Rattle.resolve.proofs.Answers.{gives-is, kind-is, dereference-at}
 use borrow.Author.Needs.{needs}
 use Rattle.resolve.proofs.dereference.Statement.{statement}
@@ -8,6 +7,9 @@ use Rattle.resolve.proofs.dereference.Tie as tie
 
 enum-known-kind : tie.Need-enum-known-kind
 enum-known-kind c = search needs
+
+plain-requires : tie.Need-plain-requires
+plain-requires c κs = search needs
 
 just-requires : tie.Need-just-requires
 just-requires c κs = search needs
@@ -18,6 +20,9 @@ gives-requires c κs = search needs
 enum-known-kind-2 : tie.Need-enum-known-kind-2
 enum-known-kind-2 c = search needs
 
+plain-requires-2 : tie.Need-plain-requires-2
+plain-requires-2 c κs = search needs
+
 just-requires-2 : tie.Need-just-requires-2
 just-requires-2 c κs = search needs
 
@@ -26,6 +31,9 @@ gives-requires-2 c κs = search needs
 
 enum-known-kind-3 : tie.Need-enum-known-kind-3
 enum-known-kind-3 c = search needs
+
+plain-requires-3 : tie.Need-plain-requires-3
+plain-requires-3 c κs = search needs
 
 just-requires-3 : tie.Need-just-requires-3
 just-requires-3 c κs = search needs
@@ -48,6 +56,9 @@ dereference-value-requires c κs = search needs
 enum-known-kind-6 : tie.Need-enum-known-kind-6
 enum-known-kind-6 c = search needs
 
+plain-requires-4 : tie.Need-plain-requires-4
+plain-requires-4 c κs = search needs
+
 just-requires-4 : tie.Need-just-requires-4
 just-requires-4 c κs = search needs
 
@@ -56,15 +67,15 @@ gives-requires-4 c κs = search needs
 
 returns : tie.Need-returns
 unfolding Rules.dereference
-returns c = let e = kind-is _ _ (c .before .before .before .kind .given .1) in dereference-at _ _ e (gives-is (c .gives .ensures _) (c .before .just .ensures ∙ ap some e))
+returns c = dereference-at _ _ (kind-is _ _ (c .before .before .before .before .kind .given .1)) (gives-is (c .gives .ensures) (plain-is _ _ (c .before .just .ensures) (c .before .before .plain .ensures)))
 
 returns-2 : tie.Need-returns-2
 unfolding Rules.dereference
-returns-2 c = let e = kind-is _ _ (c .before .before .before .kind2 .given .1) in dereference-at _ _ e (gives-is (c .gives2 .ensures _) (c .before .just2 .ensures ∙ ap some e))
+returns-2 c = dereference-at _ _ (kind-is _ _ (c .before .before .before .before .kind2 .given .1)) (gives-is (c .gives2 .ensures) (plain-is _ _ (c .before .just2 .ensures) (c .before .before .plain2 .ensures)))
 
 returns-3 : tie.Need-returns-3
 unfolding Rules.dereference
-returns-3 c = let e = kind-is _ _ (c .before .before .before .kind3 .given .1) in dereference-at _ _ e (gives-is (c .gives3 .ensures _) (c .before .just3 .ensures ∙ ap some e))
+returns-3 c = dereference-at _ _ (kind-is _ _ (c .before .before .before .before .kind3 .given .1)) (gives-is (c .gives3 .ensures) (plain-is _ _ (c .before .just3 .ensures) (c .before .before .plain3 .ensures)))
 
 same-length : tie.Need-same-length
 same-length c = search needs
@@ -80,19 +91,22 @@ returns-5 c = dereference-at _ _ (kind-is _ _ (c .before .before .before .before
 
 returns-6 : tie.Need-returns-6
 unfolding Rules.dereference
-returns-6 c = let e = kind-is _ _ (c .before .before .before .kind6 .given .1) in dereference-at _ _ e (gives-is (c .gives4 .ensures _) (c .before .just4 .ensures ∙ ap some e))
+returns-6 c = dereference-at _ _ (kind-is _ _ (c .before .before .before .before .kind6 .given .1)) (gives-is (c .gives4 .ensures) (plain-is _ _ (c .before .just4 .ensures) (c .before .before .plain4 .ensures)))
 
 pub dereference-spec : {M : Type 1} → statement M
 dereference-spec =
     tie.close
     (tie.spec
     enum-known-kind
+    plain-requires
     just-requires
     gives-requires
     enum-known-kind-2
+    plain-requires-2
     just-requires-2
     gives-requires-2
     enum-known-kind-3
+    plain-requires-3
     just-requires-3
     gives-requires-3
     enum-known-kind-4
@@ -100,6 +114,7 @@ dereference-spec =
     enum-known-kind-5
     dereference-value-requires
     enum-known-kind-6
+    plain-requires-4
     just-requires-4
     gives-requires-4
     returns

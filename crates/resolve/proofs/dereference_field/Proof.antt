@@ -1,7 +1,7 @@
 use mathlib.Core.Path.{sym, ap, _∙_}
-use mathlib.Core.Option.{some}
 use Rattle.rules.specs.Lookup.{fetchedRegister}
 use Rattle.views.specs.Views.{predicateOption}
+use Rattle.slots.proofs.Tidy.{field-is}
 use Rattle.resolve.proofs.Answers.{gives-is, plain-field, fact-field, fetched-at}
 use borrow.Author.Needs.{needs}
 use Rattle.resolve.proofs.dereference_field.Statement.{statement}
@@ -35,7 +35,7 @@ fetched-row-requires : tie.Need-fetched-row-requires
 fetched-row-requires c κs = search needs
 
 returns : tie.Need-returns
-returns c = plain-field _ _ _ _ _ (sym (c .before .before .before .before .before .fact-ty .ensures) ∙ ap predicateOption (c .before .before .before .enum-told .given .1)) (gives-is (c .gives .ensures _) (c .before .just .ensures ∙ ap some (c .before .before .field .ensures)))
+returns c = plain-field _ _ _ _ _ (sym (c .before .before .before .before .before .fact-ty .ensures) ∙ ap predicateOption (c .before .before .before .enum-told .given .1)) (gives-is (c .gives .ensures) (field-is _ _ _ _ (c .before .just .ensures) (c .before .before .field .ensures)))
 
 same-length : tie.Need-same-length
 same-length c = search needs

@@ -1,6 +1,6 @@
 use mathlib.Core.Path.{sym, ap, _∙_}
 use Rattle.views.specs.Views.{predicateOption}
-use Rattle.fields.proofs.Slots.{plain-is}
+use Rattle.slots.proofs.Tidy.{plain-is}
 use Rattle.resolve.proofs.Answers.{gives-is, plain-value, fact-value}
 use borrow.Author.Needs.{needs}
 use Rattle.resolve.proofs.dereference_value.Statement.{statement}
@@ -28,7 +28,7 @@ declined-requires : tie.Need-declined-requires
 declined-requires c κs = search needs
 
 returns : tie.Need-returns
-returns c = plain-value _ _ _ _ (sym (c .before .before .before .before .before .fact-ty .ensures) ∙ ap predicateOption (c .before .before .before .enum-told .given .1)) (gives-is (c .gives .ensures _) (plain-is _ _ (c .before .just .ensures) (c .before .before .plain .ensures)))
+returns c = plain-value _ _ _ _ (sym (c .before .before .before .before .before .fact-ty .ensures) ∙ ap predicateOption (c .before .before .before .enum-told .given .1)) (gives-is (c .gives .ensures) (plain-is _ _ (c .before .just .ensures) (c .before .before .plain .ensures)))
 
 same-length : tie.Need-same-length
 same-length c = search needs

@@ -1,7 +1,7 @@
 use mathlib.Core.Path.{ap}
 use Rattle.rules.specs.Resolve.{fetchedRow}
 use Rattle.fields.specs.Found.{addressOption}
-use Rattle.fields.proofs.Slots.{plain-is}
+use Rattle.slots.proofs.Tidy.{plain-is}
 use Rattle.resolve.proofs.Answers.{gives-is, fetched-at}
 use borrow.Author.Needs.{needs}
 use Rattle.resolve.proofs.fetched_row.Statement.{statement}
@@ -34,7 +34,7 @@ returns c = λ T. fetched-at T _ _ (ap addressOption (c .before .before .before 
 
 returns-2 : tie.Need-returns-2
 unfolding fetchedRow
-returns-2 c = λ T. fetched-at T _ _ (ap addressOption (c .before .before .before .before .register .given .1)) (gives-is (c .gives .ensures _) (plain-is _ _ (c .before .just .ensures) (c .before .before .plain .ensures)))
+returns-2 c = λ T. fetched-at T _ _ (ap addressOption (c .before .before .before .before .register .given .1)) (gives-is (c .gives .ensures) (plain-is _ _ (c .before .just .ensures) (c .before .before .plain .ensures)))
 
 pub fetched-row-spec : {M : Type 1} → statement M
 fetched-row-spec =

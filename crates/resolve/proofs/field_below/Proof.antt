@@ -27,7 +27,7 @@ field-of-row-requires : tie.Need-field-of-row-requires
 field-of-row-requires c κs = search needs
 
 returns : tie.Need-returns
-returns c = plain-below _ _ _ _ _ _ (sym (c .before .before .before .before .fact-ty .ensures) ∙ ap predicateOption (c .before .before .enum-told .given .1)) (gives-is (c .gives .ensures _) (c .before .path-field .ensures))
+returns c = plain-below _ _ _ _ _ _ (sym (c .before .before .before .before .fact-ty .ensures) ∙ ap predicateOption (c .before .before .enum-told .given .1)) (gives-is (c .gives .ensures) (c .before .path-field .ensures))
 
 same-length : tie.Need-same-length
 same-length c = search needs

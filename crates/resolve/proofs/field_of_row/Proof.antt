@@ -1,12 +1,19 @@
 use borrow.Author.Tests.{not-true, not-false}
 use Rattle.rules.specs.Resolve.{fieldOfRow}
+use Rattle.slots.proofs.Tidy.{no-slot}
 use Rattle.resolve.proofs.Answers.{gives-is, kind-is, row-at, follows-none, follows-some}
 use borrow.Author.Needs.{needs}
 use Rattle.resolve.proofs.field_of_row.Statement.{statement}
 use Rattle.resolve.proofs.field_of_row.Tie as tie
 
+nothing-requires : tie.Need-nothing-requires
+nothing-requires c κs = search needs
+
+gives-requires : tie.Need-gives-requires
+gives-requires c κs = search needs
+
 returns : tie.Need-returns
-returns c = λ w. follows-none (not-true _ (c .if1 .taken))
+returns c = λ w. follows-none (not-true _ (c .before .before .if1 .taken)) (c .before .nothing .ensures) (c .gives .ensures)
 
 enum-known-kind : tie.Need-enum-known-kind
 enum-known-kind c = search needs
@@ -14,20 +21,11 @@ enum-known-kind c = search needs
 row-field-requires : tie.Need-row-field-requires
 row-field-requires c κs = search needs
 
-gives-requires : tie.Need-gives-requires
-gives-requires c κs = search needs
-
-enum-known-kind-2 : tie.Need-enum-known-kind-2
-enum-known-kind-2 c = search needs
-
-nothing-requires : tie.Need-nothing-requires
-nothing-requires c κs = search needs
-
 gives-requires-2 : tie.Need-gives-requires-2
 gives-requires-2 c κs = search needs
 
-enum-known-kind-3 : tie.Need-enum-known-kind-3
-enum-known-kind-3 c = search needs
+enum-known-kind-2 : tie.Need-enum-known-kind-2
+enum-known-kind-2 c = search needs
 
 nothing-requires-2 : tie.Need-nothing-requires-2
 nothing-requires-2 c κs = search needs
@@ -35,8 +33,8 @@ nothing-requires-2 c κs = search needs
 gives-requires-3 : tie.Need-gives-requires-3
 gives-requires-3 c κs = search needs
 
-enum-known-kind-4 : tie.Need-enum-known-kind-4
-enum-known-kind-4 c = search needs
+enum-known-kind-3 : tie.Need-enum-known-kind-3
+enum-known-kind-3 c = search needs
 
 nothing-requires-3 : tie.Need-nothing-requires-3
 nothing-requires-3 c κs = search needs
@@ -44,8 +42,8 @@ nothing-requires-3 c κs = search needs
 gives-requires-4 : tie.Need-gives-requires-4
 gives-requires-4 c κs = search needs
 
-enum-known-kind-5 : tie.Need-enum-known-kind-5
-enum-known-kind-5 c = search needs
+enum-known-kind-4 : tie.Need-enum-known-kind-4
+enum-known-kind-4 c = search needs
 
 nothing-requires-4 : tie.Need-nothing-requires-4
 nothing-requires-4 c κs = search needs
@@ -53,8 +51,8 @@ nothing-requires-4 c κs = search needs
 gives-requires-5 : tie.Need-gives-requires-5
 gives-requires-5 c κs = search needs
 
-enum-known-kind-6 : tie.Need-enum-known-kind-6
-enum-known-kind-6 c = search needs
+enum-known-kind-5 : tie.Need-enum-known-kind-5
+enum-known-kind-5 c = search needs
 
 nothing-requires-5 : tie.Need-nothing-requires-5
 nothing-requires-5 c κs = search needs
@@ -62,53 +60,64 @@ nothing-requires-5 c κs = search needs
 gives-requires-6 : tie.Need-gives-requires-6
 gives-requires-6 c κs = search needs
 
+enum-known-kind-6 : tie.Need-enum-known-kind-6
+enum-known-kind-6 c = search needs
+
+nothing-requires-6 : tie.Need-nothing-requires-6
+nothing-requires-6 c κs = search needs
+
+gives-requires-7 : tie.Need-gives-requires-7
+gives-requires-7 c κs = search needs
+
 returns-2 : tie.Need-returns-2
 unfolding fieldOfRow
-returns-2 c = λ w. follows-some (not-false _ (c .before .before .before .before .before .before .if1 .left)) (row-at _ _ (kind-is _ _ (c .before .before .before .kind .given .1)) (gives-is (c .gives .ensures w) (c .before .row-field .ensures)))
+returns-2 c = λ w. follows-some (not-false _ (c .before .before .before .before .before .before .if1 .left)) (row-at _ _ (kind-is _ _ (c .before .before .before .kind .given .1)) (gives-is (c .gives2 .ensures) (c .before .row-field .ensures)))
 
 returns-3 : tie.Need-returns-3
 unfolding fieldOfRow
-returns-3 c = λ w. follows-some (not-false _ (c .before .before .before .before .before .before .if1 .left)) (row-at _ _ (kind-is _ _ (c .before .before .before .kind2 .given .1)) (gives-is (c .gives2 .ensures w) (c .before .nothing .ensures)))
+returns-3 c = λ w. follows-some (not-false _ (c .before .before .before .before .before .before .if1 .left)) (row-at _ _ (kind-is _ _ (c .before .before .before .kind2 .given .1)) (gives-is (c .gives3 .ensures) (no-slot (c .before .nothing2 .ensures))))
 
 returns-4 : tie.Need-returns-4
 unfolding fieldOfRow
-returns-4 c = λ w. follows-some (not-false _ (c .before .before .before .before .before .before .if1 .left)) (row-at _ _ (kind-is _ _ (c .before .before .before .kind3 .given .1)) (gives-is (c .gives3 .ensures w) (c .before .nothing2 .ensures)))
+returns-4 c = λ w. follows-some (not-false _ (c .before .before .before .before .before .before .if1 .left)) (row-at _ _ (kind-is _ _ (c .before .before .before .kind3 .given .1)) (gives-is (c .gives4 .ensures) (no-slot (c .before .nothing3 .ensures))))
 
 returns-5 : tie.Need-returns-5
 unfolding fieldOfRow
-returns-5 c = λ w. follows-some (not-false _ (c .before .before .before .before .before .before .if1 .left)) (row-at _ _ (kind-is _ _ (c .before .before .before .kind4 .given .1)) (gives-is (c .gives4 .ensures w) (c .before .nothing3 .ensures)))
+returns-5 c = λ w. follows-some (not-false _ (c .before .before .before .before .before .before .if1 .left)) (row-at _ _ (kind-is _ _ (c .before .before .before .kind4 .given .1)) (gives-is (c .gives5 .ensures) (no-slot (c .before .nothing4 .ensures))))
 
 returns-6 : tie.Need-returns-6
 unfolding fieldOfRow
-returns-6 c = λ w. follows-some (not-false _ (c .before .before .before .before .before .before .if1 .left)) (row-at _ _ (kind-is _ _ (c .before .before .before .kind5 .given .1)) (gives-is (c .gives5 .ensures w) (c .before .nothing4 .ensures)))
+returns-6 c = λ w. follows-some (not-false _ (c .before .before .before .before .before .before .if1 .left)) (row-at _ _ (kind-is _ _ (c .before .before .before .kind5 .given .1)) (gives-is (c .gives6 .ensures) (no-slot (c .before .nothing5 .ensures))))
 
 returns-7 : tie.Need-returns-7
 unfolding fieldOfRow
-returns-7 c = λ w. follows-some (not-false _ (c .before .before .before .before .before .before .if1 .left)) (row-at _ _ (kind-is _ _ (c .before .before .before .kind6 .given .1)) (gives-is (c .gives6 .ensures w) (c .before .nothing5 .ensures)))
+returns-7 c = λ w. follows-some (not-false _ (c .before .before .before .before .before .before .if1 .left)) (row-at _ _ (kind-is _ _ (c .before .before .before .kind6 .given .1)) (gives-is (c .gives7 .ensures) (no-slot (c .before .nothing6 .ensures))))
 
 pub field-of-row-spec : {M : Type 1} → statement M
 field-of-row-spec =
     tie.close
     (tie.spec
+    nothing-requires
+    gives-requires
     returns
     enum-known-kind
     row-field-requires
-    gives-requires
-    enum-known-kind-2
-    nothing-requires
     gives-requires-2
-    enum-known-kind-3
+    enum-known-kind-2
     nothing-requires-2
     gives-requires-3
-    enum-known-kind-4
+    enum-known-kind-3
     nothing-requires-3
     gives-requires-4
-    enum-known-kind-5
+    enum-known-kind-4
     nothing-requires-4
     gives-requires-5
-    enum-known-kind-6
+    enum-known-kind-5
     nothing-requires-5
     gives-requires-6
+    enum-known-kind-6
+    nothing-requires-6
+    gives-requires-7
     returns-2
     returns-3
     returns-4

@@ -1,6 +1,7 @@
 use mathlib.Core.Path.{subst}
 use Rattle.rules.specs.Resolve.{fieldSlot}
 use Rattle.slots.specs.Slots.{Roomy}
+use Rattle.slots.proofs.Tidy.{no-slot}
 use Rattle.resolve.proofs.Answers.{gives-is, kind-is, field-at}
 use borrow.Author.Needs.{needs}
 use Rattle.resolve.proofs.field_slot.Statement.{statement}
@@ -56,15 +57,15 @@ gives-requires-4 c κs = search needs
 
 returns : tie.Need-returns
 unfolding fieldSlot
-returns c = field-at _ _ _ (kind-is _ _ (c .before .before .before .kind .given .1)) (gives-is (c .gives .ensures _) (c .before .row-field .ensures))
+returns c = field-at _ _ _ (kind-is _ _ (c .before .before .before .kind .given .1)) (gives-is (c .gives .ensures) (c .before .row-field .ensures))
 
 returns-2 : tie.Need-returns-2
 unfolding fieldSlot
-returns-2 c = field-at _ _ _ (kind-is _ _ (c .before .before .before .kind2 .given .1)) (gives-is (c .gives2 .ensures _) (c .before .key-field .ensures))
+returns-2 c = field-at _ _ _ (kind-is _ _ (c .before .before .before .kind2 .given .1)) (gives-is (c .gives2 .ensures) (c .before .key-field .ensures))
 
 returns-3 : tie.Need-returns-3
 unfolding fieldSlot
-returns-3 c = field-at _ _ _ (kind-is _ _ (c .before .before .before .kind3 .given .1)) (gives-is (c .gives3 .ensures _) (c .before .nothing .ensures))
+returns-3 c = field-at _ _ _ (kind-is _ _ (c .before .before .before .kind3 .given .1)) (gives-is (c .gives3 .ensures) (no-slot (c .before .nothing .ensures)))
 
 same-length : tie.Need-same-length
 same-length c = search needs
@@ -81,7 +82,7 @@ returns-5 c = field-at _ _ _ (kind-is _ _ (c .before .before .before .before .be
 
 returns-6 : tie.Need-returns-6
 unfolding fieldSlot
-returns-6 c = field-at _ _ _ (kind-is _ _ (c .before .before .before .kind6 .given .1)) (gives-is (c .gives4 .ensures _) (c .before .folded-slot .ensures))
+returns-6 c = field-at _ _ _ (kind-is _ _ (c .before .before .before .kind6 .given .1)) (gives-is (c .gives4 .ensures) (c .before .folded-slot .ensures))
 
 pub field-slot-spec : {M : Type 1} → statement M
 field-slot-spec =

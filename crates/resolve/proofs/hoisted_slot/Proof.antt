@@ -2,6 +2,7 @@ use Rattle.rules.specs.Base.{_>>=_}
 use mathlib.Core.Path.{sym, ap, _∙_}
 use mathlib.Core.Option.{none, some}
 use Rattle.fields.specs.Found.{nameOption}
+use Rattle.slots.proofs.Tidy.{no-slot, slot-as}
 use Rattle.resolve.proofs.Answers.{hoisted-by}
 use borrow.Author.Needs.{needs}
 use Rattle.resolve.proofs.hoisted_slot.Statement.{statement}
@@ -24,11 +25,11 @@ lookup-requires c κs = search needs
 
 returns : tie.Need-returns
 unfolding _>>=_
-returns c = λ level target plan. c .nothing .ensures ∙ hoisted-by _ _ _ none (sym (ap nameOption (c .before .enum-told .given .1)) ∙ c .before .before .before .hoisted-name .ensures)
+returns c = λ level target plan. slot-as (no-slot (c .nothing .ensures)) (hoisted-by _ _ _ none (sym (ap nameOption (c .before .enum-told .given .1)) ∙ c .before .before .before .hoisted-name .ensures))
 
 returns-2 : tie.Need-returns-2
 unfolding _>>=_
-returns-2 c = λ level target plan. c .lookup .ensures level target plan ∙ hoisted-by _ _ _ (some _) (sym (ap nameOption (c .before .before .x .given .1)) ∙ c .before .before .before .before .hoisted-name .ensures)
+returns-2 c = λ level target plan. slot-as (c .lookup .ensures level target plan) (hoisted-by _ _ _ (some _) (sym (ap nameOption (c .before .before .x .given .1)) ∙ c .before .before .before .before .hoisted-name .ensures))
 
 pub hoisted-slot-spec : {M : Type 1} → statement M
 hoisted-slot-spec =

@@ -1,5 +1,5 @@
 use mathlib.Core.Path.{sym, _∙_}
-use Rattle.fields.proofs.Slots.{plain-is}
+use Rattle.slots.proofs.Tidy.{plain-is}
 use Rattle.resolve.proofs.Answers.{gives-is, answers-as, constant-leaf, other-leaf, leaf-is}
 use borrow.Author.Needs.{needs}
 use Rattle.resolve.proofs.leaf_answer.Statement.{statement}
@@ -31,13 +31,13 @@ gives-requires-2 : tie.Need-gives-requires-2
 gives-requires-2 c κs = search needs
 
 returns : tie.Need-returns
-returns c = answers-as (λ s. sym (constant-leaf _ _ (sym (c .before .before .before .before .constant-node .ensures) ∙ c .before .before .before .if1 .taken) s)) (gives-is (c .gives .ensures _) (plain-is _ _ (c .before .just .ensures) (c .before .before .plain .ensures)))
+returns c = answers-as (λ s. sym (constant-leaf _ _ (sym (c .before .before .before .before .constant-node .ensures) ∙ c .before .before .before .if1 .taken) s)) (gives-is (c .gives .ensures) (plain-is _ _ (c .before .just .ensures) (c .before .before .plain .ensures)))
 
 same-length : tie.Need-same-length
 same-length c = search needs
 
 returns-2 : tie.Need-returns-2
-returns-2 c = answers-as (λ s. sym (other-leaf _ _ (sym (c .before .before .before .before .constant-node .ensures) ∙ c .before .before .before .if1 .left) s)) (leaf-is _ _ _ (c .before .leaf .ensures) (c .gives2 .ensures _))
+returns-2 c = answers-as (λ s. sym (other-leaf _ _ (sym (c .before .before .before .before .constant-node .ensures) ∙ c .before .before .before .if1 .left) s)) (leaf-is _ _ _ (c .before .leaf .ensures) (c .gives2 .ensures))
 
 pub leaf-answer-spec : {M : Type 1} → statement M
 leaf-answer-spec =

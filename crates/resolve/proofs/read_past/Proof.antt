@@ -7,8 +7,14 @@ use borrow.Author.Needs.{needs}
 use Rattle.resolve.proofs.read_past.Statement.{statement}
 use Rattle.resolve.proofs.read_past.Tie as tie
 
+nothing-requires : tie.Need-nothing-requires
+nothing-requires c κs = search needs
+
+gives-requires : tie.Need-gives-requires
+gives-requires c κs = search needs
+
 returns : tie.Need-returns
-returns c = follows-none (not-true _ (c .if1 .taken))
+returns c = follows-none (not-true _ (c .before .before .if1 .taken)) (c .before .nothing .ensures) (c .gives .ensures)
 
 dereference-requires : tie.Need-dereference-requires
 dereference-requires c κs = search needs
@@ -26,4 +32,4 @@ returns-2 c = follows-some (not-false _ (c .before .before .before .before .befo
 
 pub read-past-spec : {M : Type 1} → statement M
 read-past-spec =
-    tie.close (tie.spec returns dereference-requires read-slot-requires same-length returns-2)
+    tie.close (tie.spec nothing-requires gives-requires returns dereference-requires read-slot-requires same-length returns-2)

@@ -4,8 +4,14 @@ use borrow.Author.Needs.{needs}
 use Rattle.resolve.proofs.read_slot.Statement.{statement}
 use Rattle.resolve.proofs.read_slot.Tie as tie
 
+nothing-requires : tie.Need-nothing-requires
+nothing-requires c κs = search needs
+
+gives-requires : tie.Need-gives-requires
+gives-requires c κs = search needs
+
 returns : tie.Need-returns
-returns c = follows-none (not-true _ (c .if1 .taken))
+returns c = follows-none (not-true _ (c .before .before .if1 .taken)) (c .before .nothing .ensures) (c .gives .ensures)
 
 enum-known-read : tie.Need-enum-known-read
 enum-known-read c = search needs
@@ -44,6 +50,8 @@ pub read-slot-spec : {M : Type 1} → statement M
 read-slot-spec =
     tie.close
     (tie.spec
+    nothing-requires
+    gives-requires
     returns
     enum-known-read
     field-slot-requires

@@ -10,6 +10,12 @@ base-of-requires c κs = search needs
 enum-told : tie.Need-enum-told
 enum-told c = search needs
 
+nothing-requires : tie.Need-nothing-requires
+nothing-requires c κs = search needs
+
+gives-requires : tie.Need-gives-requires
+gives-requires c κs = search needs
+
 enum-known-read : tie.Need-enum-known-read
 enum-known-read c = search needs
 
@@ -17,7 +23,7 @@ read-past-requires : tie.Need-read-past-requires
 read-past-requires c κs = search needs
 
 returns : tie.Need-returns
-returns c = up-nothing _ _ (sym (c .enum-told .given .1) ∙ c .before .before .base-of .ensures)
+returns c = up-nothing _ _ (sym (c .before .before .enum-told .given .1) ∙ c .before .before .before .before .base-of .ensures) (c .before .nothing .ensures) (c .gives .ensures)
 
 same-length : tie.Need-same-length
 same-length c = search needs
@@ -31,6 +37,8 @@ read-up-spec =
     (tie.spec
     base-of-requires
     enum-told
+    nothing-requires
+    gives-requires
     enum-known-read
     read-past-requires
     returns

@@ -33,7 +33,7 @@ ascend-requires c κs =
     let low = nodes-lower _ (passed-all _ (s .pre .accepted)) in
     let d = c .before .before .before .before .before .before .before .before .before .descend .ensures in
     let f = not-filled _ (replicate 8 0) (s .args .node) d (c .before .before .before .before .before .before .if1 .left) in
-    (s .pre, (end-rooms _ low (replicate 8 0) (s .args .node) d f (sound _ (passed-all _ (s .pre .accepted))) (c .before .before .before .before .leaf-answer .ensures), passed-within _ low (replicate 8 0) (s .args .node) d f))
+    (s .pre, (end-rooms _ low (replicate 8 0) (s .args .node) d f (sound _ (passed-all _ (s .pre .accepted))) (c .before .before .before .before .leaf-answer .ensures), (c .before .before .before .before .leaf-answer .ensures .tidy, passed-within _ low (replicate 8 0) (s .args .node) d f)))
 
 same-length-2 : tie.Need-same-length-2
 same-length-2 c = search needs

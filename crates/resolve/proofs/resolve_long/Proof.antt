@@ -26,7 +26,7 @@ ascend-requires c κs =
     let low = nodes-lower _ (passed-all _ (s .pre .accepted)) in
     let d = c .before .before .before .before .before .before .before .descend .ensures in
     let f = chain-few _ low 2048 2048 (s .args .node) (omega arith) (few-nodes _ _ (s .pre .indexed)) in
-    (s .pre, (end-rooms _ low (replicate 2048 0) (s .args .node) d f (sound _ (passed-all _ (s .pre .accepted))) (c .before .before .before .before .leaf-answer .ensures), passed-within _ low (replicate 2048 0) (s .args .node) d f))
+    (s .pre, (end-rooms _ low (replicate 2048 0) (s .args .node) d f (sound _ (passed-all _ (s .pre .accepted))) (c .before .before .before .before .leaf-answer .ensures), (c .before .before .before .before .leaf-answer .ensures .tidy, passed-within _ low (replicate 2048 0) (s .args .node) d f)))
 
 same-length : tie.Need-same-length
 same-length c = search needs

@@ -1,6 +1,7 @@
 use mathlib.Core.Path.{ap, _∙_}
 use Rattle.rules.specs.File.{payload}
 use Rattle.tables.specs.Tables.{alternativeOption}
+use Rattle.slots.proofs.Tidy.{no-slot}
 use Rattle.resolve.proofs.Answers.{gives-is, none-selected, selected-is, count-below}
 use borrow.Author.Needs.{needs}
 use Rattle.resolve.proofs.selected.Statement.{statement}
@@ -37,7 +38,7 @@ gives-requires-2 : tie.Need-gives-requires-2
 gives-requires-2 c κs = search needs
 
 returns : tie.Need-returns
-returns c = λ T. none-selected T _ _ (ap alternativeOption (c .before .before .enum-told .given .1)) (gives-is (c .gives .ensures _) (c .before .nothing .ensures))
+returns c = λ T. none-selected T _ _ (ap alternativeOption (c .before .before .enum-told .given .1)) (gives-is (c .gives .ensures) (no-slot (c .before .nothing .ensures)))
 
 same-length : tie.Need-same-length
 same-length c = search needs
@@ -45,7 +46,7 @@ same-length c = search needs
 returns-2 : tie.Need-returns-2
 returns-2 c = λ T.
     let v = c .before .before .before .before .before .before .before .before .before .before .found .given in
-    selected-is T _ _ _ _ (c .before .before .before .before .before .select .ensures) (c .before .just .ensures) (c .before .before .field .ensures) (c .before .before .before .before .before .before .before .payload .ensures .is ∙ ap (λ p. payload p (v .0 .0 .disc)) (c .before .before .before .before .before .before .before .before .within .ensures .0)) (ap alternativeOption (v .1)) (c .gives2 .ensures _)
+    selected-is T _ _ _ _ (c .before .before .before .before .before .select .ensures) (c .before .just .ensures) (c .before .before .field .ensures) (c .before .before .before .before .before .before .before .payload .ensures .0 .is ∙ ap (λ p. payload p (v .0 .0 .disc)) (c .before .before .before .before .before .before .before .before .within .ensures .0)) (ap alternativeOption (v .1)) (c .gives2 .ensures)
 
 pub selected-spec : {M : Type 1} → statement M
 selected-spec =

@@ -1,4 +1,5 @@
 use Rattle.rules.specs.Resolve.{valueSlot}
+use Rattle.slots.proofs.Tidy.{no-slot}
 use Rattle.resolve.proofs.Answers.{gives-is, kind-is, value-at}
 use borrow.Author.Needs.{needs}
 use Rattle.resolve.proofs.value_slot.Statement.{statement}
@@ -60,27 +61,27 @@ gives-requires-6 c κs = search needs
 
 returns : tie.Need-returns
 unfolding valueSlot
-returns c = λ w. value-at _ (kind-is _ _ (c .before .before .before .kind .given .1)) (gives-is (c .gives .ensures w) (c .before .row-value .ensures))
+returns c = λ w. value-at _ (kind-is _ _ (c .before .before .before .kind .given .1)) (gives-is (c .gives .ensures) (c .before .row-value .ensures))
 
 returns-2 : tie.Need-returns-2
 unfolding valueSlot
-returns-2 c = λ w. value-at _ (kind-is _ _ (c .before .before .before .kind2 .given .1)) (gives-is (c .gives2 .ensures w) (c .before .nothing .ensures))
+returns-2 c = λ w. value-at _ (kind-is _ _ (c .before .before .before .kind2 .given .1)) (gives-is (c .gives2 .ensures) (no-slot (c .before .nothing .ensures)))
 
 returns-3 : tie.Need-returns-3
 unfolding valueSlot
-returns-3 c = λ w. value-at _ (kind-is _ _ (c .before .before .before .kind3 .given .1)) (gives-is (c .gives3 .ensures w) (c .before .nothing2 .ensures))
+returns-3 c = λ w. value-at _ (kind-is _ _ (c .before .before .before .kind3 .given .1)) (gives-is (c .gives3 .ensures) (no-slot (c .before .nothing2 .ensures)))
 
 returns-4 : tie.Need-returns-4
 unfolding valueSlot
-returns-4 c = λ w. value-at _ (kind-is _ _ (c .before .before .before .kind4 .given .1)) (gives-is (c .gives4 .ensures w) (c .before .nothing3 .ensures))
+returns-4 c = λ w. value-at _ (kind-is _ _ (c .before .before .before .kind4 .given .1)) (gives-is (c .gives4 .ensures) (no-slot (c .before .nothing3 .ensures)))
 
 returns-5 : tie.Need-returns-5
 unfolding valueSlot
-returns-5 c = λ w. value-at _ (kind-is _ _ (c .before .before .before .kind5 .given .1)) (gives-is (c .gives5 .ensures w) (c .before .nothing4 .ensures))
+returns-5 c = λ w. value-at _ (kind-is _ _ (c .before .before .before .kind5 .given .1)) (gives-is (c .gives5 .ensures) (no-slot (c .before .nothing4 .ensures)))
 
 returns-6 : tie.Need-returns-6
 unfolding valueSlot
-returns-6 c = λ w. value-at _ (kind-is _ _ (c .before .before .before .kind6 .given .1)) (gives-is (c .gives6 .ensures w) (c .before .nothing5 .ensures))
+returns-6 c = λ w. value-at _ (kind-is _ _ (c .before .before .before .kind6 .given .1)) (gives-is (c .gives6 .ensures) (no-slot (c .before .nothing5 .ensures)))
 
 pub value-slot-spec : {M : Type 1} → statement M
 value-slot-spec =

@@ -17,7 +17,7 @@ field-requires : tie.Need-field-requires
 field-requires c κs = search needs
 
 field-requires-2 : tie.Need-field-requires-2
-field-requires-2 c κs = (c .before .before .before .before .before .before .before .before .before .before .pre .0, fits-field _ (sound-tables _ _ (c .before .before .before .before .before .before .before .before .before .before .pre .0)) _ (c .before .before .before .before .before .before .before .before .before .before .pre .1) _ _ (c .before .before .field .ensures))
+field-requires-2 c κs = (c .before .before .before .before .before .before .before .before .before .before .pre .0, fits-field _ (sound-tables _ _ (c .before .before .before .before .before .before .before .before .before .before .pre .0)) _ (c .before .before .before .before .before .before .before .before .before .before .pre .1) _ _ (c .before .before .field .ensures .0))
 
 same-length : tie.Need-same-length
 same-length c = search needs
@@ -26,7 +26,7 @@ same-length-2 : tie.Need-same-length-2
 same-length-2 c = search needs
 
 returns : tie.Need-returns
-returns c = key-scalar _ _ _ _ _ _ _ (c .before .before .before .before .before .before .before .before .before .before .record-ty .ensures) _ (c .before .before .before .before .before .before .before .before .enum-told2 .given .1) (c .before .before .before .before .before .before .before .before .before .before .before .before .before .before .before .pre .1) _ (c .before .before .before .before .before .before .before .field .ensures) (c .before .before .before .before .field2 .ensures)
+returns c = key-scalar _ _ _ _ _ _ _ (c .before .before .before .before .before .before .before .before .before .before .record-ty .ensures) _ (c .before .before .before .before .before .before .before .before .enum-told2 .given .1) (c .before .before .before .before .before .before .before .before .before .before .before .before .before .before .before .pre .1) _ (c .before .before .before .before .before .before .before .field .ensures .0) (c .before .before .before .before .field2 .ensures)
 
 pairs-of-requires : tie.Need-pairs-of-requires
 pairs-of-requires c κs = search needs

@@ -40,13 +40,13 @@ enum-known-pattern : tie.Need-enum-known-pattern Inv-loop μ-loop
 enum-known-pattern c = search needs
 
 field-requires-2 : tie.Need-field-requires-2 Inv-loop μ-loop
-field-requires-2 c κs = (c .before .before .before .before .before .before .before .before .before .before .before .before .before .before .pre .0, fits-field _ (sound-tables _ _ (c .before .before .before .before .before .before .before .before .before .before .before .before .before .before .pre .0)) _ (c .before .before .before .before .before .before .piece-at .ensures .lower .known) _ _ (c .before .before .before .before .before .field .ensures))
+field-requires-2 c κs = (c .before .before .before .before .before .before .before .before .before .before .before .before .before .before .pre .0, fits-field _ (sound-tables _ _ (c .before .before .before .before .before .before .before .before .before .before .before .before .before .before .pre .0)) _ (c .before .before .before .before .before .before .piece-at .ensures .lower .known) _ _ (c .before .before .before .before .before .field .ensures .0))
 
 loop-less : tie.Need-loop-less Inv-loop μ-loop
 loop-less c = omega (arith, c .before .before .before .before .before .before .before .before .before .before .before .before .loop-test .taken)
 
 loop-again : tie.Need-loop-again Inv-loop μ-loop
-loop-again c = going-given _ _ _ _ _ _ _ _ _ _ _ _ _ (c .before .before .before .before .before .before .before .before .before .before .before .before .before .loop .inv) (omega (arith, c .before .before .before .before .before .before .before .before .before .before .before .before .loop-test .taken, c .before .before .before .before .before .before .before .before .before .before .before .before .before .before .pieces .ensures .0)) _ (c .before .before .before .before .before .before .before .before .before .before .before .piece-at .ensures) _ _ _ (c .before .before .before .before .field2 .kept .1 .1 .0) (c .before .before .before .before .field2 .kept .1 .1 .1 .0) _ (c .before .before .before .before .before .before .before .before .pattern .given .1) _ (c .before .before .before .before .before .before .before .before .before .before .field .ensures) (c .before .before .before .before .field2 .ensures)
+loop-again c = going-given _ _ _ _ _ _ _ _ _ _ _ _ _ (c .before .before .before .before .before .before .before .before .before .before .before .before .before .loop .inv) (omega (arith, c .before .before .before .before .before .before .before .before .before .before .before .before .loop-test .taken, c .before .before .before .before .before .before .before .before .before .before .before .before .before .before .pieces .ensures .0)) _ (c .before .before .before .before .before .before .before .before .before .before .before .piece-at .ensures) _ _ _ (c .before .before .before .before .field2 .kept .1 .1 .0) (c .before .before .before .before .field2 .kept .1 .1 .1 .0) _ (c .before .before .before .before .before .before .before .before .pattern .given .1) _ (c .before .before .before .before .before .before .before .before .before .before .field .ensures .0) (c .before .before .before .before .field2 .ensures)
 
 enum-told : tie.Need-enum-told Inv-loop μ-loop
 enum-told c = search needs

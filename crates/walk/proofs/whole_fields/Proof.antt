@@ -41,7 +41,7 @@ field-requires : tie.Need-field-requires Inv-loop μ-loop
 field-requires c κs = search needs
 
 whole-field-requires : tie.Need-whole-field-requires Inv-loop μ-loop
-whole-field-requires c κs = (c .before .before .before .before .before .before .before .before .before .before .before .before .before .before .pre .0, (c .before .before .before .before .before .before .before .before .before .before .before .before .before .before .pre .1 .1, fits-field _ (sound-tables _ _ (c .before .before .before .before .before .before .before .before .before .before .before .before .before .before .pre .0)) _ (field-known _ _ _ _ (c .before .before .before .before .before .before .before .before .before .record-ty .ensures) _ _ (c .before .before .before .before .before .before .before .n .given .1) _ (c .before .before .before .before .loop-test .taken) _ (c .before .before .before .field-ty-at .ensures) (sound-tables _ _ (c .before .before .before .before .before .before .before .before .before .before .before .before .before .before .pre .0)) (c .before .before .before .before .before .before .before .before .before .before .before .before .before .before .pre .1 .0)) _ _ (c .before .before .field .ensures)))
+whole-field-requires c κs = (c .before .before .before .before .before .before .before .before .before .before .before .before .before .before .pre .0, (c .before .before .before .before .before .before .before .before .before .before .before .before .before .before .pre .1 .1, fits-field _ (sound-tables _ _ (c .before .before .before .before .before .before .before .before .before .before .before .before .before .before .pre .0)) _ (field-known _ _ _ _ (c .before .before .before .before .before .before .before .before .before .record-ty .ensures) _ _ (c .before .before .before .before .before .before .before .n .given .1) _ (c .before .before .before .before .loop-test .taken) _ (c .before .before .before .field-ty-at .ensures) (sound-tables _ _ (c .before .before .before .before .before .before .before .before .before .before .before .before .before .before .pre .0)) (c .before .before .before .before .before .before .before .before .before .before .before .before .before .before .pre .1 .0)) _ _ (c .before .before .field .ensures .0)))
 
 add-i : tie.Need-add-i Inv-loop μ-loop
 add-i c = omega (arith, c .before .before .before .before .before .before .before .before .before .loop-test .taken, fields-inside _ _ _ _ (c .before .before .before .before .before .before .before .before .before .before .before .before .before .before .record-ty .ensures) _ _ (c .before .before .before .before .before .before .before .before .before .before .before .before .n .given .1), c .before .before .before .before .before .before .before .before .before .before .before .before .before .before .before .before .before .before .before .pre .0 .indexed .small)
@@ -50,7 +50,7 @@ loop-less : tie.Need-loop-less Inv-loop μ-loop
 loop-less c = omega (arith, c .before .before .before .before .before .before .before .before .before .loop-test .taken)
 
 loop-again : tie.Need-loop-again Inv-loop μ-loop
-loop-again c = matching-turn _ _ _ _ (c .before .before .before .before .before .before .before .before .before .before .before .before .before .before .record-ty .ensures) _ _ (c .before .before .before .before .before .before .before .before .before .before .before .before .n .given .1) _ (c .before .before .before .before .before .before .before .before .before .loop-test .taken) _ (c .before .before .before .before .before .before .before .before .field-ty-at .ensures) _ _ _ _ _ _ _ _ _ (c .before .before .before .before .before .before .before .before .before .before .loop .inv) _ (c .before .before .before .before .before .before .before .field .ensures) _ _ _ (c .before .before .before .before .whole-field .ensures) (c .before .before .before .before .whole-field .kept .1 .1 .0) (c .before .before .before .before .whole-field .kept .1 .1 .1 .0)
+loop-again c = matching-turn _ _ _ _ (c .before .before .before .before .before .before .before .before .before .before .before .before .before .before .record-ty .ensures) _ _ (c .before .before .before .before .before .before .before .before .before .before .before .before .n .given .1) _ (c .before .before .before .before .before .before .before .before .before .loop-test .taken) _ (c .before .before .before .before .before .before .before .before .field-ty-at .ensures) _ _ _ _ _ _ _ _ _ (c .before .before .before .before .before .before .before .before .before .before .loop .inv) _ (c .before .before .before .before .before .before .before .field .ensures .0) _ _ _ (c .before .before .before .before .whole-field .ensures) (c .before .before .before .before .whole-field .kept .1 .1 .0) (c .before .before .before .before .whole-field .kept .1 .1 .1 .0)
 
 same-length : tie.Need-same-length Inv-loop μ-loop
 same-length c = c .before .loop .inv .work-long

@@ -1,3 +1,5 @@
+use mathlib.Core.Path.{ap}
+use Rattle.slots.specs.declared.Slot.{Slot}
 use Rattle.walk.proofs.Whole.{whole-bound, whole-new}
 use Rattle.resolve.proofs.Answers.{kind-is}
 use Rattle.begin.proofs.Starts.{looked-up}
@@ -36,7 +38,7 @@ same-length-3 : tie.Need-same-length-3
 same-length-3 c = search needs
 
 returns-2 : tie.Need-returns-2
-returns-2 c = whole-new _ _ _ _ _ _ _ (c .before .before .before .before .before .before .before .lookup .result) (looked-up _ _ (c .before .before .before .before .before .before .before .lookup .result) _ _ _ _ (c .before .before .before .before .before .before .before .before .lists .ensures) (c .before .before .before .before .before .before .before .lookup .ensures)) _ (c .before .before .before .before .before .before .if1 .left) _ _ (kind-is _ _ (c .before .before .before .before .before .plain .ensures)) (c .before .before .before .before .skip .ensures _ _ _) (c .before .before .bind .ensures _ _)
+returns-2 c = whole-new _ _ _ _ _ _ _ (c .before .before .before .before .before .before .before .lookup .result) (looked-up _ _ (c .before .before .before .before .before .before .before .lookup .result) _ _ _ _ (c .before .before .before .before .before .before .before .before .lists .ensures) (c .before .before .before .before .before .before .before .lookup .ensures)) _ (c .before .before .before .before .before .before .if1 .left) _ _ (kind-is _ _ (ap (λ (s : Slot). s .kind) (c .before .before .before .before .before .plain .ensures))) (c .before .before .before .before .skip .ensures _ _ _) (c .before .before .bind .ensures _ _)
 
 pub whole-variable-spec : {M : Type 1} → statement M
 whole-variable-spec =

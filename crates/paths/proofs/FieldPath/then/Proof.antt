@@ -1,7 +1,7 @@
 use Rattle.rules.specs.File as File
-use Rattle.paths.specs.Paths.{pathOf}
+use Rattle.paths.specs.Paths.{pathOf, stepped}
 use mathlib.Core.List.{List}
-use mathlib.Core.Path.{ap}
+use mathlib.Core.Path.{refl, ap}
 use Prim.Native.Nat.{ℕ}
 use Rattle.paths.proofs.Laws.{then-steps, then-count}
 use borrow.Author.Needs.{needs}
@@ -20,10 +20,10 @@ add-p : tie.Need-add-p
 add-p c = search needs
 
 returns : tie.Need-returns
-unfolding File.then pathOf
+unfolding File.then pathOf stepped
 returns c =
     let a = c .args .self in
-    record { is = ap (λ (s : List ℕ). record { field = a .field; steps = s }) (then-steps (a .steps) (a .count) (c .args .idx) (search needs)); count = then-count (a .steps) (a .count) (c .args .idx) (search needs) }
+    (record { is = ap (λ (s : List ℕ). record { field = a .field; steps = s }) (then-steps (a .steps) (a .count) (c .args .idx) (search needs)); count = then-count (a .steps) (a .count) (c .args .idx) (search needs) }, refl)
 
 pub then-spec : {M : Type 1} → statement M
 then-spec = tie.close (tie.spec mul-p element-write-p add-p returns)

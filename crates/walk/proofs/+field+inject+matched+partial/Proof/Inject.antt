@@ -39,7 +39,7 @@ pub inject-field-requires : (t : ℕ) → inject-lts.Need-field-requires (inject
 inject-field-requires t c κs =
     let p = c .before .before .before .before .before .before .before .before .before .before .before .before .before .before .before .before .before .before .before .before .before .before .before .pre .1 in
     let l = inject-lower _ 0 _ _ _ _ _ (c .before .before .before .before .before .before .before .before .before .before .before .before .before .before .before .before .choose .result) (c .before .before .before .before .before .before .before .before .before .before .before .before .before .before .before .before .choose .ensures) _ _ _ (c .before .before .before .before .before .before .before .before .before .choice .given .1) (sound-tables _ _ (p .0)) (p .1 .known) in
-    (omega (arith, l .lower, c .before .before .before .before .before .before .before .before .before .before .before .before .before .before .before .before .before .before .before .before .before .before .before .pre .0), (p .0, fits-payload _ (sound-tables _ _ (p .0)) _ _ _ (p .1) l _ _ (c .before .before .before .before .before .before .payload .ensures)))
+    (omega (arith, l .lower, c .before .before .before .before .before .before .before .before .before .before .before .before .before .before .before .before .before .before .before .before .before .before .before .pre .0), (p .0, fits-payload _ (sound-tables _ _ (p .0)) _ _ _ (p .1) l _ _ (c .before .before .before .before .before .before .payload .ensures .0)))
 
 pub inject-closer-requires : (t : ℕ) → inject-lts.Need-closer-requires (inject-claims t) (inject-at t) inject.Post
 inject-closer-requires t c κs = search needs
@@ -54,5 +54,5 @@ pub inject-returns-2 : (t : ℕ) → inject-lts.Need-returns-2 (inject-claims t)
 inject-returns-2 t c =
     let p = c .before .before .before .before .before .before .before .before .before .before .before .before .before .before .before .before .before .before .before .before .before .before .before .before .before .before .before .before .before .before .before .before .pre .1 in
     let l = inject-lower _ 0 _ _ _ _ _ (c .before .before .before .before .before .before .before .before .before .before .before .before .before .before .before .before .before .before .before .before .before .before .before .before .before .choose .result) (c .before .before .before .before .before .before .before .before .before .before .before .before .before .before .before .before .before .before .before .before .before .before .before .before .before .choose .ensures) _ _ _ (c .before .before .before .before .before .before .before .before .before .before .before .before .before .before .before .before .before .before .choice .given .1) (sound-tables _ _ (p .0)) (p .1 .known) in
-    inject-goes _ _ _ _ _ _ _ (c .before .before .before .before .before .before .before .before .before .before .before .before .before .before .before .before .before .before .before .before .before .before .before .before .before .choose .result) (c .before .before .before .before .before .before .before .before .before .before .before .before .before .before .before .before .before .before .before .before .before .before .before .before .before .choose .ensures) _ _ _ (c .before .before .before .before .before .before .before .before .before .before .before .before .before .before .before .before .before .before .choice .given .1) l _ (c .before .before .before .before .before .before .before .before .before .before .before .before .before .before .before .payload .ensures) _ _ _ (c .before .before .before .before .before .before .before .before .before .before .before .before .before .tag .ensures _ _) (c .before .before .before .before .before .before .before .before .field .ensures)
+    inject-goes _ _ _ _ _ _ _ (c .before .before .before .before .before .before .before .before .before .before .before .before .before .before .before .before .before .before .before .before .before .before .before .before .before .choose .result) (c .before .before .before .before .before .before .before .before .before .before .before .before .before .before .before .before .before .before .before .before .before .before .before .before .before .choose .ensures) _ _ _ (c .before .before .before .before .before .before .before .before .before .before .before .before .before .before .before .before .before .before .choice .given .1) l _ (c .before .before .before .before .before .before .before .before .before .before .before .before .before .before .before .payload .ensures .0) _ _ _ (c .before .before .before .before .before .before .before .before .before .before .before .before .before .tag .ensures _ _) (c .before .before .before .before .before .before .before .before .field .ensures)
     (c .before .before .closer .ensures _ _ _ (building-is _ _ _ _))

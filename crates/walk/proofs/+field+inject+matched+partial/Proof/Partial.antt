@@ -48,7 +48,7 @@ pub partial-field-requires : (t : ℕ) → partial-lts.Need-field-requires (part
 partial-field-requires t c κs =
     let p = c .before .before .before .before .before .before .before .before .before .before .before .before .before .before .before .pre .1 in
     let l = c .before .before .before .before .before .before .piece-at .ensures .lower in
-    (omega (arith, l .lower, c .before .before .before .before .before .before .before .before .before .before .before .before .before .before .before .pre .0), (p .0, fits-then _ (sound-tables _ _ (p .0)) _ _ _ (p .1) l _ _ (c .before .before .then .ensures)))
+    (omega (arith, l .lower, c .before .before .before .before .before .before .before .before .before .before .before .before .before .before .before .pre .0), (p .0, fits-then _ (sound-tables _ _ (p .0)) _ _ _ (p .1) l _ _ (c .before .before .then .ensures .0)))
 
 pub partial-loop-less : (t : ℕ) → partial-lts.Need-loop-less (partial-claims t) (partial-at t) partial.Post partial-Inv-loop partial-μ-loop
 partial-loop-less t c = omega (arith, c .before .before .before .before .before .before .before .before .before .before .before .before .loop-test .taken)
@@ -56,7 +56,7 @@ partial-loop-less t c = omega (arith, c .before .before .before .before .before 
 pub partial-loop-again : (t : ℕ) → partial-lts.Need-loop-again (partial-claims t) (partial-at t) partial.Post partial-Inv-loop partial-μ-loop
 partial-loop-again t c =
     going-given _ _ _ _ _ _ _ _ _ _ _ _ _ (c .before .before .before .before .before .before .before .before .before .before .before .before .before .loop .inv) (omega (arith, c .before .before .before .before .before .before .before .before .before .before .before .before .loop-test .taken, c .before .before .before .before .before .before .before .before .before .before .before .before .before .before .before .pieces .ensures .0)) _ (c .before .before .before .before .before .before .before .before .before .before .before .piece-at .ensures) _ _ _ (c .before .before .before .before .field .kept .1 .1 .0) (c .before .before .before .before .field .kept .1 .1 .1 .0)
-    _ (c .before .before .before .before .before .before .before .before .before .pattern .given .1) _ (c .before .before .before .before .before .before .before .then .ensures) (c .before .before .before .before .field .ensures)
+    _ (c .before .before .before .before .before .before .before .before .before .pattern .given .1) _ (c .before .before .before .before .before .before .before .then .ensures .0) (c .before .before .before .before .field .ensures)
 
 pub partial-enum-told : (t : ℕ) → partial-lts.Need-enum-told (partial-claims t) (partial-at t) partial.Post partial-Inv-loop partial-μ-loop
 partial-enum-told t c = search needs
