@@ -20,6 +20,8 @@ ghost use Rattle.constrain.specs.Constrain.{isNothing, isSome, narrowOr,
 use constant::Const;
 use constant::constant;
 use entries::node_of;
+use file::CONSTRAINTS;
+use file::NODES;
 use lists::Code;
 use narrow::narrowed;
 use paths::FieldPath;
@@ -68,7 +70,7 @@ pub fn narrow(
         after ≡ narrowedBy T (Constants.constant T node ty) (pathOf path) before
         ) ⌝ }
 {
-    if node >= count_of(file, index, 3) {
+    if node >= count_of(file, index, NODES) {
         return Narrowed {
             some: false,
             walk: w,
@@ -201,7 +203,7 @@ fn constrain_rank(
         after ≡ Rules.constrainEach (ops T) T (Rules.constraintsOf T name rank) ty (pathOf path) before
         ) ⌝ }
 {
-    let n = count_of(file, index, 7);
+    let n = count_of(file, index, CONSTRAINTS);
     let mut l = w;
     let mut k: usize = 0;
     while k < n {
@@ -219,7 +221,7 @@ fn is_constrained(file: &[u8], index: &[u16], name: usize) -> bool
     requires { ⌜ Indexed (now file) (now index) ⌝ }
     ensures { λ r. ⌜ r ≡ isConstrained (tablesOf (now (file .entry))) name ⌝ }
 {
-    let n = count_of(file, index, 7);
+    let n = count_of(file, index, CONSTRAINTS);
     let mut k: usize = 0;
     while k < n {
         let c = constraint_at(file, index, k);

@@ -15,6 +15,8 @@ ghost use Rattle.fields.specs.Found.{placeOf, nameOption, addressOption,
 use entries::node_of;
 use entries::predicate_of;
 use entries::type_of;
+use file::FETCHED;
+use file::HOISTED;
 use file::wide;
 use file::wide16;
 use file::word_at;
@@ -160,7 +162,7 @@ pub fn fetched_register(
         addressOption r ≡ fetchedRegister T (address .0) (pathOf path)
         ) ⌝ }
 {
-    let n = count_of(file, index, 6);
+    let n = count_of(file, index, FETCHED);
     let mut i: usize = 0;
     while i < n {
         let f = fetched_at(file, index, i);
@@ -178,7 +180,7 @@ pub fn hoisted_name(file: &[u8], index: &[u16], node: usize) -> MaybeName
     requires { ⌜ Indexed (now file) (now index) ⌝ }
     ensures { λ r. ⌜ nameOption r ≡ hoistedName (tablesOf (now (file .entry))) node ⌝ }
 {
-    let n = count_of(file, index, 5);
+    let n = count_of(file, index, HOISTED);
     let mut k: usize = 0;
     while k < n {
         let h = hoisted_at(file, index, k);

@@ -222,7 +222,7 @@ fn levels(file: &[u8], index: &[u16], work: &mut [u8], plan: &mut [u8], start: W
         ) ⌝ }
     ensures bounded { λ r. ⌜ r .at ≤ planLimit ⌝ }
 {
-    let n = count_of(file, index, 9);
+    let n = count_of(file, index, file::LEVELS);
     let mut w = start;
     let mut k: usize = 0;
     while k < n {
@@ -271,7 +271,7 @@ pub fn write(file: &[u8], index: &[u16], work: &mut [u8], plan: &mut [u8]) -> Wr
         after ≡ between (Kept.compiled T (now (work .entry)) (now (plan .entry)))
         ) ⌝ }
 {
-    put16(plan, 0, count_of(file, index, 9));
+    put16(plan, 0, count_of(file, index, file::LEVELS));
     let ends = Ends {
         bindings: 0,
         binding_count: 0,

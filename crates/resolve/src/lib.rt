@@ -34,6 +34,7 @@ use fields::key_field;
 use fields::path_field;
 use fields::row_field;
 use fields::row_value;
+use file::NODES;
 use file::wide16;
 use lists::Code;
 use lists::Lists;
@@ -533,7 +534,7 @@ fn constant_node(file: &[u8], index: &[u16], node: usize) -> bool
     requires { ⌜ Ready (now file) (now index) ⌝ }
     ensures { λ r. ⌜ r ≡ isConstant (tablesOf (now (file .entry))) node ⌝ }
 {
-    if node < count_of(file, index, 3) {
+    if node < count_of(file, index, NODES) {
         is_constant(file, index, node)
     } else {
         false

@@ -206,7 +206,7 @@ impl SeekBuilder {
         if !self.building {
             return self;
         }
-        let n = count_of(file, index, 8);
+        let n = count_of(file, index, file::COMPARISONS);
         let mut l = self;
         let mut i: usize = 0;
         while i < n {

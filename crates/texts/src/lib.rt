@@ -18,6 +18,9 @@ use constant::prefix_len;
 use encode::put_constant;
 use encode::put_i64;
 use encode::put_prefix;
+use file::NAMES;
+use file::NODES;
+use file::TYPES;
 use records::put8;
 use records::put16;
 use seek::Edge;
@@ -33,7 +36,7 @@ fn past_constant(file: &[u8], index: &[u16], node: usize, ty: usize) -> Const
     requires { ⌜ length (tablesOf (now file) .types) ≤ ty ⌝ }
     ensures { λ r. ⌜ r ≡ constView (tablesOf (now (file .entry))) node ty ⌝ }
 {
-    if count_of(file, index, 1) == 0 {
+    if count_of(file, index, TYPES) == 0 {
         return Const::Nothing;
     }
     let m = folded(file, index, node);
@@ -63,10 +66,10 @@ fn any_constant(file: &[u8], index: &[u16], node: usize, ty: usize) -> Const
     requires { ⌜ Ready (now file) (now index) ⌝ }
     ensures { λ r. ⌜ r ≡ constView (tablesOf (now (file .entry))) node ty ⌝ }
 {
-    if node >= count_of(file, index, 3) {
+    if node >= count_of(file, index, NODES) {
         return Const::Nothing;
     }
-    if ty < count_of(file, index, 1) {
+    if ty < count_of(file, index, TYPES) {
         constant(file, index, node, ty)
     } else {
         past_constant(file, index, node, ty)
@@ -97,7 +100,7 @@ fn put_text(file: &[u8], index: &[u16], buf: &mut [u8], at: usize, node: usize, 
     if n == 0 {
         return at + 2;
     }
-    if ty < count_of(file, index, 1) {
+    if ty < count_of(file, index, TYPES) {
         put_constant(file, index, buf, at + 2, node, ty)
     } else {
         put_past(file, index, buf, at + 2, node, ty)
@@ -141,7 +144,7 @@ pub fn prefix_text_len(file: &[u8], index: &[u16], name: usize) -> usize
     requires { ⌜ Ready (now file) (now index) ⌝ }
     ensures { λ r. ⌜ (r ≡ length (Plan.text (encodePrefix (nameAt (tablesOf (now (file .entry))) name)))) × (r ≤ 65539) ⌝ }
 {
-    if name < count_of(file, index, 0) {
+    if name < count_of(file, index, NAMES) {
         2 + prefix_len(file, index, name)
     } else {
         3
@@ -156,7 +159,7 @@ pub fn put_prefix_text(file: &[u8], index: &[u16], buf: &mut [u8], at: usize, na
         Wrote form at (now (buf .entry)) r (now (buf .exit))
         ) ⌝ }
 {
-    if name < count_of(file, index, 0) {
+    if name < count_of(file, index, NAMES) {
         put16(buf, at, prefix_len(file, index, name));
         put_prefix(file, index, buf, at + 2, name)
     } else {
