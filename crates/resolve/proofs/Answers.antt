@@ -17,7 +17,6 @@ use Rattle.rules.specs.Lookup.{fieldOf, slotAt, fetchedRegister, hoistedSlot}
 use Rattle.rules.specs.Events.{Code}
 use Rattle.rules.specs.Resolve as Rules
 use Rattle.rules.specs.Resolve.{Resolver, follow, _>>=_, give, declined, fetchedRow, dereference, fieldOfRow, fieldSlot, valueSlot, selected, selectSlot, resolveNode, resolve}
-use Rattle.rules.proofs.Cases.{true≢false}
 use Rattle.state.specs.State.{Level, Target, State, newLevel, measuring}
 use Rattle.state.specs.Ops as Ops
 use Rattle.state.specs.Ops.{ops}

@@ -10,7 +10,6 @@ ghost use Rattle.rules.specs.File as File;
 ghost use Rattle.rules.specs.File.{Tables, nodeAt, isConstant};
 ghost use Rattle.rules.specs.Lookup.{hoistedSlot};
 ghost use Rattle.rules.specs.Resolve as Rules;
-ghost use Rattle.rules.specs.Resolve.{give};
 ghost use Rattle.file.specs.Tables.{Indexed, tablesOf};
 ghost use Rattle.paths.specs.Paths.{pathOf};
 ghost use Rattle.state.specs.State.{Level, Target};

@@ -1,4 +1,4 @@
-use mathlib.Core.Path.{sym, _∙_}
+use mathlib.Core.Path.{sym}
 use lib.Seq.{length-take-le}
 use Rattle.slots.proofs.Tidy.{slot-as}
 use Rattle.lists.proofs.Finds.{view-inside, of-made, of-file}

@@ -1,4 +1,4 @@
-use mathlib.Core.Path.{ap, _∙_}
+use mathlib.Core.Path.{ap}
 use Rattle.file.specs.Tables.{tablesOf}
 use denote.Ref.{now}
 use Rattle.state.specs.Ops.{fitting}

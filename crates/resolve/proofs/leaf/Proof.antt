@@ -1,4 +1,3 @@
-use mathlib.Core.Path.{_∙_}
 use Rattle.slots.proofs.Tidy.{no-slot, slot-as}
 use Rattle.resolve.proofs.Answers.{leaf-seen}
 use Rattle.resolve.specs.Resolved.{leafSlot}
