@@ -19,21 +19,21 @@ use table::{number, ratio, row, time};
 const USAGE: &str = "usage:
   bench times   everyday files
   bench worst   files that keep the Rust busy for long; some minutes
-  bench stack   how much stack a call takes";
+  bench stack   how much stack a call takes; needs no source of the bodies";
 
 fn main() -> ExitCode {
     let arguments: Vec<String> = std::env::args().skip(1).collect();
     let words: Vec<&str> = arguments.iter().map(String::as_str).collect();
-    if !HAS_BODIES {
-        eprintln!("built without the bodies: set FJORD_SRC to the source and build again");
-        return ExitCode::from(2);
-    }
     match words.as_slice() {
+        ["times" | "worst"] if !HAS_BODIES => {
+            eprintln!("built without the bodies: set FJORD_SRC to the source and build again");
+            ExitCode::from(2)
+        }
         ["times"] => oracle::on_large_stack(|| time_all(files::everyday())),
         ["worst"] => oracle::on_large_stack(|| time_all(files::worst())),
         ["stack"] => measure_stacks(),
         // By `stack`, in a process of its own: a stack that is too small ends it.
-        ["thread", name, stack] => on_thread(name, stack),
+        ["thread", name] => on_thread(name),
         _ => {
             eprintln!("{USAGE}");
             ExitCode::from(2)
@@ -87,50 +87,53 @@ fn told(answers: &[Result<Vec<u8>, u8>]) -> String {
     }
 }
 
+/// The stack that is to be enough for every file: sinalvento.h, the crate and
+/// README promise it.
+const STACK: usize = 128 << 10;
+
 fn measure_stacks() -> ExitCode {
-    let head = ["files", "exported", "Rust", "thread", "enough"];
+    let promised = format!("{} KiB enough", STACK >> 10);
+    let head = ["files", "exported", "Rust", &promised];
     let mut rows = vec![row(&head)];
     let mut all_enough = true;
-    for (case, stack) in files::stacked() {
+    for kind in files::STACKED {
+        let case = kind.case();
         let mut lent = Lent::new();
         let exported = stack::depth(|| sides::exported(&case, &mut lent));
-        let rust = stack::depth(|| sides::rust(&case));
-        let enough = is_enough(case.name, stack);
+        let rust = HAS_BODIES.then(|| stack::depth(|| sides::rust(&case)));
+        let enough = is_enough(case.name);
         all_enough &= enough;
         rows.push(vec![
             format!("{} ({})", case.name, number(case.files.len())),
             number(exported),
-            number(rust),
-            format!("{} KiB", number(stack >> 10)),
+            rust.map_or(String::from("-"), number),
             String::from(if enough { "yes" } else { "NO" }),
         ]);
     }
     table::print(&rows);
     if all_enough {
-        ExitCode::SUCCESS
-    } else {
-        ExitCode::FAILURE
+        return ExitCode::SUCCESS;
     }
+    eprintln!("a call needs more stack than is promised");
+    ExitCode::FAILURE
 }
 
-/// Whether the exported function gets through a case on a thread of that size.
-fn is_enough(name: &str, stack: usize) -> bool {
+/// Whether the exported function gets through files of a kind on a thread with
+/// the promised stack.
+fn is_enough(name: &str) -> bool {
     let this = std::env::current_exe().expect("a program knows itself");
     Command::new(this)
-        .args(["thread", name, &stack.to_string()])
+        .args(["thread", name])
         .stderr(Stdio::null())
         .status()
         .is_ok_and(|status| status.success())
 }
 
-fn on_thread(name: &str, stack: &str) -> ExitCode {
-    let found = files::stacked()
-        .into_iter()
-        .find(|(case, _)| case.name == name);
-    let (Some((case, _)), Ok(stack)) = (found, stack.parse()) else {
+fn on_thread(name: &str) -> ExitCode {
+    let Some(kind) = files::STACKED.into_iter().find(|kind| kind.name == name) else {
         return ExitCode::from(2);
     };
-    let mut lent = Lent::new();
-    stack::on_thread(stack, || sides::exported(&case, &mut lent));
+    let (case, mut lent) = (kind.case(), Lent::new());
+    stack::on_thread(STACK, || sides::exported(&case, &mut lent));
     ExitCode::SUCCESS
 }

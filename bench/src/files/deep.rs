@@ -1,48 +1,361 @@
-//! Nodes inside each other.
+//! Nodes and types inside each other, as deep as a file can have them.
 
 use oracle::draw::shape::{level, predicate};
 use oracle::file::*;
-use oracle::read::read;
+use oracle::rng::Rng;
 
-/// The most reads one inside the other; 0 for a file that cannot be read.
-pub fn longest_chain(bytes: &[u8]) -> usize {
-    let Ok(file) = read(bytes) else {
-        return 0;
+/// What a type is nested in once, and the pattern with it.
+#[derive(Clone, Copy)]
+enum Layer {
+    Union,
+    Record,
+    /// A record with a second field that any value fits, so that it is no
+    /// constant as a whole.
+    Half,
+}
+
+use Layer::*;
+
+/// The layers in turns, from the innermost.
+const AROUND: [&[Layer]; 4] = [&[Union], &[Record], &[Union, Record], &[Half]];
+
+/// How a chain reads of the node before.
+#[derive(Clone, Copy)]
+pub enum Read {
+    /// A field of the row that was fetched by the reference before.
+    Key,
+    /// The same where nothing was fetched.
+    Unfetched,
+    Value,
+    Select,
+    /// A field that is a union, then its payload, which is a reference.
+    KeyAndSelect,
+}
+
+pub const READS: [Read; 5] = [
+    Read::Key,
+    Read::Unfetched,
+    Read::Value,
+    Read::Select,
+    Read::KeyAndSelect,
+];
+
+/// The most reads of a chain: every node but its Var and the key's record.
+pub const MOST_READS: usize = LIMITS[3] - 2;
+
+const FIELD: u16 = 0;
+const OTHER: u16 = 1;
+const ROW: u16 = 2;
+const CONSTANT: u16 = 3;
+const NEW: u16 = 4;
+const TEXT: u16 = 5;
+
+const INT: u16 = 0;
+const STR: u16 = 1;
+const REFERENCE: u16 = 2;
+const UNION: u16 = 3;
+const KEY: u16 = 4;
+
+/// A row of predicate 0 in register 5, whose key has one field: a reference to
+/// such a row, or with `union` a union of one.
+fn start(union: bool) -> RuleFile {
+    let field = if union { UNION } else { REFERENCE };
+    let path = Path {
+        field: 0,
+        steps: if union { vec![1] } else { vec![] },
     };
-    let mut lengths: Vec<usize> = vec![];
-    for node in &file.nodes {
-        let length = match node {
-            Node::KeyAccess(_, base) | Node::ValueAccess(base) | Node::Select(_, base) => {
-                1 + lengths.get(*base as usize).copied().unwrap_or(0)
-            }
-            _ => 0,
-        };
-        lengths.push(length);
+    RuleFile {
+        names: ["field", "other", "row", "constant", "new", "text"]
+            .map(|name| name.as_bytes().to_vec())
+            .to_vec(),
+        types: vec![
+            Type::Int,
+            Type::Str,
+            Type::Fact(0),
+            Type::Union(vec![(FIELD, 1, REFERENCE)]),
+            Type::Record(vec![(FIELD, field)]),
+        ],
+        predicates: vec![Predicate {
+            key: KEY,
+            value: REFERENCE,
+        }],
+        bindings: vec![Binding {
+            name: ROW,
+            slot: Slot::Row(5, 0),
+        }],
+        fetched: vec![Fetched {
+            address: 5,
+            path,
+            register: 5,
+        }],
+        ..RuleFile::default()
     }
-    lengths.into_iter().max().unwrap_or(0)
+}
+
+fn add(file: &mut RuleFile, node: Node) -> u16 {
+    file.nodes.push(node);
+    file.nodes.len() as u16 - 1
+}
+
+/// So many reads, one of the other; the last one's number.
+fn reads(file: &mut RuleFile, read: Read, count: usize) -> u16 {
+    if matches!(read, Read::Unfetched) {
+        file.fetched.clear();
+    }
+    let mut last = add(file, Node::Var(ROW));
+    for at in 0..count {
+        let node = match read {
+            Read::Key | Read::Unfetched => Node::KeyAccess(FIELD, last),
+            Read::Value => Node::ValueAccess(last),
+            Read::Select => Node::Select(FIELD, last),
+            Read::KeyAndSelect if at % 2 == 0 => Node::KeyAccess(FIELD, last),
+            Read::KeyAndSelect => Node::Select(FIELD, last),
+        };
+        last = add(file, node);
+    }
+    last
+}
+
+/// Nests the leaf so often, its type and its pattern alike; both numbers then.
+fn nest(file: &mut RuleFile, layers: &[Layer], times: usize, leaf: (u16, u16)) -> (u16, u16) {
+    let in_turns = layers.iter().cycle().take(times);
+    in_turns.fold(leaf, |inner, &layer| wrap(file, layer, inner))
+}
+
+fn wrap(file: &mut RuleFile, layer: Layer, (ty, node): (u16, u16)) -> (u16, u16) {
+    let mut given = vec![(FIELD, node)];
+    let around = match layer {
+        Union => Type::Union(vec![(FIELD, 7, ty)]),
+        Record => Type::Record(vec![(FIELD, ty)]),
+        Half => {
+            given.push((OTHER, add(file, Node::Wildcard)));
+            Type::Record(vec![(FIELD, ty), (OTHER, INT)])
+        }
+    };
+    file.types.push(around);
+    let node = add(file, Node::Record(given));
+    (file.types.len() as u16 - 1, node)
+}
+
+/// One level with this key.
+fn keyed(mut file: RuleFile, (ty, node): (u16, u16)) -> RuleFile {
+    file.predicates.push(predicate(ty as usize));
+    let predicate = file.predicates.len() as u16 - 1;
+    file.levels.push(level(predicate, node as usize, 0));
+    file
+}
+
+/// A leaf, whose type has this depth, in a type of the greatest depth, nested in
+/// each way.
+fn to_the_limit(depth: usize, leaf: impl Fn(&mut RuleFile) -> (u16, u16)) -> Vec<RuleFile> {
+    let nested = |layers: &[Layer]| {
+        let mut file = start(false);
+        let leaf = leaf(&mut file);
+        let key = nest(&mut file, layers, MAX_DEPTH - depth, leaf);
+        keyed(file, key)
+    };
+    AROUND.into_iter().map(nested).collect()
+}
+
+pub fn constants_inside() -> Vec<RuleFile> {
+    [
+        to_the_limit(1, |file| (INT, add(file, Node::Int(1)))),
+        to_the_limit(1, |file| (STR, add(file, Node::Str(TEXT)))),
+        to_the_limit(1, |file| (STR, add(file, Node::Prefix(TEXT)))),
+        // No constant of its type, so that it is asked for and opened all the way.
+        to_the_limit(1, |file| (STR, add(file, Node::Int(1)))),
+        to_the_limit(1, |file| (INT, add(file, Node::Record(vec![])))),
+    ]
+    .concat()
+}
+
+pub fn reads_inside() -> Vec<RuleFile> {
+    let mut files = to_the_limit(1, |file| (REFERENCE, add(file, Node::Var(ROW))));
+    for read in READS {
+        for count in [1, 2, 3] {
+            files.extend(to_the_limit(1, |file| {
+                (REFERENCE, reads(file, read, count))
+            }));
+        }
+    }
+    files
+}
+
+pub fn new_vars_inside() -> Vec<RuleFile> {
+    let constrained = |file: &mut RuleFile| {
+        for node in [
+            Node::Prefix(TEXT),
+            Node::Fuzzy(TEXT, 1, Anchor::Whole),
+            Node::Str(TEXT),
+            Node::Wildcard,
+        ] {
+            let node = add(file, node);
+            file.constraints.push(Constraint { name: NEW, node });
+        }
+        (STR, add(file, Node::Var(NEW)))
+    };
+    let compared = |file: &mut RuleFile| {
+        for op in [Op::Ge, Op::Lt] {
+            let (left, right) = (add(file, Node::Var(NEW)), add(file, Node::Int(3)));
+            file.comparisons.push(Comparison { op, left, right });
+        }
+        (INT, add(file, Node::Var(NEW)))
+    };
+    [
+        to_the_limit(1, |file| (INT, add(file, Node::Var(NEW)))),
+        to_the_limit(1, constrained),
+        to_the_limit(1, compared),
+    ]
+    .concat()
+}
+
+/// Records that hold a Var that stands for a constant, which nests on to the
+/// limit and beyond; the Var at every depth there can be.
+pub fn vars_for_constants_inside() -> Vec<RuleFile> {
+    let mut files = vec![];
+    for beyond in [0, LIMITS[3] - 200] {
+        for below in 0..MAX_DEPTH {
+            let leaf = |file: &mut RuleFile| {
+                let inner = add(file, Node::Int(1));
+                let (ty, mut node) = nest(file, &[Record], below, (INT, inner));
+                for _ in 0..beyond {
+                    node = add(file, Node::Record(vec![(FIELD, node)]));
+                }
+                bind_constant(file, node);
+                (ty, add(file, Node::Var(CONSTANT)))
+            };
+            files.extend(to_the_limit(below + 1, leaf));
+        }
+    }
+    files
+}
+
+/// Layers in any order, to the greatest depth, around any leaf; a Var that
+/// stands for a constant at any depth, or nowhere.
+pub fn mixed() -> Vec<RuleFile> {
+    (0..MIXED)
+        .map(|index| mixture(&mut Rng::new(16, index)))
+        .collect()
+}
+
+const MIXED: u64 = 3_000;
+
+fn mixture(rng: &mut Rng) -> RuleFile {
+    let mut file = start(false);
+    let leaf = [
+        Node::Int(1),
+        Node::Str(TEXT),
+        Node::Var(NEW),
+        Node::Var(ROW),
+        Node::Prefix(TEXT),
+    ];
+    let constant = rng.chance(70);
+    let leaf = leaf[rng.below(if constant { 2 } else { 5 })].clone();
+    let ty = [INT, STR, REFERENCE][rng.below(3)];
+    let mut inner = (ty, add(&mut file, leaf));
+    let records = rng.within(0, 100);
+    let var = rng.below(MAX_DEPTH);
+    for at in 0..MAX_DEPTH - 1 {
+        if constant && at == var {
+            bind_constant(&mut file, inner.1);
+            inner.1 = add(&mut file, Node::Var(CONSTANT));
+        }
+        let whole = if rng.chance(records) { Record } else { Union };
+        let half = rng.chance(20) && !(constant && at < var);
+        inner = wrap(&mut file, if half { Half } else { whole }, inner);
+    }
+    keyed(file, inner)
+}
+
+fn bind_constant(file: &mut RuleFile, node: u16) {
+    file.bindings.push(Binding {
+        name: CONSTANT,
+        slot: Slot::Const(node),
+    });
 }
 
 /// A name bound to a record that holds a record, 2,046 times, against a type of
 /// depth 16: the value nests far deeper than any type.
 pub fn deep_constant() -> RuleFile {
-    let mut file = RuleFile {
-        names: vec![b"a".to_vec(), b"constant".to_vec()],
-        types: vec![Type::Int],
-        nodes: vec![Node::Int(1)],
-        ..RuleFile::default()
-    };
-    for ty in 0..MAX_DEPTH as u16 - 1 {
-        file.types.push(Type::Record(vec![(0, ty)]));
+    let mut file = start(false);
+    let mut node = add(&mut file, Node::Int(1));
+    for _ in 0..MOST_READS {
+        node = add(&mut file, Node::Record(vec![(FIELD, node)]));
     }
-    for node in 0..LIMITS[3] as u16 - 2 {
-        file.nodes.push(Node::Record(vec![(0, node)]));
+    bind_constant(&mut file, node);
+    let var = add(&mut file, Node::Var(CONSTANT));
+    let mut ty = INT;
+    for _ in 1..MAX_DEPTH {
+        file.types.push(Type::Record(vec![(FIELD, ty)]));
+        ty = file.types.len() as u16 - 1;
     }
-    file.bindings.push(Binding {
-        name: 1,
-        slot: Slot::Const(file.nodes.len() as u16 - 1),
-    });
-    file.nodes.push(Node::Var(1));
-    file.predicates.push(predicate(MAX_DEPTH - 1));
-    file.levels.push(level(0, file.nodes.len() - 1, 0));
-    file
+    keyed(file, (ty, var))
+}
+
+/// A chain of reads as a key's only field.
+pub fn chain(read: Read, count: usize) -> RuleFile {
+    let mut file = start(matches!(read, Read::KeyAndSelect));
+    let last = reads(&mut file, read, count);
+    let node = add(&mut file, Node::Record(vec![(FIELD, last)]));
+    keyed(file, (KEY, node))
+}
+
+/// The longest chains, each at the end of types of the greatest depth, and each
+/// as a whole key.
+pub fn chains_inside() -> Vec<RuleFile> {
+    let mut files = vec![];
+    for read in READS {
+        for layers in AROUND {
+            let mut file = start(matches!(read, Read::KeyAndSelect));
+            // What is around takes up to two nodes a layer.
+            let last = reads(&mut file, read, LIMITS[3] - 2 * MAX_DEPTH);
+            let key = nest(&mut file, layers, MAX_DEPTH - 1, (REFERENCE, last));
+            files.push(keyed(file, key));
+        }
+        let mut file = start(matches!(read, Read::KeyAndSelect));
+        let last = reads(&mut file, read, MOST_READS);
+        files.push(keyed(file, (KEY, last)));
+    }
+    files
+}
+
+#[cfg(test)]
+mod tests {
+    use super::*;
+    use oracle::front;
+    use oracle::write::write;
+
+    fn checked(file: &RuleFile) -> RuleFile {
+        let bytes = write(file);
+        front(&bytes, MIN_WORK).expect("no check refuses it")
+    }
+
+    #[test]
+    fn every_file_passes_the_checks() {
+        let many = [
+            constants_inside(),
+            reads_inside(),
+            new_vars_inside(),
+            vars_for_constants_inside(),
+            mixed(),
+            chains_inside(),
+        ];
+        for file in many.iter().flatten() {
+            checked(file);
+        }
+        checked(&deep_constant());
+        for read in READS {
+            assert_eq!(checked(&chain(read, MOST_READS)).nodes.len(), LIMITS[3]);
+        }
+    }
+
+    #[test]
+    fn types_go_to_the_limit() {
+        for file in [constants_inside(), mixed(), vars_for_constants_inside()]
+            .iter()
+            .flatten()
+        {
+            assert_eq!(depths(&file.types).into_iter().max(), Some(MAX_DEPTH));
+        }
+    }
 }

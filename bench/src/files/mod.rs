@@ -6,15 +6,14 @@ mod typical;
 mod worst;
 
 use oracle::draw::boundary::plan_of_length;
-use oracle::draw::shape::chain_of;
-use oracle::file::{LIMITS, MAX_PLAN, RuleFile};
+use oracle::file::{MAX_PLAN, RuleFile};
 use oracle::fixed::door::d1;
 use oracle::rng::Rng;
 use oracle::run::answer;
 use oracle::write::write;
 use oracle::{draw, on_large_stack};
 
-use deep::{deep_constant, longest_chain};
+use deep::{MOST_READS, READS, Read};
 
 /// What the Rust side does on a case's files; the exported function always
 /// compiles.
@@ -52,8 +51,6 @@ const MIX_SEED: u64 = 7;
 const MIX: u64 = 1_000;
 /// Drawn files whose stack is measured.
 const MANY: u64 = 20_000;
-/// More reads than this, one inside the other, are a long chain.
-const LONG_CHAIN: usize = 30;
 
 /// Drawn files, but those that the bodies take too long for.
 fn drawn(count: u64) -> Vec<Vec<u8>> {
@@ -91,41 +88,83 @@ pub fn worst() -> Vec<Case> {
     ]
 }
 
-/// The files whose stack is measured, with the size that is to be enough.
-pub fn stacked() -> Vec<(Case, usize)> {
-    const SMALL: usize = 128 << 10;
-    const LARGE: usize = 2 << 20;
-    let (long, short): (Vec<_>, Vec<_>) = drawn(MANY)
-        .into_iter()
-        .partition(|file| longest_chain(file) > LONG_CHAIN);
-    let many = |name, files| Case {
-        name,
-        files,
-        part: Part::Whole,
-    };
-    let all_reads = LIMITS[3] - 2;
-    vec![
-        (case("D1", &d1()), SMALL),
-        (case("typical", &typical::typical()), SMALL),
-        (case("largest file", &large::largest()), SMALL),
-        (case("longest plan", &longest_plan()), SMALL),
-        (case("constant 2,046 deep", &deep_constant()), SMALL),
-        (
-            case("opened, one level", &one_level(worst::opened())),
-            SMALL,
-        ),
-        (
-            case("unions, one level", &one_level(worst::unions())),
-            SMALL,
-        ),
-        (many("drawn, without long chains", short), SMALL),
-        (many("drawn, with long chains", long), LARGE),
-        (case("chain, fetched", &chain_of(all_reads, true)), LARGE),
-        (
-            case("chain, not fetched", &chain_of(all_reads, false)),
-            LARGE,
-        ),
-    ]
+/// Files of one kind, whose stack is measured.
+#[derive(Clone, Copy)]
+pub struct Kind {
+    pub name: &'static str,
+    make: fn() -> Vec<RuleFile>,
+}
+
+/// The drawn files' kind; the other ones are made by hand.
+const DRAWN: &str = "drawn";
+
+impl Kind {
+    pub fn case(self) -> Case {
+        let files = match self.name {
+            DRAWN => draw::files(MIX_SEED, MANY).collect(),
+            _ => (self.make)().iter().map(write).collect(),
+        };
+        Case {
+            name: self.name,
+            files,
+            part: Part::Whole,
+        }
+    }
+}
+
+/// Everyday files, drawn files, and those that go deepest.
+pub const STACKED: [Kind; 28] = [
+    kind("D1", || vec![d1()]),
+    kind("typical", || vec![typical::typical()]),
+    kind("largest file", || vec![large::largest()]),
+    kind("longest plan", || vec![longest_plan()]),
+    kind(DRAWN, Vec::new),
+    kind("opened, one level", || vec![one_level(worst::opened())]),
+    kind("unions, one level", || vec![one_level(worst::unions())]),
+    kind("depth 16, constants inside", deep::constants_inside),
+    kind("depth 16, new Vars inside", deep::new_vars_inside),
+    kind("depth 16, reads inside", deep::reads_inside),
+    kind(
+        "depth 16, Vars for constants inside",
+        deep::vars_for_constants_inside,
+    ),
+    kind("depth 16, mixed", deep::mixed),
+    kind("depth 16, chains of reads inside", deep::chains_inside),
+    kind("constant 2,046 deep", || vec![deep::deep_constant()]),
+    kind("300 accesses", || chains(&[Read::Key], 300)),
+    kind("1,000 accesses", || chains(&[Read::Key], 1_000)),
+    kind("2,046 accesses", || chains(&[Read::Key], MOST_READS)),
+    kind("2,046 accesses, not fetched", || {
+        chains(&[Read::Unfetched], MOST_READS)
+    }),
+    kind("300 value accesses", || chains(&[Read::Value], 300)),
+    kind("1,000 value accesses", || chains(&[Read::Value], 1_000)),
+    kind("2,046 value accesses", || {
+        chains(&[Read::Value], MOST_READS)
+    }),
+    kind("300 selects", || chains(&[Read::Select], 300)),
+    kind("1,000 selects", || chains(&[Read::Select], 1_000)),
+    kind("2,046 selects", || chains(&[Read::Select], MOST_READS)),
+    kind("300 accesses and selects in turns", || {
+        chains(&[Read::KeyAndSelect], 300)
+    }),
+    kind("1,000 accesses and selects in turns", || {
+        chains(&[Read::KeyAndSelect], 1_000)
+    }),
+    kind("2,046 accesses and selects in turns", || {
+        chains(&[Read::KeyAndSelect], MOST_READS)
+    }),
+    kind("chains of every length to 200", || {
+        (1..=200).flat_map(|count| chains(&READS, count)).collect()
+    }),
+];
+
+const fn kind(name: &'static str, make: fn() -> Vec<RuleFile>) -> Kind {
+    Kind { name, make }
+}
+
+fn chains(reads: &[Read], count: usize) -> Vec<RuleFile> {
+    reads.iter().map(|&read| deep::chain(read, count)).collect()
 }
 
 fn longest_plan() -> RuleFile {
@@ -140,7 +179,8 @@ fn one_level(mut file: RuleFile) -> RuleFile {
 #[cfg(test)]
 mod tests {
     use super::*;
-    use oracle::file::{MAX_FILE, MIN_WORK};
+    use deep::deep_constant;
+    use oracle::file::{LIMITS, MAX_FILE, MIN_WORK};
     use oracle::{HAS_BODIES, front as read_and_check};
 
     fn plan_length(file: &RuleFile) -> Result<usize, u8> {
@@ -194,9 +234,11 @@ mod tests {
     }
 
     #[test]
-    fn a_chain_is_measured() {
-        assert_eq!(longest_chain(&write(&chain_of(40, true))), 40);
-        assert_eq!(longest_chain(&write(&d1())), 0);
-        assert_eq!(longest_chain(&[]), 0);
+    fn kinds_have_names_of_their_own() {
+        for (at, kind) in STACKED.iter().enumerate() {
+            let found = STACKED.iter().position(|other| other.name == kind.name);
+            assert_eq!(found, Some(at));
+            assert!(!kind.case().files.is_empty());
+        }
     }
 }
