@@ -1,11 +1,18 @@
 /*
- * Rule files to query plans, by a compile function that is proved.
+ * Sinalvento: rule files to query plans, by a compile function that is proved.
  *
- * For C99 or later, or C++. Link with libcompile.a, which `rt staticlib compile`
- * writes to target/staticlib. It needs nothing but the C library.
+ * For C99 or later, or C++, on x86-64 Linux. `tools/archive` proves the
+ * functions below and writes target/staticlib/libsinalvento.a, which needs
+ * nothing but the C library:
  *
- * Nothing checks this declaration against the Rattle source (crates/compile):
- * whoever changes one changes the other.
+ *     cc -std=c99 -I engine/include game.c target/staticlib/libsinalvento.a -o game
+ *
+ * docs/FORMAT.md tells the rule file and the plan byte by byte.
+ *
+ * engine/tests/declarations.rs holds what is declared here against the Rattle
+ * source (crates/), the Rust crate (engine/src) and the archive.
+ *
+ * Licence: MIT, see NOTICE.
  */
 #ifndef SINALVENTO_H
 #define SINALVENTO_H
@@ -17,12 +24,20 @@
 extern "C" {
 #endif
 
+/* The version of this header, of the archive and of the Rust crate. */
+#define SINALVENTO_VERSION "0.1.0"
+#define SINALVENTO_VERSION_MAJOR 0
+#define SINALVENTO_VERSION_MINOR 1
+#define SINALVENTO_VERSION_PATCH 0
+
 /* The most bytes that a rule file may have. */
 #define SINALVENTO_MAX_FILE 32768
 /* The most bytes that a plan may have: a plan buffer of this size is always long enough. */
 #define SINALVENTO_MAX_PLAN 16384
 /* The fewest bytes that a work area may have. */
 #define SINALVENTO_MIN_WORK 65536
+/* A thread's stack of so many bytes is enough for a call on any file (128 KiB). */
+#define SINALVENTO_STACK 131072
 
 /* Why a file was refused. Places run downwards. */
 enum sinalvento_refusal {
@@ -60,6 +75,15 @@ enum sinalvento_refusal {
  * refusal. Afterwards the work area is all zero, and so is the plan buffer past
  * the plan, or whole after a refusal. The file is only read. No heap is used,
  * nothing is kept, and calls on different memory may run at once.
+ *
+ * Stack: a thread with SINALVENTO_STACK bytes is enough for every file, also
+ * for one that is damaged or made to harm. It is measured, not proved.
+ *
+ * Time: everyday files take microseconds, the largest ones less than a
+ * millisecond. A file can be made that takes seconds, and a call cannot be
+ * broken off. So files of one's own can be compiled where they are loaded;
+ * files from strangers belong on a thread that may wait. docs/BENCH.md has
+ * the figures of both.
  */
 uint64_t sinalvento_compile(const uint8_t *file, size_t file_len,
                             uint8_t *plan, size_t plan_len,
