@@ -87,13 +87,19 @@ fn told(answers: &[Result<Vec<u8>, u8>]) -> String {
     }
 }
 
-/// The stack that is to be enough for every file: sinalvento.h, the crate and
-/// README promise it.
-const STACK: usize = 128 << 10;
+/// The stack that is to be enough for every file: callers are promised it by
+/// the header.
+fn promised() -> usize {
+    let header = include_str!("../../engine/include/sinalvento.h");
+    let lines = header.lines();
+    let mut told = lines.filter_map(|line| line.strip_prefix("#define SINALVENTO_STACK "));
+    let bytes = told.next().and_then(|bytes| bytes.parse().ok());
+    bytes.expect("the header promises a number of bytes")
+}
 
 fn measure_stacks() -> ExitCode {
-    let promised = format!("{} KiB enough", STACK >> 10);
-    let head = ["files", "exported", "Rust", &promised];
+    let enough = format!("{} KiB enough", promised() >> 10);
+    let head = ["files", "exported", "Rust", &enough];
     let mut rows = vec![row(&head)];
     let mut all_enough = true;
     for kind in files::STACKED {
@@ -134,6 +140,6 @@ fn on_thread(name: &str) -> ExitCode {
         return ExitCode::from(2);
     };
     let (case, mut lent) = (kind.case(), Lent::new());
-    stack::on_thread(STACK, || sides::exported(&case, &mut lent));
+    stack::on_thread(promised(), || sides::exported(&case, &mut lent));
     ExitCode::SUCCESS
 }

@@ -34,6 +34,33 @@ fn a_c_program_compiles_d1() {
     assert_eq!(refused, "refused 3\n");
 }
 
+/// The `cc` line that the header and README tell, with this test's program for
+/// the caller's own.
+#[test]
+fn the_line_for_cc_is_as_told() {
+    let root = Path::new(env!("CARGO_MANIFEST_DIR")).join("..");
+    let header = include_str!("../include/sinalvento.h");
+    let readme = include_str!("../../README.md");
+    let program = Path::new(env!("CARGO_TARGET_TMPDIR")).join("game");
+    for text in [header, readme] {
+        let line = text
+            .lines()
+            .find_map(|line| Some(&line[line.find("cc -std=c99 ")?..]));
+        let words = line.expect("an example").split(' ').skip(1);
+        let words = words.map(|word| match word {
+            "game.c" => root.join("engine/tests/c/d1.c"),
+            "game" => program.clone(),
+            "target/staticlib/libsinalvento.a" => env!("SINALVENTO_ARCHIVE").into(),
+            word => word.into(),
+        });
+        let built = Command::new(compiler())
+            .args(words)
+            .current_dir(&root)
+            .status();
+        assert!(built.expect("a C compiler can be run").success());
+    }
+}
+
 /// The header repeats the refusals' words; they must be this crate's.
 #[test]
 fn the_header_has_every_refusal() {
