@@ -60,11 +60,15 @@
 //! # }
 //! ```
 //!
-//! # Memory
+//! # Memory, stack and time
 //!
 //! A compile allocates nothing and keeps nothing: all it uses is what it is
-//! lent, and the caller's stack. Most files need little of that; a file may nest
-//! some 2,000 reads, and then it takes up to 2 MiB (docs/BENCH.md).
+//! lent, and the caller's stack, of which 128 KiB are enough for every file.
+//!
+//! Everyday files take microseconds, the largest ones less than a millisecond.
+//! A file can be made that takes seconds, and a compile cannot be broken off:
+//! files from strangers belong on a thread that may wait. docs/BENCH.md has the
+//! figures.
 //!
 //! # Building
 //!
