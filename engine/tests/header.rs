@@ -34,6 +34,33 @@ fn a_c_program_compiles_d1() {
     assert_eq!(refused, "refused 3\n");
 }
 
+/// The header is for C++ too; tried where there is a compiler for it.
+#[test]
+fn the_header_is_read_as_cpp() {
+    let header = Path::new(env!("CARGO_MANIFEST_DIR")).join("include/sinalvento.h");
+    let compiler = std::env::var("CXX").unwrap_or_else(|_| String::from("c++"));
+    let read = Command::new(compiler)
+        .args([
+            "-std=c++11",
+            "-Wall",
+            "-Wextra",
+            "-Werror",
+            "-fsyntax-only",
+            "-x",
+            "c++",
+        ])
+        .arg(header)
+        .output();
+    match read {
+        Ok(read) => assert!(
+            read.status.success(),
+            "{}",
+            String::from_utf8_lossy(&read.stderr)
+        ),
+        Err(error) => println!("no C++ compiler: {error}"),
+    }
+}
+
 /// The `cc` line that the header and README tell, with this test's program for
 /// the caller's own.
 #[test]
