@@ -106,13 +106,15 @@ fn measure_stacks() -> ExitCode {
         let case = kind.case();
         let mut lent = Lent::new();
         let exported = stack::depth(|| sides::exported(&case, &mut lent));
-        let rust = HAS_BODIES.then(|| stack::depth(|| sides::rust(&case)));
+        let rust = HAS_BODIES
+            .then(|| stack::depth(|| sides::rust(&case)))
+            .flatten();
         let enough = is_enough(case.name);
         all_enough &= enough;
         rows.push(vec![
             format!("{} ({})", case.name, number(case.files.len())),
-            number(exported),
-            rust.map_or(String::from("-"), number),
+            told_or_not(exported),
+            told_or_not(rust),
             String::from(if enough { "yes" } else { "NO" }),
         ]);
     }
@@ -122,6 +124,10 @@ fn measure_stacks() -> ExitCode {
     }
     eprintln!("a call needs more stack than is promised");
     ExitCode::FAILURE
+}
+
+fn told_or_not(depth: Option<usize>) -> String {
+    depth.map_or(String::from("-"), number)
 }
 
 /// Whether the exported function gets through files of a kind on a thread with

@@ -12,7 +12,7 @@
  * engine/tests/declarations.rs holds what is declared here against the Rattle
  * source (crates/), the Rust crate (engine/src) and the archive.
  *
- * Licence: MIT, see NOTICE.
+ * Licence: see NOTICE.
  */
 #ifndef SINALVENTO_H
 #define SINALVENTO_H

@@ -251,6 +251,20 @@ fn version_and_sizes_of_the_header() {
     }
 }
 
+/// The stack that is promised is the same figure wherever callers read of it.
+#[test]
+fn the_stack_is_told_alike() {
+    let bytes: usize = defined("SINALVENTO_STACK").parse().expect("a number");
+    let told = format!("{} KiB", bytes >> 10);
+    for text in [
+        include_str!("../../README.md"),
+        include_str!("../src/lib.rs"),
+        include_str!("../../docs/BENCH.md"),
+    ] {
+        assert!(text.contains(&told), "{told}");
+    }
+}
+
 /// What a changed declaration looks like, so that the readers above are known to see one.
 #[test]
 fn a_difference_is_seen() {
