@@ -169,6 +169,24 @@ fn refusals_by_length_are_at_their_boundary() {
     }
 }
 
+/// "61 levels that each search for a text of 255 letters are enough" for 15,
+/// however long the buffer is.
+#[test]
+fn a_plan_that_no_buffer_holds() {
+    let levels = |count: u8| {
+        let mut file = files::unhex("0100 ff");
+        file.extend([b'a'; 255]);
+        file.extend(files::unhex(
+            "0100 01 0100 0000ffff 0100 010000 0000 0000 0000 0000 0000",
+        ));
+        file.extend([count, 0]);
+        file.extend(vec![0; 6 * usize::from(count)]);
+        file
+    };
+    assert!(answer(&levels(60), 4 * MAX_PLAN, MIN_WORK).is_ok());
+    assert_eq!(answer(&levels(61), 4 * MAX_PLAN, MIN_WORK), Err(15));
+}
+
 /// The file without the bytes from `start` to `end`.
 fn without(file: &[u8], start: usize, end: usize) -> Vec<u8> {
     [&file[..start], &file[end..]].concat()
