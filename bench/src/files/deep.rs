@@ -169,6 +169,32 @@ pub fn constants_inside() -> Vec<RuleFile> {
     .concat()
 }
 
+/// What is neither a constant, a name nor a read of one; a Fact pattern that was
+/// hoisted, and one that was not.
+pub fn other_patterns_inside() -> Vec<RuleFile> {
+    let alone = [
+        Node::Wildcard,
+        Node::Never,
+        Node::Fuzzy(TEXT, 1, Anchor::Whole),
+        Node::Disjunction,
+        Node::Subquery,
+        Node::Arith,
+        Node::Error,
+    ];
+    let alone = alone.map(|node| to_the_limit(1, |file| (STR, add(file, node.clone()))));
+    let fact = |file: &mut RuleFile| {
+        let key = add(file, Node::Wildcard);
+        (REFERENCE, add(file, Node::Fact(0, key)))
+    };
+    let hoisted = |file: &mut RuleFile| {
+        let (ty, node) = fact(file);
+        file.hoisted.push(Hoisted { node, name: ROW });
+        (ty, node)
+    };
+    let facts = [to_the_limit(1, fact), to_the_limit(1, hoisted)];
+    [alone.concat(), facts.concat()].concat()
+}
+
 pub fn reads_inside() -> Vec<RuleFile> {
     let mut files = to_the_limit(1, |file| (REFERENCE, add(file, Node::Var(ROW))));
     for read in READS {
@@ -334,6 +360,7 @@ mod tests {
     fn every_file_passes_the_checks() {
         let many = [
             constants_inside(),
+            other_patterns_inside(),
             reads_inside(),
             new_vars_inside(),
             vars_for_constants_inside(),

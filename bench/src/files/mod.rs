@@ -113,7 +113,7 @@ impl Kind {
 }
 
 /// Everyday files, drawn files, and those that go deepest.
-pub const STACKED: [Kind; 28] = [
+pub const STACKED: [Kind; 29] = [
     kind("D1", || vec![d1()]),
     kind("typical", || vec![typical::typical()]),
     kind("largest file", || vec![large::largest()]),
@@ -124,6 +124,10 @@ pub const STACKED: [Kind; 28] = [
     kind("depth 16, constants inside", deep::constants_inside),
     kind("depth 16, new Vars inside", deep::new_vars_inside),
     kind("depth 16, reads inside", deep::reads_inside),
+    kind(
+        "depth 16, other patterns inside",
+        deep::other_patterns_inside,
+    ),
     kind(
         "depth 16, Vars for constants inside",
         deep::vars_for_constants_inside,
