@@ -63,7 +63,8 @@
 //! # Memory, stack and time
 //!
 //! A compile allocates nothing and keeps nothing: all it uses is what it is
-//! lent, and the caller's stack, of which 128 KiB are enough for every file.
+//! lent, and the caller's stack, of which 128 KiB are enough for every file
+//! (measured, not proved).
 //!
 //! Everyday files take microseconds, the largest ones less than a millisecond.
 //! A file can be made that takes seconds, and a compile cannot be broken off:
