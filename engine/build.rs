@@ -1,13 +1,18 @@
 //! Finds the archive with the exported function: `rt staticlib compile` at the
 //! repository's root proves and builds it, unless SINALVENTO_LIB names a
-//! directory that already holds `libcompile.a`.
+//! directory that already holds `libsinalvento.a`.
+//!
+//! The kit calls an archive by its crate's name; the copy beside it and the one
+//! that is linked are called by the project's.
 
 use std::path::{Path, PathBuf};
 use std::process::Command;
 use std::{env, fs};
 
 const CRATE: &str = "compile";
-const ARCHIVE: &str = "libcompile.a";
+const LIBRARY: &str = "sinalvento";
+const ARCHIVE: &str = "libsinalvento.a";
+const OF_THE_KIT: &str = "libcompile.a";
 
 fn main() {
     println!("cargo::rerun-if-changed=build.rs");
@@ -20,9 +25,9 @@ fn main() {
     // A copy, since the kit empties its target directory now and then.
     let out = PathBuf::from(env::var_os("OUT_DIR").expect("set by cargo"));
     let copy = out.join(ARCHIVE);
-    fs::copy(&archive, &copy).unwrap_or_else(|error| panic!("{}: {error}", archive.display()));
+    copied(&archive, &copy);
     println!("cargo::rustc-link-search=native={}", out.display());
-    println!("cargo::rustc-link-lib=static={CRATE}");
+    println!("cargo::rustc-link-lib=static={LIBRARY}");
     // For the test that links a C program.
     println!("cargo::rustc-env=SINALVENTO_ARCHIVE={}", copy.display());
 }
@@ -32,10 +37,21 @@ fn root() -> PathBuf {
     PathBuf::from(manifest).join("..")
 }
 
+fn copied(from: &Path, to: &Path) {
+    fs::copy(from, to).unwrap_or_else(|error| panic!("{}: {error}", from.display()));
+}
+
+/// The archive in a directory, by the project's name or else by the kit's.
 fn named(directory: &Path) -> PathBuf {
-    let archive = directory.join(ARCHIVE);
-    println!("cargo::rerun-if-changed={}", archive.display());
-    archive
+    let names = [ARCHIVE, OF_THE_KIT].map(|name| directory.join(name));
+    for name in &names {
+        println!("cargo::rerun-if-changed={}", name.display());
+    }
+    let [ours, of_the_kit] = names;
+    if !ours.exists() && of_the_kit.exists() {
+        return of_the_kit;
+    }
+    ours
 }
 
 /// Runs the kit, which proves again only what has changed.
@@ -64,5 +80,8 @@ fn built(root: &Path) -> PathBuf {
         String::from_utf8_lossy(&output.stdout),
         String::from_utf8_lossy(&output.stderr)
     );
-    root.join("target/staticlib").join(ARCHIVE)
+    let directory = root.join("target/staticlib");
+    let archive = directory.join(ARCHIVE);
+    copied(&directory.join(OF_THE_KIT), &archive);
+    archive
 }

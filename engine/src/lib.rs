@@ -75,13 +75,15 @@
 //!
 //! The build script runs `rt staticlib compile` at the repository's root, so
 //! the Rattle kit's `rt` must be on the PATH. Where the archive is built
-//! already, SINALVENTO_LIB names the directory that holds `libcompile.a`.
+//! already, SINALVENTO_LIB names the directory that holds `libsinalvento.a`.
 
 mod buffers;
+mod diagnostic;
 mod exported;
 mod refusal;
 
 pub use buffers::Buffers;
+pub use diagnostic::Diagnostic;
 pub use exported::call;
 pub use refusal::{Place, Refusal};
 
@@ -116,5 +118,5 @@ pub fn compile_into<'a>(
     if number == 0 {
         return Ok(&plan[..length as usize]);
     }
-    Err(Refusal::from_number(number).expect("the contract has no number above 15"))
+    Err(Refusal::given(number))
 }

@@ -7,44 +7,48 @@ use std::fmt;
 /// met front to back is given; of the whole-file checks (8 to 14) each is tried
 /// over the whole file before the next.
 #[derive(Debug, Clone, Copy, PartialEq, Eq, PartialOrd, Ord, Hash)]
-#[repr(u8)]
+#[non_exhaustive]
 pub enum Refusal {
     /// The file has more than [`MAX_FILE`](crate::MAX_FILE) bytes.
-    FileTooLong = 1,
+    FileTooLong,
     /// The work area has fewer than [`MIN_WORK`](crate::MIN_WORK) bytes.
-    WorkTooShort = 2,
+    WorkTooShort,
     /// The file ends too early.
-    Ends = 3,
+    Ends,
     /// A section has more records than it may.
-    Count = 4,
+    Count,
     /// A kind, an anchor or an op has no meaning.
-    Kind = 5,
+    Kind,
     /// A name has a byte that is not ASCII.
-    NameByte = 6,
+    NameByte,
     /// The file ends too late.
-    Follows = 7,
+    Follows,
     /// A name, type, predicate or node is not there.
-    Number = 8,
+    Number,
     /// A type or node stands before one of its children.
-    Child = 9,
+    Child,
     /// A type's names, or a Union's discs, are not distinct.
-    Repeat = 10,
+    Repeat,
     /// A type nests too deep.
-    Depth = 11,
+    Depth,
     /// A node has two parents.
-    Shared = 12,
+    Shared,
     /// A name is bound to a pattern that is not a value.
-    NotConstant = 13,
+    NotConstant,
     /// A binding's or a fetched path could grow too long.
-    Path = 14,
+    Path,
     /// The plan does not fit, by [`MAX_PLAN`](crate::MAX_PLAN) or by its buffer.
-    PlanTooLong = 15,
+    PlanTooLong,
+    /// A number that this crate has no name for: the archive is newer than the
+    /// crate. 255 stands for every number from there on.
+    Unknown(u8),
 }
 
 use Refusal::*;
 
 /// The part of the compile that refuses.
 #[derive(Debug, Clone, Copy, PartialEq, Eq, PartialOrd, Ord, Hash)]
+#[non_exhaustive]
 pub enum Place {
     /// What the caller lends: 1 and 2.
     LentMemory,
@@ -54,10 +58,12 @@ pub enum Place {
     WholeFile,
     /// The plan: 15.
     Writing,
+    /// A part that this crate does not know.
+    Unknown,
 }
 
 impl Refusal {
-    /// All fifteen, in order.
+    /// All that have a name here, in order.
     pub const ALL: [Refusal; 15] = [
         FileTooLong,
         WorkTooShort,
@@ -76,15 +82,38 @@ impl Refusal {
         PlanTooLong,
     ];
 
-    /// 1 to 15.
+    /// The number that the exported function gives.
     pub const fn number(self) -> u8 {
-        self as u8
+        match self {
+            FileTooLong => 1,
+            WorkTooShort => 2,
+            Ends => 3,
+            Count => 4,
+            Kind => 5,
+            NameByte => 6,
+            Follows => 7,
+            Number => 8,
+            Child => 9,
+            Repeat => 10,
+            Depth => 11,
+            Shared => 12,
+            NotConstant => 13,
+            Path => 14,
+            PlanTooLong => 15,
+            Unknown(number) => number,
+        }
     }
 
-    /// The refusal of a number; none where it is not 1 to 15.
+    /// The refusal of a number; none where it has no name here.
     pub fn from_number(number: u64) -> Option<Self> {
         let at = usize::try_from(number.checked_sub(1)?).ok()?;
         Self::ALL.get(at).copied()
+    }
+
+    /// The refusal of a number that the exported function gave, by name or not.
+    pub(crate) fn given(number: u64) -> Self {
+        let unnamed = || Unknown(u8::try_from(number).unwrap_or(u8::MAX));
+        Self::from_number(number).unwrap_or_else(unnamed)
     }
 
     /// The part of the compile that refuses.
@@ -93,7 +122,8 @@ impl Refusal {
             1..=2 => Place::LentMemory,
             3..=7 => Place::Reading,
             8..=14 => Place::WholeFile,
-            _ => Place::Writing,
+            15 => Place::Writing,
+            _ => Place::Unknown,
         }
     }
 
@@ -118,6 +148,7 @@ impl Refusal {
                  or fetched path above 15 steps"
             }
             PlanTooLong => "plan longer than 16,384 bytes or than the plan buffer",
+            Unknown(_) => "a refusal that this version of the crate does not know",
         }
     }
 }
@@ -137,6 +168,7 @@ impl fmt::Display for Place {
             Place::Reading => "reading",
             Place::WholeFile => "whole file",
             Place::Writing => "writing",
+            Place::Unknown => "unknown",
         })
     }
 }
