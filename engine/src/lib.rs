@@ -79,13 +79,20 @@
 
 mod buffers;
 mod diagnostic;
+mod explain;
 mod exported;
+pub mod plan;
 mod refusal;
+pub mod rules;
+pub mod text;
 
 pub use buffers::Buffers;
 pub use diagnostic::Diagnostic;
+pub use explain::{Accepted, Explanation, Fault, Note, Overlooked, explain};
 pub use exported::call;
+pub use plan::Plan;
 pub use refusal::{Place, Refusal};
+pub use rules::RuleFile;
 
 /// The most bytes that a rule file may have.
 pub const MAX_FILE: usize = 32_768;

@@ -172,3 +172,19 @@ impl fmt::Display for Place {
         })
     }
 }
+
+#[cfg(test)]
+mod tests {
+    use super::*;
+
+    #[test]
+    fn a_number_without_a_name_is_kept() {
+        for number in [16, 24, 255] {
+            let refusal = Refusal::given(number);
+            assert_eq!(u64::from(refusal.number()), number);
+            assert_eq!(refusal.place(), Place::Unknown);
+        }
+        assert_eq!(Refusal::given(u64::MAX >> 16), Unknown(255));
+        assert_eq!(Refusal::given(15), PlanTooLong);
+    }
+}

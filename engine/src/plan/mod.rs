@@ -1,0 +1,152 @@
+//! A plan as data: levels with their seeks, and what was added to the four lists.
+//!
+//! [`Plan::read`] opens a plan's bytes, [`Plan::write`] gives them back;
+//! [`Plan::shown`] is for people.
+
+mod read;
+mod show;
+mod values;
+mod write;
+
+pub use read::PlanFault;
+pub use show::Shown;
+pub use values::{Value, values};
+
+use crate::Diagnostic;
+use crate::rules::{Anchor, Binding, Path};
+
+/// A plan.
+#[derive(Debug, Clone, PartialEq, Eq, Default)]
+pub struct Plan {
+    /// Its levels, in the file's order.
+    pub levels: Vec<PlanLevel>,
+    /// New bindings.
+    pub bindings: Vec<Binding>,
+    /// Names that were constrained.
+    pub constrained: Vec<u16>,
+    /// Alternatives that were selected.
+    pub selects: Vec<Select>,
+    /// What is reported of nodes.
+    pub diagnostics: Vec<(u16, Diagnostic)>,
+}
+
+/// A level of a plan.
+#[derive(Debug, Clone, PartialEq, Eq)]
+pub struct PlanLevel {
+    /// How many narrowings its walk met.
+    pub narrowings: u16,
+    /// How many of its parts are closers.
+    pub closers: u16,
+    /// How many parts it has.
+    pub parts: u16,
+    /// How its facts are found.
+    pub seek: Seek,
+    /// A fuzzy text that guides the seek.
+    pub guide: Option<Guide>,
+    /// What each fact found is still tested by.
+    pub residuals: Vec<Residual>,
+    /// The comparisons that the seek's edges took over.
+    pub folded: Vec<u16>,
+}
+
+/// How a level's facts are found.
+#[derive(Debug, Clone, PartialEq, Eq)]
+pub enum Seek {
+    /// Keys that begin with these bytes.
+    Prefix(Vec<u8>),
+    /// Keys that begin with these parts.
+    Composite(Vec<Part>),
+    /// Keys that begin with these parts, then with a text at a path.
+    PrefixRange(Vec<Part>, Vec<u8>, Path),
+    /// Keys that begin with these parts, then lie between edges, lo and hi.
+    Bounded(Vec<Part>, Option<Edge>, Option<Edge>),
+}
+
+/// A part of a key's beginning.
+#[derive(Debug, Clone, PartialEq, Eq)]
+pub enum Part {
+    /// Bytes.
+    Bytes(Vec<u8>),
+    /// A field of a register's key.
+    RegisterField(u16, Path),
+    /// The reference to a register's fact.
+    RegisterFact(u16),
+}
+
+/// An end of a range.
+#[derive(Debug, Clone, PartialEq, Eq)]
+pub struct Edge {
+    /// Whether the bytes themselves belong to the range.
+    pub inclusive: bool,
+    /// The bytes.
+    pub bytes: Vec<u8>,
+}
+
+/// A text that a field is near to.
+#[derive(Debug, Clone, Copy, PartialEq, Eq)]
+pub struct Fuzzy {
+    /// The text, by its name's number.
+    pub name: u16,
+    /// How far it may be.
+    pub distance: u8,
+    /// Which part of the field is held against it.
+    pub anchor: Anchor,
+}
+
+/// A fuzzy text that guides a seek.
+#[derive(Debug, Clone, PartialEq, Eq)]
+pub struct Guide {
+    /// The field.
+    pub path: Path,
+    /// The text.
+    pub fuzzy: Fuzzy,
+}
+
+/// A test of each fact that a seek finds.
+#[derive(Debug, Clone, PartialEq, Eq)]
+pub struct Residual {
+    /// The field.
+    pub path: Path,
+    /// What it must be.
+    pub op: ResidualOp,
+}
+
+/// What a residual's field must be.
+#[derive(Debug, Clone, PartialEq, Eq)]
+pub enum ResidualOp {
+    /// These bytes.
+    Bytes(Vec<u8>),
+    /// A text that begins so.
+    Prefix(Vec<u8>),
+    /// Equal to a field of a register's key.
+    RegisterField(u16, Path),
+    /// The reference to a register's fact.
+    RegisterFact(u16),
+    /// A union's alternative.
+    Disc(u32),
+    /// A text near to another.
+    Fuzzy(Fuzzy),
+}
+
+/// An alternative that was selected: the union's place, and the disc.
+#[derive(Debug, Clone, PartialEq, Eq)]
+pub struct Select {
+    /// The register.
+    pub address: u16,
+    /// The union's own path.
+    pub path: Path,
+    /// The alternative's disc.
+    pub disc: u32,
+}
+
+impl Seek {
+    /// What it is called.
+    pub const fn name(&self) -> &'static str {
+        match self {
+            Seek::Prefix(_) => "Prefix",
+            Seek::Composite(_) => "Composite",
+            Seek::PrefixRange(..) => "PrefixRange",
+            Seek::Bounded(..) => "Bounded",
+        }
+    }
+}

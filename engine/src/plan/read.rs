@@ -1,0 +1,226 @@
+//! A plan opened from its bytes.
+
+use std::error::Error;
+use std::fmt;
+
+use super::*;
+use crate::rules::{NONE, Slot};
+
+/// Why bytes are no plan.
+#[derive(Debug, Clone, Copy, PartialEq, Eq)]
+#[non_exhaustive]
+pub enum PlanFault {
+    /// They end at this offset, inside an item.
+    Ends(usize),
+    /// The byte at this offset has no meaning.
+    Byte(usize),
+    /// The plan ends at this offset, and the bytes do not.
+    Follows(usize),
+}
+
+impl fmt::Display for PlanFault {
+    fn fmt(&self, f: &mut fmt::Formatter<'_>) -> fmt::Result {
+        match self {
+            PlanFault::Ends(at) => write!(f, "the plan ends early, at offset {at}"),
+            PlanFault::Byte(at) => write!(f, "the byte at offset {at} has no meaning in a plan"),
+            PlanFault::Follows(at) => write!(f, "bytes follow the plan, from offset {at} on"),
+        }
+    }
+}
+
+impl Error for PlanFault {}
+
+type Read<T> = Result<T, PlanFault>;
+
+impl Plan {
+    /// Opens a plan's bytes.
+    ///
+    /// This reads the form alone: whether a level keeps the rules that every
+    /// compiled plan keeps is not looked at.
+    pub fn read(bytes: &[u8]) -> Result<Self, PlanFault> {
+        let mut reader = Reader { bytes, at: 0 };
+        let plan = Plan {
+            levels: reader.list(Reader::level)?,
+            bindings: reader.list(Reader::binding)?,
+            constrained: reader.list(Reader::u16)?,
+            selects: reader.list(Reader::select)?,
+            diagnostics: reader.list(Reader::diagnostic)?,
+        };
+        if reader.at < bytes.len() {
+            return Err(PlanFault::Follows(reader.at));
+        }
+        Ok(plan)
+    }
+}
+
+struct Reader<'a> {
+    bytes: &'a [u8],
+    at: usize,
+}
+
+impl Reader<'_> {
+    fn array<const N: usize>(&mut self) -> Read<[u8; N]> {
+        let rest = &self.bytes[self.at..];
+        let found = *rest
+            .first_chunk()
+            .ok_or(PlanFault::Ends(self.bytes.len()))?;
+        self.at += N;
+        Ok(found)
+    }
+
+    fn u8(&mut self) -> Read<u8> {
+        self.array().map(|[byte]| byte)
+    }
+
+    fn u16(&mut self) -> Read<u16> {
+        self.array().map(u16::from_le_bytes)
+    }
+
+    fn u32(&mut self) -> Read<u32> {
+        self.array().map(u32::from_le_bytes)
+    }
+
+    /// The byte before has no meaning.
+    fn meaningless<T>(&self) -> Read<T> {
+        Err(PlanFault::Byte(self.at - 1))
+    }
+
+    fn list<T>(&mut self, each: impl Fn(&mut Self) -> Read<T>) -> Read<Vec<T>> {
+        let count = self.u16()?;
+        (0..count).map(|_| each(self)).collect()
+    }
+
+    fn text(&mut self) -> Read<Vec<u8>> {
+        self.list(Self::u8)
+    }
+
+    fn path(&mut self) -> Read<Path> {
+        let field = self.u16()?;
+        let count = self.u8()?;
+        let steps: Read<Vec<u32>> = (0..count).map(|_| self.u32()).collect();
+        Ok(Path {
+            field,
+            steps: steps?,
+        })
+    }
+
+    fn level(&mut self) -> Read<PlanLevel> {
+        let (narrowings, closers, parts) = (self.u16()?, self.u16()?, self.u16()?);
+        Ok(PlanLevel {
+            narrowings,
+            closers,
+            parts,
+            seek: self.seek(parts)?,
+            guide: self.guide()?,
+            residuals: self.list(Self::residual)?,
+            folded: self.list(Self::u16)?,
+        })
+    }
+
+    fn seek(&mut self, count: u16) -> Read<Seek> {
+        match self.u8()? {
+            0 => Ok(Seek::Prefix(self.text()?)),
+            1 => Ok(Seek::Composite(self.parts(count)?)),
+            2 => Ok(Seek::PrefixRange(
+                self.parts(count)?,
+                self.text()?,
+                self.path()?,
+            )),
+            3 => Ok(Seek::Bounded(
+                self.parts(count)?,
+                self.edge()?,
+                self.edge()?,
+            )),
+            _ => self.meaningless(),
+        }
+    }
+
+    fn parts(&mut self, count: u16) -> Read<Vec<Part>> {
+        (0..count).map(|_| self.part()).collect()
+    }
+
+    fn part(&mut self) -> Read<Part> {
+        match self.u8()? {
+            0 => Ok(Part::Bytes(self.text()?)),
+            1 => Ok(Part::RegisterField(self.u16()?, self.path()?)),
+            2 => Ok(Part::RegisterFact(self.u16()?)),
+            _ => self.meaningless(),
+        }
+    }
+
+    fn edge(&mut self) -> Read<Option<Edge>> {
+        let inclusive = match self.u8()? {
+            0 => return Ok(None),
+            1 => false,
+            2 => true,
+            _ => return self.meaningless(),
+        };
+        let bytes = self.text()?;
+        Ok(Some(Edge { inclusive, bytes }))
+    }
+
+    fn guide(&mut self) -> Read<Option<Guide>> {
+        match self.u8()? {
+            0 => Ok(None),
+            1 => Ok(Some(Guide {
+                path: self.path()?,
+                fuzzy: self.fuzzy()?,
+            })),
+            _ => self.meaningless(),
+        }
+    }
+
+    fn fuzzy(&mut self) -> Read<Fuzzy> {
+        let (name, distance) = (self.u16()?, self.u8()?);
+        let anchor = match self.u8()? {
+            0 => Anchor::Prefix,
+            1 => Anchor::Whole,
+            _ => return self.meaningless(),
+        };
+        Ok(Fuzzy {
+            name,
+            distance,
+            anchor,
+        })
+    }
+
+    fn residual(&mut self) -> Read<Residual> {
+        let path = self.path()?;
+        let op = match self.u8()? {
+            0 => ResidualOp::Bytes(self.text()?),
+            1 => ResidualOp::Prefix(self.text()?),
+            2 => ResidualOp::RegisterField(self.u16()?, self.path()?),
+            3 => ResidualOp::RegisterFact(self.u16()?),
+            4 => ResidualOp::Disc(self.u32()?),
+            5 => ResidualOp::Fuzzy(self.fuzzy()?),
+            _ => return self.meaningless(),
+        };
+        Ok(Residual { path, op })
+    }
+
+    fn binding(&mut self) -> Read<Binding> {
+        let name = self.u16()?;
+        let slot = match self.u8()? {
+            0 => Slot::Row(self.u16()?, Some(self.u16()?).filter(|&p| p != NONE)),
+            1 => Slot::Key(self.u16()?, self.u16()?),
+            2 => Slot::Derived(self.u16()?),
+            3 => Slot::Field(self.u16()?, self.path()?, self.u16()?),
+            4 => Slot::Value(self.u16()?, self.u16()?),
+            5 => Slot::Const(self.u16()?),
+            _ => return self.meaningless(),
+        };
+        Ok(Binding { name, slot })
+    }
+
+    fn select(&mut self) -> Read<Select> {
+        Ok(Select {
+            address: self.u16()?,
+            path: self.path()?,
+            disc: self.u32()?,
+        })
+    }
+
+    fn diagnostic(&mut self) -> Read<(u16, Diagnostic)> {
+        Ok((self.u16()?, Diagnostic::from_code(self.u8()?)))
+    }
+}
