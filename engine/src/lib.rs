@@ -60,6 +60,13 @@
 //! # }
 //! ```
 //!
+//! # For people
+//!
+//! [`explain`] says where and why a file is refused, or what its plan reports;
+//! [`text`] has rule files as text; [`RuleFile`] and [`Plan`] are the two formats as
+//! data, and [`Plan::shown`] is a plan in words. All this is ordinary Rust beside
+//! the proved function, and tested against it.
+//!
 //! # Memory, stack and time
 //!
 //! A compile allocates nothing and keeps nothing: all it uses is what it is

@@ -44,6 +44,30 @@ fn bytes_that_are_no_plan() {
     }
 }
 
+/// A mistyped prefix is reported and leaves no part; a name with two values has
+/// two: then a part's field is not told.
+#[test]
+fn fields_are_named_only_where_they_are_sure() {
+    let mut buffers = Buffers::new();
+    for (rules, line) in [
+        ("level p { a = \"f\"~1, b = 1 }", "    part: 1\n"),
+        (
+            "level p { a = x, b = 1 } where x = 2 where x = 3",
+            "    part: 2\n",
+        ),
+        (
+            "level p { a = x, b = 1 } where x = 2",
+            "    part: a = 2\n    part: b = 1\n",
+        ),
+    ] {
+        let text = format!("predicate p: {{ a: Int, b: Int }} {rules}");
+        let rules = sinalvento::text::parse(&text).expect("it parses").rules;
+        let bytes = compile(&rules.write(), &mut buffers).expect("it is accepted");
+        let shown = Plan::read(bytes).expect("a plan").shown(&rules).to_string();
+        assert!(shown.contains(line), "{shown}");
+    }
+}
+
 #[test]
 fn d1_as_people_read_it() {
     let rules = RuleFile::read(&files::d1()).expect("D1 reads");
@@ -54,6 +78,6 @@ fn d1_as_people_read_it() {
     );
     assert_eq!(
         plan.to_string(),
-        "level 0: seek PrefixRange, 2 narrowings, 1 part\n    part: [0] = 7\n    range: [1] = \"k\"..\n"
+        "level 0: seek PrefixRange, 2 narrowings, 1 part\n    part: 7\n    range: [1] = \"k\"..\n"
     );
 }

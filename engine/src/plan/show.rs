@@ -4,7 +4,7 @@ use std::fmt;
 
 use super::values::{Piece, alternative, pieces, prefix, values};
 use super::*;
-use crate::rules::{RuleFile, Slot, Type};
+use crate::rules::{Node, RuleFile, Slot, Type};
 use crate::text::{shown_bytes, shown_name, shown_text};
 
 /// A plan as people read it, with the names of its rule file if that is at hand.
@@ -73,15 +73,20 @@ impl fmt::Display for Shown<'_> {
             writeln!(f, "selects {name} of {place}")?;
         }
         for (node, diagnostic) in &self.plan.diagnostics {
-            writeln!(f, "node {node}: code {} {diagnostic}", diagnostic.code())?;
+            let (code, name) = (diagnostic.code(), diagnostic.name());
+            writeln!(f, "node {node}: code {code} {name}")?;
         }
         Ok(())
     }
 }
 
 /// The key's type of a level, and where in it a seek's next part belongs.
+///
+/// A plan does not say it: parts are of one field after the other, unless
+/// something before them was reported, or a name has two values.
 struct Cursor<'a> {
     key: Option<&'a Type>,
+    sure: bool,
     field: u16,
     open: Vec<u32>,
 }
@@ -124,6 +129,7 @@ impl<'a> Shown<'a> {
         let key = of_file.and_then(|level| self.rules?.key_of(level));
         let mut cursor = Cursor {
             key,
+            sure: self.in_order(),
             field: 0,
             open: vec![],
         };
@@ -157,7 +163,12 @@ impl<'a> Shown<'a> {
         words.join(", ")
     }
 
-    fn seek(&self, f: &mut fmt::Formatter<'_>, seek: &Seek, cursor: &mut Cursor) -> fmt::Result {
+    fn seek(
+        &self,
+        f: &mut fmt::Formatter<'_>,
+        seek: &Seek,
+        cursor: &mut Cursor<'a>,
+    ) -> fmt::Result {
         match seek {
             Seek::Prefix(bytes) if bytes.is_empty() => writeln!(f, "    every fact"),
             Seek::Prefix(bytes) => self.pieces(f, bytes, cursor),
@@ -180,64 +191,107 @@ impl<'a> Shown<'a> {
         f: &mut fmt::Formatter<'_>,
         edge: Option<&Edge>,
         signs: [&str; 2],
-        cursor: &Cursor,
+        cursor: &Cursor<'a>,
     ) -> fmt::Result {
         let Some(Edge { inclusive, bytes }) = edge else {
             return Ok(());
         };
-        let (place, ty) = self.place(cursor.key, &cursor.path());
+        let (place, ty) = self.next_place(cursor);
         let sign = signs[usize::from(*inclusive)];
-        writeln!(f, "    edge: {place} {sign} {}", self.value(bytes, ty))
+        let value = self.value(bytes, ty);
+        match place {
+            Some(place) => writeln!(f, "    edge: {place} {sign} {value}"),
+            None => writeln!(f, "    edge: {sign} {value}"),
+        }
     }
 
     fn parts(
         &self,
         f: &mut fmt::Formatter<'_>,
         parts: &[Part],
-        cursor: &mut Cursor,
+        cursor: &mut Cursor<'a>,
     ) -> fmt::Result {
         for part in parts {
-            let (place, _) = self.place(cursor.key, &cursor.path());
-            match part {
+            let value = match part {
                 Part::Bytes(bytes) => {
                     self.pieces(f, bytes, cursor)?;
                     continue;
                 }
-                Part::RegisterField(address, path) => {
-                    let (register, _) = self.register(*address, path);
-                    writeln!(f, "    part: {place} = {register}")?;
-                }
-                Part::RegisterFact(address) => writeln!(f, "    part: {place} = row r{address}")?,
-            }
+                Part::RegisterField(address, path) => self.register(*address, path).0,
+                Part::RegisterFact(address) => format!("row r{address}"),
+            };
+            let (place, _) = self.next_place(cursor);
+            writeln!(f, "    part: {}{value}", equal(place))?;
             cursor.pass();
         }
         Ok(())
     }
 
-    fn pieces(&self, f: &mut fmt::Formatter<'_>, bytes: &[u8], cursor: &mut Cursor) -> fmt::Result {
+    fn pieces(
+        &self,
+        f: &mut fmt::Formatter<'_>,
+        bytes: &[u8],
+        cursor: &mut Cursor<'a>,
+    ) -> fmt::Result {
         for piece in pieces(bytes) {
-            let (place, ty) = self.place(cursor.key, &cursor.path());
+            let (place, ty) = self.next_place(cursor);
             match piece {
                 Piece::Value(value) => {
-                    writeln!(f, "    part: {place} = {}", value.shown(self.rules, ty))?;
+                    let value = value.shown(self.rules, ty);
+                    writeln!(f, "    part: {}{value}", equal(place))?;
                     cursor.pass();
                 }
                 Piece::Tag(disc) => {
                     let found = alternative(self.rules, ty, disc);
                     let name = found.map_or_else(|| disc.to_string(), |(name, _)| name);
+                    let place = place.as_deref().unwrap_or("a union");
                     writeln!(f, "    part: {place} is {name}")?;
                     cursor.open.push(disc);
                 }
                 Piece::Closer => {
                     cursor.open.pop();
-                    let (place, _) = self.place(cursor.key, &cursor.path());
-                    writeln!(f, "    part: {place} ends")?;
+                    let (place, _) = self.next_place(cursor);
+                    writeln!(
+                        f,
+                        "    part: {} ends",
+                        place.as_deref().unwrap_or("a union")
+                    )?;
                     cursor.pass();
                 }
                 Piece::Other(bytes) => writeln!(f, "    part: {}", shown_bytes(&bytes))?,
             }
         }
         Ok(())
+    }
+
+    /// Where the next part belongs, if that is sure.
+    fn next_place(&self, cursor: &Cursor<'a>) -> (Option<String>, Option<&'a Type>) {
+        match self.named(cursor.key, &cursor.path()) {
+            Some((place, ty)) if cursor.sure => (Some(place), Some(ty)),
+            _ => (None, None),
+        }
+    }
+
+    /// Whether a level's parts are of one field after the other.
+    fn in_order(&self) -> bool {
+        let passes = |code: u8| matches!(code, 4 | 6 | 8);
+        let mut reported = self.plan.diagnostics.iter();
+        let mut constrained = self.plan.constrained.iter();
+        !reported.any(|(_, diagnostic)| passes(diagnostic.code()))
+            && constrained.all(|name| self.values_of(*name) < 2)
+    }
+
+    /// How many constraints of a name may be parts.
+    fn values_of(&self, name: u16) -> usize {
+        let Some(rules) = self.rules else {
+            return 0;
+        };
+        let ranged = |node: u16| {
+            let node = rules.node(node);
+            matches!(node, Some(Node::Prefix(_) | Node::Fuzzy(..)))
+        };
+        let of_name = rules.constraints.iter().filter(|each| each.name == name);
+        of_name.filter(|each| !ranged(each.node)).count()
     }
 
     fn residual(&self, key: Option<&'a Type>, residual: &Residual) -> String {
@@ -331,6 +385,10 @@ impl<'a> Shown<'a> {
         }
         Some((place, ty))
     }
+}
+
+fn equal(place: Option<String>) -> String {
+    place.map_or_else(String::new, |place| format!("{place} = "))
 }
 
 /// `[1/0/2]`.

@@ -179,18 +179,21 @@ impl<'a> Printer<'a> {
         Some(doc)
     }
 
-    /// A type that was written before.
+    /// A type that was written before: by its content if a parser finds it by
+    /// that, else by its label.
     fn again(&self, number: u16) -> Doc {
-        if self.declared.contains(&number) {
-            return Doc::text(format!("t{number}"));
-        }
         let first = self.first_type[usize::from(number)];
-        let content = self
-            .rules
-            .ty(number)
-            .filter(|ty| first && ty.children().is_empty());
-        let doc = content.and_then(|ty| self.content(ty, &mut 0, 0));
-        doc.unwrap_or_else(|| Doc::text(format!("#{number}")))
+        let content = self.rules.ty(number);
+        let content = content.filter(|ty| first && ty.children().is_empty());
+        if let Some(doc) = content.and_then(|ty| self.content(ty, &mut 0, 0)) {
+            return doc;
+        }
+        let sign = if self.declared.contains(&number) {
+            't'
+        } else {
+            '#'
+        };
+        Doc::text(format!("{sign}{number}"))
     }
 
     fn content(&self, content: &Type, count: &mut usize, depth: usize) -> Option<Doc> {
