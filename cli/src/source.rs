@@ -1,0 +1,107 @@
+//! A rule file as it was handed in: bytes, or text that was built to bytes.
+
+use std::fs::File;
+use std::io::{self, Read};
+use std::path::Path;
+
+use sinalvento::rules::Section;
+use sinalvento::text::{self, Parsed};
+
+use crate::arguments::Form;
+
+/// No rule file, nor its text, comes near this many bytes.
+const MOST: u64 = 4 << 20;
+
+/// A rule file, with its text if it came as one.
+pub struct Source {
+    /// What it is called in messages.
+    pub name: String,
+    pub bytes: Vec<u8>,
+    pub parsed: Option<Parsed>,
+}
+
+/// Why there is no rule file.
+pub enum Trouble {
+    /// It cannot be read.
+    Io(String),
+    /// Its text has a fault.
+    Text(String),
+}
+
+impl Source {
+    pub fn read(file: &str, form: Form) -> Result<Self, Trouble> {
+        let name = if file == "-" { "standard input" } else { file };
+        let bytes = contents(file).map_err(|error| Trouble::Io(format!("{name}: {error}\n")))?;
+        let name = String::from(name);
+        if !is_text(file, form) {
+            let parsed = None;
+            return Ok(Self {
+                name,
+                bytes,
+                parsed,
+            });
+        }
+        let text = String::from_utf8(bytes).map_err(|error| {
+            let (line, column) = place(error.as_bytes(), error.utf8_error().valid_up_to());
+            Trouble::Text(format!(
+                "{name}: line {line}, column {column}: this is no UTF-8 text\n"
+            ))
+        })?;
+        let parsed = text::parse(&text);
+        let parsed = parsed.map_err(|fault| Trouble::Text(format!("{name}: {fault}\n")))?;
+        Ok(Self {
+            name,
+            bytes: parsed.rules.write(),
+            parsed: Some(parsed),
+        })
+    }
+
+    /// Where a record stands: the file's name, and its place in the text.
+    pub fn place(&self, section: Section, record: usize) -> String {
+        let places = self.parsed.as_ref().map(|parsed| &parsed.places);
+        match places.and_then(|places| places.of(section, record)) {
+            Some(position) => format!("{}: {position}", self.name),
+            None => self.name.clone(),
+        }
+    }
+
+    /// The predicates' labels, if there is a text that has them.
+    pub fn predicates(&self) -> &[String] {
+        self.parsed
+            .as_ref()
+            .map_or(&[], |parsed| &parsed.predicates)
+    }
+}
+
+fn is_text(file: &str, form: Form) -> bool {
+    match form {
+        Form::Text => true,
+        Form::Bytes => false,
+        Form::ByName => Path::new(file)
+            .extension()
+            .is_some_and(|ending| ending == "rules"),
+    }
+}
+
+fn contents(file: &str) -> io::Result<Vec<u8>> {
+    let mut bytes = vec![];
+    if file == "-" {
+        io::stdin().lock().take(MOST + 1).read_to_end(&mut bytes)?;
+    } else {
+        File::open(file)?.take(MOST + 1).read_to_end(&mut bytes)?;
+    }
+    if bytes.len() as u64 > MOST {
+        return Err(io::Error::other(
+            "this is longer than any rule file or its text",
+        ));
+    }
+    Ok(bytes)
+}
+
+/// The line and column of an offset, before which all is text.
+fn place(bytes: &[u8], offset: usize) -> (usize, usize) {
+    let before = String::from_utf8_lossy(&bytes[..offset]);
+    let line = 1 + before.matches('\n').count();
+    let last = before.rsplit('\n').next().unwrap_or_default();
+    (line, 1 + last.chars().count())
+}
