@@ -3,7 +3,8 @@
 mod drawn;
 mod files;
 
-use sinalvento::RuleFile;
+use drawn::Rng;
+use sinalvento::rules::*;
 use sinalvento::text::{parse, print};
 
 /// Text, then bytes again: the same file, and from there the same text.
@@ -26,75 +27,132 @@ fn every_file_that_reads() {
     assert!(count > 5_000, "{count}");
 }
 
-/// No number in range, no name that is a word, names twice.
+const BYTES: [u8; 8] = [0, b'a', b'"', b'`', b'\\', b'_', b'\n', 0x7F];
+
+fn any_name(rng: &mut Rng) -> Vec<u8> {
+    let length = rng.below(4);
+    (0..length).map(|_| BYTES[rng.below(8)]).collect()
+}
+
+/// A small number, now and then none of any table.
+fn any_number(rng: &mut Rng) -> u16 {
+    match rng.below(12) {
+        0 => 0xFFFE,
+        1..=4 => rng.below(4) as u16,
+        _ => rng.below(9) as u16,
+    }
+}
+
+fn any_type(rng: &mut Rng) -> Type {
+    let (name, ty) = (any_number(rng), any_number(rng));
+    let disc = rng.below(2) as u32;
+    match rng.below(6) {
+        0 => Type::Int,
+        1 => Type::Str,
+        2 => Type::Fact(any_number(rng)),
+        3 => Type::Union(vec![Alternative { name, disc, ty }]),
+        4 => Type::Record(vec![]),
+        _ => {
+            let second = FieldType {
+                name: any_number(rng),
+                ty: any_number(rng),
+            };
+            Type::Record(vec![FieldType { name, ty }, second])
+        }
+    }
+}
+
+fn any_node(rng: &mut Rng) -> Node {
+    let (name, node) = (any_number(rng), any_number(rng));
+    match rng.below(10) {
+        0 => Node::Var(name),
+        1 => Node::Str(name),
+        2 => Node::Prefix(name),
+        3 => Node::Fuzzy(name, 2, [Anchor::Prefix, Anchor::Whole][rng.below(2)]),
+        4 => Node::KeyAccess(name, node),
+        5 => Node::ValueAccess(node),
+        6 => Node::Select(name, node),
+        7 => Node::Fact(name, node),
+        8 => Node::Int(-1),
+        _ => {
+            let second = FieldPattern {
+                name: any_number(rng),
+                node: any_number(rng),
+            };
+            Node::Record(vec![FieldPattern { name, node }, second])
+        }
+    }
+}
+
+fn any_slot(rng: &mut Rng) -> Slot {
+    let (address, number) = (any_number(rng), any_number(rng));
+    let path = Path {
+        field: 1,
+        steps: vec![u32::MAX, 0],
+    };
+    match rng.below(6) {
+        0 => Slot::Row(address, [None, Some(number)][rng.below(2)]),
+        1 => Slot::Key(address, number),
+        2 => Slot::Derived(address),
+        3 => Slot::Field(address, path, number),
+        4 => Slot::Value(address, number),
+        _ => Slot::Const(number),
+    }
+}
+
+fn some<T>(rng: &mut Rng, most: usize, each: impl Fn(&mut Rng) -> T) -> Vec<T> {
+    let count = rng.below(most + 1);
+    (0..count).map(|_| each(rng)).collect()
+}
+
+fn any_rules(rng: &mut Rng) -> RuleFile {
+    let two = |rng: &mut Rng| (any_number(rng), any_number(rng));
+    let predicate = |rng: &mut Rng| {
+        let (key, value) = two(rng);
+        let value = [None, Some(value)][rng.below(2)];
+        Predicate { key, value }
+    };
+    let binding = |rng: &mut Rng| {
+        let (name, slot) = (any_number(rng), any_slot(rng));
+        Binding { name, slot }
+    };
+    let comparison = |rng: &mut Rng| {
+        let (op, (left, right)) = (Op::ALL[rng.below(4)], two(rng));
+        Comparison { op, left, right }
+    };
+    let level = |rng: &mut Rng| {
+        let ((predicate, node), address) = (two(rng), any_number(rng));
+        Level {
+            predicate,
+            node,
+            address,
+        }
+    };
+    let named = |rng: &mut Rng| {
+        let (name, node) = two(rng);
+        (Hoisted { node, name }, Constraint { name, node })
+    };
+    RuleFile {
+        names: some(rng, 6, any_name),
+        types: some(rng, 8, any_type),
+        predicates: some(rng, 3, predicate),
+        nodes: some(rng, 10, any_node),
+        bindings: some(rng, 3, binding),
+        hoisted: some(rng, 2, |rng| named(rng).0),
+        fetched: vec![],
+        constraints: some(rng, 2, |rng| named(rng).1),
+        comparisons: some(rng, 2, comparison),
+        levels: some(rng, 3, level),
+    }
+}
+
+/// Numbers out of range, names that are no words, names twice, parents first.
 #[test]
 fn names_and_numbers_that_say_nothing() {
-    let mut rng = drawn::Rng(11);
-    for _ in 0..2_000 {
-        let names: Vec<Vec<u8>> = (0..rng.below(6))
-            .map(|_| {
-                (0..rng.below(4))
-                    .map(|_| [0, b'a', b'"', b'`', b'\\', b'_', b'\n', 0x7F][rng.below(8)])
-                    .collect()
-            })
-            .collect();
-        let mut file = vec![names.len() as u8, 0];
-        for name in &names {
-            file.push(name.len() as u8);
-            file.extend(name);
-        }
-        let types = rng.below(6);
-        file.extend([types as u8, 0]);
-        for _ in 0..types {
-            match rng.below(4) {
-                0 => file.push(rng.below(3) as u8),
-                1 => file.extend([3, rng.below(3) as u8, 0]),
-                2 => file.extend([
-                    4,
-                    2,
-                    rng.below(6) as u8,
-                    0,
-                    rng.below(7) as u8,
-                    0,
-                    rng.below(6) as u8,
-                    0,
-                    rng.below(7) as u8,
-                    0,
-                ]),
-                _ => file.extend([
-                    5,
-                    1,
-                    rng.below(6) as u8,
-                    0,
-                    rng.below(2) as u8,
-                    0,
-                    0,
-                    0,
-                    rng.below(7) as u8,
-                    0,
-                ]),
-            }
-        }
-        file.extend([1, 0, rng.below(7) as u8, 0, 0xFF, 0xFF]);
-        let nodes = rng.below(8);
-        file.extend([nodes as u8, 0]);
-        for _ in 0..nodes {
-            let mut number = || [rng.below(9) as u8, 0];
-            let (a, b) = (number(), number());
-            match rng.below(6) {
-                0 => file.extend([3, a[0], 0]),
-                1 => file.extend([9, a[0], 0, b[0], 0]),
-                2 => file.extend([8, 2, a[0], 0, b[0], 0, b[0], 0, a[0], 0]),
-                3 => file.extend([14, a[0] % 2, 0, b[0], 0]),
-                4 => file.extend([7, a[0], 0, 2, b[0] % 2]),
-                _ => file.extend([4 + 8 * (a[0] % 2)]),
-            }
-        }
-        file.extend([0; 6]);
-        file.extend([1, 0, rng.below(6) as u8, 0, rng.below(9) as u8, 0]);
-        file.extend([1, 0, 2, rng.below(9) as u8, 0, rng.below(9) as u8, 0]);
-        file.extend([1, 0, rng.below(2) as u8, 0, rng.below(9) as u8, 0, 3, 0]);
-        assert!(there_and_back(&file), "{file:02x?}");
+    let mut rng = Rng(11);
+    for _ in 0..5_000 {
+        let rules = any_rules(&mut rng);
+        assert!(there_and_back(&rules.write()), "{rules:?}");
     }
 }
 
@@ -108,9 +166,7 @@ fn d1_needs_no_number() {
     );
 }
 
-#[test]
-fn every_statement() {
-    let text = r#"
+const EVERY_STATEMENT: &str = r#"
 // A comment.
 names first, "second text", `third`
 type side = union { left: Int, right = 9: Str }
@@ -142,7 +198,10 @@ level lock(_)
 node !never
 node { a = !disjunction, b = !subquery, c = !arith, d = !error }
 "#;
-    let parsed = parse(text).unwrap_or_else(|fault| panic!("{fault}"));
+
+#[test]
+fn every_statement() {
+    let parsed = parse(EVERY_STATEMENT).unwrap_or_else(|fault| panic!("{fault}"));
     assert_eq!(parsed.predicates, ["door", "lock"]);
     assert_eq!(parsed.rules.levels.len(), 4);
     assert_eq!(parsed.rules.levels[0].address, 3);
@@ -151,70 +210,74 @@ node { a = !disjunction, b = !subquery, c = !arith, d = !error }
     assert!(!again.contains('#'), "{again}");
 }
 
+const MISTAKES: &[(&str, &str)] = &[
+    (
+        "level door {",
+        "line 1, column 13: a name is expected, and this is the end of the text",
+    ),
+    (
+        "level door { room = 7 }",
+        "line 1, column 7: there is no predicate `door` in this text",
+    ),
+    (
+        "predicate d: { room: Num }",
+        "line 1, column 22: no type above has the label `Num`",
+    ),
+    (
+        "let x = field r0[\"a\"]: Int",
+        "line 1, column 18: a number (a path's field) is expected, and this is a text",
+    ),
+    (
+        "\n\n  levle d",
+        "line 3, column 3: a statement (predicate, level, where, let, hoist, fetch, type, node or names) \
+         is expected, and this is `levle`",
+    ),
+    (
+        "node \"abc",
+        "line 1, column 6: this \" has no closing \" in its line",
+    ),
+    (
+        "node \"caf\u{e9}\"",
+        "line 1, column 10: `\u{e9}` is not ASCII, and names and texts are",
+    ),
+    (
+        "node 9223372036854775808",
+        "line 1, column 6: a number has 64 bits, from -9223372036854775808 to 9223372036854775807",
+    ),
+    (
+        "node hex\"123\"",
+        "line 1, column 9: a byte has two hex digits, and here one is missing",
+    ),
+    (
+        "let x = row r70000",
+        "line 1, column 13: a register (`r0` to `r65535`) is expected, and this is `r70000`",
+    ),
+    (
+        "predicate d: Int\nlevel d(*x)",
+        "line 2, column 10: no pattern has the label `&x`",
+    ),
+    (
+        "node \"a\" ~300",
+        "line 1, column 11: a distance is 0 to 255, and this is 300",
+    ),
+    ("node ;", "line 1, column 6: `;` has no meaning here"),
+];
+
 #[test]
 fn mistakes_have_a_place() {
     let long = format!("names {}", vec!["a"; 513].join(", "));
     let deep = format!("node {}", "{ a = ".repeat(70));
-    for (text, said) in [
+    let made = [
         (
-            "level door {",
-            "line 1, column 13: a name is expected, and this is the end of the text",
-        ),
-        (
-            "level door { room = 7 }",
-            "line 1, column 7: there is no predicate `door` in this text",
-        ),
-        (
-            "predicate d: { room: Num }",
-            "line 1, column 22: no type above has the label `Num`",
-        ),
-        (
-            "let x = field r0[\"a\"]: Int",
-            "line 1, column 18: a number (a path's field) is expected, and this is a text",
-        ),
-        (
-            "\n\n  levle d",
-            "line 3, column 3: a statement (predicate, level, where, let, hoist, fetch, type, node or names) \
-             is expected, and this is `levle`",
-        ),
-        (
-            "node \"abc",
-            "line 1, column 6: this \" has no closing \" in its line",
-        ),
-        (
-            "node \"caf\u{e9}\"",
-            "line 1, column 10: `\u{e9}` is not ASCII, and names and texts are",
-        ),
-        (
-            "node 9223372036854775808",
-            "line 1, column 6: a number has 64 bits, from -9223372036854775808 to 9223372036854775807",
-        ),
-        (
-            "node hex\"123\"",
-            "line 1, column 9: a byte has two hex digits, and here one is missing",
-        ),
-        (
-            "let x = row r70000",
-            "line 1, column 13: a register (`r0` to `r65535`) is expected, and this is `r70000`",
-        ),
-        (
-            "predicate d: Int\nlevel d(*x)",
-            "line 2, column 10: no pattern has the label `&x`",
-        ),
-        (
-            "node \"a\" ~300",
-            "line 1, column 11: a distance is 0 to 255, and this is 300",
-        ),
-        ("node ;", "line 1, column 6: `;` has no meaning here"),
-        (
-            &long,
+            long.as_str(),
             "line 1, column 1543: one name too many: a file has at most 512 names",
         ),
         (
-            &deep,
+            deep.as_str(),
             "line 1, column 390: this nests too deep: put it above, with a label",
         ),
-    ] {
+    ];
+    for (text, said) in MISTAKES.iter().copied().chain(made) {
         match parse(text) {
             Ok(_) => panic!("{text} has a meaning"),
             Err(fault) => assert_eq!(fault.to_string(), said),
@@ -222,57 +285,21 @@ fn mistakes_have_a_place() {
     }
 }
 
+#[rustfmt::skip]
+const WORDS: &[&str] = &[
+    "level ", "p0", " { ", " }", " = ", "\"k\"", "..", "~2", "x", ".", "*", "&", "!", "never",
+    "#", "3", "(", ")", "\n", "predicate ", ": ", "Int", "union", "where ", "<", "let ",
+    "row r1", "const ", "hoist ", " as ", "node ", "names ", ", ", "hex\"0", "é", "\\", "`", "-",
+    "/", "//", "[", "]",
+];
+
 /// Whatever it is given, the parser answers.
 #[test]
 fn random_texts() {
-    let words = [
-        "level ",
-        "p0",
-        " { ",
-        " }",
-        " = ",
-        "\"k\"",
-        "..",
-        "~2",
-        "x",
-        ".",
-        "*",
-        "&",
-        "!",
-        "never",
-        "#",
-        "3",
-        "(",
-        ")",
-        "\n",
-        "predicate ",
-        ": ",
-        "Int",
-        "union",
-        "where ",
-        "<",
-        "let ",
-        "row r1",
-        "const ",
-        "hoist ",
-        " as ",
-        "node ",
-        "names ",
-        ", ",
-        "hex\"0",
-        "é",
-        "\\",
-        "`",
-        "-",
-        "/",
-        "//",
-        "[",
-        "]",
-    ];
-    let mut rng = drawn::Rng(5);
+    let mut rng = Rng(5);
     for _ in 0..20_000 {
         let text: String = (0..rng.below(30))
-            .map(|_| words[rng.below(words.len())])
+            .map(|_| WORDS[rng.below(WORDS.len())])
             .collect();
         if let Ok(parsed) = parse(&text) {
             assert!(there_and_back(&parsed.rules.write()), "{text}");
