@@ -10,7 +10,8 @@ use std::fmt;
 pub enum Diagnostic {
     /// A Disjunction stands in a key.
     NyiDisjunction,
-    /// A field is read through a reference that was not fetched.
+    /// A reference that was not fetched is read, or an alternative of what is no
+    /// union's field.
     NyiFactField,
     /// A Never stands in a key.
     NyiNever,
@@ -92,13 +93,13 @@ impl Diagnostic {
                 "a key cannot hold alternatives yet: write one level for each of them"
             }
             NyiFactField => {
-                "a field is read through a reference whose row is not at hand: fetch that row into a register first"
+                "a reference is read whose row is not at hand (fetch it into a register), or an alternative of what is no union field"
             }
             NyiNever => {
                 "a pattern that nothing matches stands in a key: drop the level, or the pattern"
             }
             NyiRepeatedVariable => {
-                "a row's field cannot be held against another field of the same row yet: use two names and a comparison"
+                "a row's field cannot be held against another field of the same row yet: give the second one a name of its own"
             }
             NyiValueField => {
                 "a field cannot be read out of a fact's value yet: read it out of a key"
