@@ -35,7 +35,7 @@ answerWith f lists = record { some = f .some; slot = f .slot; lists = lists }
 abbrev pub answerOf : Answer → Level → Target → List ℕ → List ℕ → Rules.Answer State
 answerOf r level target work plan = record { slot = given r; walk = stateWith (r .lists) level target work plan }
 
--- r, with w′ in the work area, is what g gives of the lists l with w there, and nothing in its slot is left free
+-- r, with w′ in the work area, is what g gives of the lists l with w there, and its slot is tidy
 pub record Answers (g : Resolver State) (l : Lists) (w : List ℕ) (r : Answer) (w′ : List ℕ) : Type 0 where
   pub is : (level : Level) (target : Target) (plan : List ℕ) → answerOf r level target w′ plan ≡ g (stateWith l level target w plan)
   pub tidy : found r ≡ tidied (found r)

@@ -1,4 +1,4 @@
--- The slots that the code makes stand for what they should, with nothing left free.
+-- The slots that the code makes stand for what they should, and are tidy.
 use Prim.Native.Nat.{ℕ}
 use mathlib.Core.Path.{_≡_, refl, sym, ap, _∙_}
 use mathlib.Core.Option.{Option, none, some}

@@ -70,12 +70,12 @@ tidyMaybe false slot = noSlot
 abbrev pub tidied : MaybeSlot → MaybeSlot
 tidied r = tidyMaybe (r .some) (r .slot)
 
--- s is the slot x, and nothing in it is left free: the path of a slot that is no Field is `noPath`
+-- s is the slot x, and of a slot that is no Field the path is `noPath`; of a Field's path the steps past its count are not stated
 pub record Stands (x : File.Slot) (s : Slot) : Type 0 where
   pub is : slotOf s ≡ x
   pub tidy : s ≡ tidySlot s
 
--- r is the slot x, if there is one, and nothing in it is left free: where there is none, it is `noSlot`
+-- r is the slot x, if there is one, tidy in the same way; where there is none, it is `noSlot`
 pub record IsSlot (x : Option File.Slot) (r : MaybeSlot) : Type 0 where
   pub is : slotOption r ≡ x
   pub tidy : r ≡ tidied r
