@@ -11,7 +11,8 @@ use Rattle.rules.specs.Demand1.{Byte, refusals, Demand1}
 use Rattle.rules.specs.Demand3.{Demand3}
 use Rattle.rules.proofs.Demand1.{demand1}
 use Rattle.rules.proofs.Demand3.{demand3}
-use Rattle.compile.specs.Endings.{zeroed, outcomeOf, lengthOf, answerOf, Within}
+use Rattle.zeroes.specs.Zeroed.{zeroed}
+use Rattle.compile.specs.Endings.{outcomeOf, lengthOf, answerOf, Within}
 use Rattle.compile.specs.declared.Ending.{Ending}
 use Rattle.compile.specs.declared.Ending.the-variants.{Planned, Refused}
 

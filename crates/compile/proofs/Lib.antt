@@ -1,3 +1,2 @@
-pub mod Zeroes
 pub mod Ends
 pub mod Verdicts

@@ -3,7 +3,6 @@ use mathlib.Core.Bool.{true, false}
 use mathlib.Core.List.{List, [], _∷_, _++_}
 use Prim.Native.Nat.{ℕ, _-_, _*_, _≤_}
 use lib.Dec.{leb}
-use lib.Bits.{bitOr}
 use lib.ListN.{length, take, replicate}
 use Rattle.rules.specs.Limits.{fileLimit, workLimit}
 use Rattle.rules.specs.File.{Tables}
@@ -14,19 +13,6 @@ use Rattle.checks.specs.declared.Verdict.{Verdict}
 use Rattle.checks.specs.declared.Verdict.the-variants as Ve
 use Rattle.compile.specs.declared.Ending.{Ending}
 use Rattle.compile.specs.declared.Ending.the-variants.{Planned, Refused}
-
--- how many bytes are looked at before any of them is written
-abbrev pub blockSize : ℕ
-blockSize = 4096
-
--- the bytes from a place on all zero
-unfoldable pub zeroed : List ℕ → ℕ → List ℕ
-zeroed buf from = take from buf ++ replicate (length buf - from) 0
-
--- the bits that are set in any of the bytes, or before them
-unfoldable pub bitsOf : ℕ → List ℕ → ℕ
-bitsOf set [] = set
-bitsOf set (b ∷ bs) = bitsOf (bitOr set b) bs
 
 -- the written rules' outcome: a plan stands at the front of its buffer
 unfoldable pub outcomeOf : Ending → List ℕ → Outcome

@@ -2,14 +2,14 @@ use mathlib.Core.Path.{_≡_, refl, sym, _∙_}
 use native.Mathlib.Omega.{arith}
 use lib.ListN.{length}
 use Prim.Native.Nat.{_-_}
-use Rattle.compile.specs.Endings.{zeroed}
-use Rattle.compile.proofs.Zeroes.{zero-end, block-in, block-same, block-more}
-use Rattle.compile.proofs.zero.Statement.{statement}
-use Rattle.compile.proofs.zero.Tie as tie
-use Rattle.compile.proofs.zero.Reads as reads
-use Rattle.compile.proofs.zero.Lts as lts
-use Rattle.compile.proofs.block_end.Reads as block-end-reads
-use Rattle.compile.proofs.clear.Reads as clear-reads
+use Rattle.zeroes.specs.Zeroed.{zeroed}
+use Rattle.zeroes.proofs.Blocks.{zero-end, block-in, block-same, block-more}
+use Rattle.zeroes.proofs.zero.Statement.{statement}
+use Rattle.zeroes.proofs.zero.Tie as tie
+use Rattle.zeroes.proofs.zero.Reads as reads
+use Rattle.zeroes.proofs.zero.Lts as lts
+use Rattle.zeroes.proofs.block_end.Reads as block-end-reads
+use Rattle.zeroes.proofs.clear.Reads as clear-reads
 
 abbrev Inv-loop : tie.InvT-loop
 Inv-loop buf₀ from at₀ buf at = (length buf ≡ length buf₀) × (zeroed buf₀ from ≡ zeroed buf at)

@@ -1,12 +1,12 @@
 use mathlib.Core.Path.{sym, _∙_}
-use Rattle.compile.proofs.Zeroes.{clean}
+use Rattle.zeroes.proofs.Blocks.{clean}
 use borrow.Author.Needs.{needs}
-use Rattle.compile.proofs.clear.Statement.{statement}
-use Rattle.compile.proofs.clear.Tie as tie
-use Rattle.compile.proofs.clear.Reads as reads
-use Rattle.compile.proofs.clear.Lts as lts
-use Rattle.compile.proofs.bits.Reads as bits-reads
-use Rattle.compile.proofs.wipe.Reads as wipe-reads
+use Rattle.zeroes.proofs.clear.Statement.{statement}
+use Rattle.zeroes.proofs.clear.Tie as tie
+use Rattle.zeroes.proofs.clear.Reads as reads
+use Rattle.zeroes.proofs.clear.Lts as lts
+use Rattle.zeroes.proofs.bits.Reads as bits-reads
+use Rattle.zeroes.proofs.wipe.Reads as wipe-reads
 
 bits-requires : tie.Need-bits-requires
 bits-requires c κs = search needs

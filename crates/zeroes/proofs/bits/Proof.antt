@@ -2,12 +2,12 @@ use mathlib.Core.Path.{_≡_, refl, sym, _∙_}
 use native.Mathlib.Omega.{arith}
 use Prim.Native.Nat.{_-_}
 use lib.ListN.{length, drop}
-use Rattle.compile.specs.Endings.{bitsOf}
-use Rattle.compile.proofs.Zeroes.{bits-more, bits-end}
-use Rattle.compile.proofs.bits.Statement.{statement}
-use Rattle.compile.proofs.bits.Tie as tie
-use Rattle.compile.proofs.bits.Reads as reads
-use Rattle.compile.proofs.bits.Lts as lts
+use Rattle.zeroes.specs.Zeroed.{bitsOf}
+use Rattle.zeroes.proofs.Blocks.{bits-more, bits-end}
+use Rattle.zeroes.proofs.bits.Statement.{statement}
+use Rattle.zeroes.proofs.bits.Tie as tie
+use Rattle.zeroes.proofs.bits.Reads as reads
+use Rattle.zeroes.proofs.bits.Lts as lts
 
 abbrev Inv-loop : tie.InvT-loop
 Inv-loop bytes set₀ i₀ set i = bitsOf 0 bytes ≡ bitsOf set (drop i bytes)

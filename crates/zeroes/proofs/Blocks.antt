@@ -8,7 +8,7 @@ use lib.Bits.{bitOr, or-add-and, and-le-l, and-le-r}
 use lib.ListN.{length, getD, take, drop, set, replicate, length-set, length-append, length-replicate, replicate-append-replicate, drop-of-length-le}
 use lib.Seq.{take-all, take-suc-set, drop-cons, length-take-le, take-at}
 use borrow.Rule.Slice.PartMut.{midOf, postOf, putMid, same-len-mid, mid-len}
-use Rattle.compile.specs.Endings.{blockSize, zeroed, bitsOf}
+use Rattle.zeroes.specs.Zeroed.{blockSize, zeroed, bitsOf}
 
 pub zero-more : (w : List ℕ) (i : ℕ) → i < length w → zeroed w i ≡ zeroed (set w i 0) (i + 1)
 unfolding zeroed

@@ -2,12 +2,12 @@ use mathlib.Core.Path.{_≡_, refl, sym, _∙_}
 use native.Mathlib.Omega.{arith}
 use lib.ListN.{length, length-set}
 use Prim.Native.Nat.{_-_}
-use Rattle.compile.specs.Endings.{zeroed}
-use Rattle.compile.proofs.Zeroes.{zero-more, zero-end}
-use Rattle.compile.proofs.wipe.Statement.{statement}
-use Rattle.compile.proofs.wipe.Tie as tie
-use Rattle.compile.proofs.wipe.Reads as reads
-use Rattle.compile.proofs.wipe.Lts as lts
+use Rattle.zeroes.specs.Zeroed.{zeroed}
+use Rattle.zeroes.proofs.Blocks.{zero-more, zero-end}
+use Rattle.zeroes.proofs.wipe.Statement.{statement}
+use Rattle.zeroes.proofs.wipe.Tie as tie
+use Rattle.zeroes.proofs.wipe.Reads as reads
+use Rattle.zeroes.proofs.wipe.Lts as lts
 
 abbrev Inv-loop : tie.InvT-loop
 Inv-loop block₀ i₀ block i = (length block ≡ length block₀) × (zeroed block₀ 0 ≡ zeroed block i)
