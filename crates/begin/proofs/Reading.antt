@@ -19,7 +19,9 @@ use Rattle.views.specs.Views.{nodeOf, patternAt, SeenNode}
 use Rattle.views.specs.declared.NodeView.{NodeView}
 use Rattle.views.specs.declared.NodeView.the-variants as Nv
 use Rattle.views.proofs.NodeView as NodeViews
-use Rattle.slots.specs.Slots.{slotOf, maybe}
+use Rattle.slots.specs.Slots.{slotOf, maybe, noSlot, tidySlot, tidyMaybe, tidied}
+use Rattle.slots.specs.declared.Slot.{Slot}
+use Rattle.slots.specs.declared.MaybeSlot.{MaybeSlot}
 use Rattle.tables.specs.Tables.{SeenRun}
 use Rattle.tables.specs.declared.Run.{Run}
 use Rattle.tables.specs.declared.Run.the-variants as Ru
@@ -30,7 +32,7 @@ use Rattle.resolve.specs.declared.Answer.{Answer}
 use Rattle.step.specs.Step.{walkState, listsOf, withLists}
 use Rattle.step.proofs.Parts.{lists-of, lists-are}
 use Rattle.step.specs.declared.Walk.{Walk}
-use Rattle.begin.specs.Begin.{Start, startWith, startOf, piecesStart, readStart}
+use Rattle.begin.specs.Begin.{Start, startOf, slotBeside, doneWith, piecesStart, readStart}
 use Rattle.begin.specs.declared.Next.the-variants as Nx
 use Rattle.begin.specs.declared.Begun.{Begun}
 
@@ -107,10 +109,18 @@ unfolding walkState stateOf
 diagnostics-at T w work plan = refl
 
 -- a walk that is done
-pub done-is : (T : Tables) (r : Begun) (w : Walk) (work plan : List ℕ) → (r .next ≡ Nx.Done) × (r .walk ≡ w) → startOf r (walkState T (r .walk) work plan) ≡ Start.Done (walkState T w work plan)
-done-is T r w work plan e =
-    ap (λ x. startWith x (slotOf (r .slot)) (walkState T (r .walk) work plan)) (e .0)
-    ∙ ap (λ (v : Walk). Start.Done (walkState T v work plan)) (e .1)
+pub done-from : (w : Walk) (slot : Slot) → slot ≡ noSlot .slot → record { next = Nx.Done; slot = slot; walk = w } ≡ doneWith w
+done-from w slot e = ap (λ (x : Slot). record { next = Nx.Done; slot = x; walk = w }) e
+
+pub done-is : (T : Tables) (r : Begun) (w : Walk) (work plan : List ℕ) → r ≡ doneWith w → startOf r (walkState T (r .walk) work plan) ≡ Start.Done (walkState T w work plan)
+done-is T r w work plan e = ap (λ (b : Begun). startOf b (walkState T (b .walk) work plan)) e
+
+pub done-unset : (r : Begun) (w : Walk) → r ≡ doneWith w → r .slot ≡ slotBeside (r .next) (r .slot)
+done-unset r w e = ap (λ (b : Begun). b .slot) e ∙ sym (ap (λ (b : Begun). slotBeside (b .next) (b .slot)) e)
+
+-- a slot that there is
+pub tidy-there : (m : MaybeSlot) → m ≡ tidied m → m .some ≡ true → m .slot ≡ tidySlot (m .slot)
+tidy-there m k e = ap (λ (x : MaybeSlot). x .slot) (k ∙ ap (λ (b : Bool). tidyMaybe b (m .slot)) e)
 
 -- an answer, with its lists put back into the walk
 pub answer-is : (T : Tables) (w r : Walk) (l : Lists) (ans : Answer) (work work′ plan : List ℕ) → l ≡ listsOf w → r ≡ withLists w (ans .lists) → (g : Rules.Resolver State) → Answers g l work ans work′ → record { slot = given ans; walk = walkState T r work′ plan } ≡ g (walkState T w work plan)

@@ -17,7 +17,7 @@ use Rattle.views.specs.declared.NodeView.{NodeView}
 use Rattle.views.specs.declared.NodeView.the-variants as Nv
 use Rattle.views.specs.declared.Anchor.{Anchor}
 use Rattle.views.proofs.NodeView as NodeViews
-use Rattle.slots.specs.Slots.{slotOf, slotOption, maybe, IsSlot}
+use Rattle.slots.specs.Slots.{slotOf, slotOption, maybe, tidySlot, IsSlot}
 use Rattle.slots.specs.declared.Slot.{Slot}
 use Rattle.slots.specs.declared.MaybeSlot.{MaybeSlot}
 use Rattle.tables.specs.Tables.{SeenRun}
@@ -29,6 +29,7 @@ use Rattle.lists.specs.declared.Lists.{Lists}
 use Rattle.step.specs.Step.{walkState, listsOf}
 use Rattle.step.specs.declared.Walk.{Walk}
 use Rattle.step.proofs.Parts.{lists-of}
+use Rattle.begin.proofs.Reading.{tidy-there}
 use Rattle.begin.specs.Begin.{isInjection, still, Start, readStart, placeStart, variableStart, nodeStart, start}
 
 -- a name looked up, whatever the level
@@ -49,6 +50,12 @@ module _ (T : Tables) (a x t : ℕ) (path : File.FieldPath) (s₀ : State) (m : 
   variable-new e slot s₁ s₂ es e₁ e₂ =
       ap Start.Done (e₂ ∙ ap (constrain (ops T) T x t path) (e₁ ∙ ap (λ (y : File.Slot). bind x y s₀) es))
       ∙ ap asks (ap (λ (y : Bool). maybe y (slotOf (m .slot))) (sym e) ∙ k)
+
+-- a variable that is bound, with its slot as the code found it
+pub bound-whole : (T : Tables) (a x t : ℕ) (path : File.FieldPath) (m : MaybeSlot) (w : Walk) (l : Lists) (work plan : List ℕ) → l ≡ listsOf w → ((level : Level) (g : Target) (p : List ℕ) → IsSlot (ops T .lookup (stateWith l level g work p) x) m) → m .some ≡ true → (Start.Matched (slotOf (m .slot)) (walkState T w work plan) ≡ variableStart T a x t path (walkState T w work plan)) × (m .slot ≡ tidySlot (m .slot))
+bound-whole T a x t path m w l work plan e k h =
+    let s = walkState T w work plan in
+    (variable-bound T a x t path s m (looked-up T x m w l work plan e k) h, tidy-there m (k (s .level) (s .target) plan .tidy) h)
 
 -- a Record against a Union, as the code reads them
 module _ (f : List ℕ) (o : Option (List FieldPattern)) (u : Option (List Alternative)) (r : Run) (k : SeenRun f (patternAt f) 4 o r) where

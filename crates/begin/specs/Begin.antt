@@ -11,8 +11,10 @@ use Rattle.rules.specs.Resolve.{resolve}
 use Rattle.rules.specs.Walk.{FieldWalk, narrowBy, constrain, unresolved, matched, injectOnly, ranged}
 use Rattle.state.specs.State.{State}
 use Rattle.state.specs.Ops.{ops, bind, report, skip}
-use Rattle.slots.specs.Slots.{slotOf}
+use Rattle.slots.specs.Slots.{slotOf, noSlot, tidySlot}
+use Rattle.slots.specs.declared.Slot.{Slot}
 use Rattle.tables.specs.Tables.{foundOption}
+use Rattle.step.specs.declared.Walk.{Walk}
 use Rattle.begin.specs.declared.Next.{Next}
 use Rattle.begin.specs.declared.Next.the-variants as Nx
 use Rattle.begin.specs.declared.Begun.{Begun}
@@ -47,6 +49,17 @@ startWith Nx.Inject slot s = Start.Inject s
 -- the answer r of the code, with s as its state
 abbrev pub startOf : Begun → State → Start
 startOf r s = startWith (r .next) (slotOf (r .slot)) s
+
+-- the slot beside `next`, with what it means and no more: of Matched alone it has a meaning
+abbrev pub slotBeside : Next → Slot → Slot
+slotBeside Nx.Done slot = noSlot .slot
+slotBeside Nx.Matched slot = tidySlot slot
+slotBeside Nx.Partial slot = noSlot .slot
+slotBeside Nx.Inject slot = noSlot .slot
+
+-- the answer that goes on with nothing
+abbrev pub doneWith : Walk → Begun
+doneWith w = record { next = Nx.Done; slot = noSlot .slot; walk = w }
 
 module _ (T : Tables) where
   -- a read that gave no slot: a record's pieces, or reported where nothing else told why; `before` is the state before the read

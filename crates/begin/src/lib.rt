@@ -3,6 +3,7 @@ ghost use mathlib.Core.Path.{_≡_};
 ghost use mathlib.Core.List.{List};
 ghost use Prim.Native.Nat.{ℕ, _<_};
 ghost use lib.ListN.{length};
+ghost use Rattle.rules.specs.Limits.{fileLimit};
 ghost use Rattle.rules.specs.File as File;
 ghost use Rattle.rules.specs.File.{typeAt, nodeAt, recordFields, unionTy};
 ghost use Rattle.rules.specs.Walk as Rules;
@@ -17,7 +18,8 @@ ghost use Rattle.ready.specs.Ready.{Ready};
 ghost use Rattle.tables.specs.Tables.{SeenRun};
 ghost use Rattle.step.specs.Step.{walkState};
 ghost use Rattle.begin.specs.Pieces.{Fits, fieldsFor, Pieced};
-ghost use Rattle.begin.specs.Begin.{isInjection, startOf, piecesStart, readStart, variableStart, placeStart, start};
+ghost use Rattle.begin.specs.Begin.{isInjection, startOf, slotBeside, doneWith};
+ghost use Rattle.begin.specs.Begin.{piecesStart, readStart, variableStart, placeStart, start};
 ghost use Rattle.begin.specs.Begin.{meetingOf, meeting, choosingOf, alternativeChoice, choosing};
 use constrain::constrain;
 use constrain::narrow;
@@ -52,7 +54,7 @@ pub enum Next {
     Inject,
 }
 
-// The slot is that of Matched.
+// The slot is that of Matched; beside anything else it has no meaning, and is that of `nothing`.
 pub struct Begun {
     pub next: Next,
     pub slot: Slot,
@@ -102,7 +104,7 @@ pub fn pieces(file: &[u8], index: &[u16], node: usize, ty: usize) -> usize
     requires { ⌜ Ready (now file) (now index) ⌝ }
     requires { ⌜ ty < length (tablesOf (now file) .types) ⌝ }
     ensures counts { λ r. ⌜ r ≡ length (fieldsFor (tablesOf (now (file .entry))) node ty) ⌝ }
-    ensures bounded { λ r. ⌜ r < 32768 ⌝ }
+    ensures bounded { λ r. ⌜ r < fileLimit ⌝ }
 {
     let Run::Of(n, at) = pairs_of(file, index, node) else {
         return 0;
@@ -139,7 +141,7 @@ pub fn piece_at(file: &[u8], index: &[u16], node: usize, ty: usize, i: usize) ->
 }
 
 fn done(w: Walk) -> Begun
-    ensures { λ r. ⌜ (r .next ≡ Next.Done) × (r .walk ≡ w) ⌝ }
+    ensures { λ r. ⌜ r ≡ doneWith w ⌝ }
 {
     let slot = Slot::plain(SlotKind::Const(0));
     Begun {
@@ -194,13 +196,14 @@ fn begin_pieces(
     w: Walk,
 ) -> Begun
     requires { ⌜ Indexed (now file) (now index) ⌝ }
-    ensures { λ r. ⌜ (
+    ensures starts { λ r. ⌜ (
         (plan : List ℕ) (earlier : State) → earlier .ends .diagnostics ≡ mark →
         let T = tablesOf (now (file .entry)) in
         let before = walkState T w (now (work .entry)) plan in
         let after = walkState T (r .walk) (now (work .exit)) plan in
         startOf r after ≡ piecesStart T node earlier before
         ) ⌝ }
+    ensures unset { λ r. ⌜ r .slot ≡ slotBeside (r .next) (r .slot) ⌝ }
 {
     if let Run::Of(_, _) = pairs_of(file, index, node) {
         let slot = Slot::plain(SlotKind::Const(0));
@@ -216,13 +219,14 @@ fn begin_pieces(
 // A read: matched where it resolves.
 fn begin_read(file: &[u8], index: &[u16], work: &mut [u8], node: usize, w: Walk) -> Begun
     requires { ⌜ Ready (now file) (now index) ⌝ }
-    ensures { λ r. ⌜ (
+    ensures starts { λ r. ⌜ (
         (plan : List ℕ) →
         let T = tablesOf (now (file .entry)) in
         let before = walkState T w (now (work .entry)) plan in
         let after = walkState T (r .walk) (now (work .exit)) plan in
         startOf r after ≡ readStart T node before
         ) ⌝ }
+    ensures unset { λ r. ⌜ r .slot ≡ slotBeside (r .next) (r .slot) ⌝ }
 {
     let a = resolve(file, index, work, node, w.lists());
     let after = a.lists;
@@ -253,12 +257,13 @@ fn begin_variable(
 ) -> Begun
     requires { ⌜ Ready (now file) (now index) ⌝ }
     requires { ⌜ ty < length (tablesOf (now file) .types) ⌝ }
-    ensures { λ r. ⌜ (
+    ensures starts { λ r. ⌜ (
         let T = tablesOf (now (file .entry)) in
         let before = walkState T w (now (work .entry)) (now (plan .entry)) in
         let after = walkState T (r .walk) (now (work .exit)) (now (plan .exit)) in
         startOf r after ≡ variableStart T (address .0) name ty (pathOf path) before
         ) ⌝ }
+    ensures unset { λ r. ⌜ r .slot ≡ slotBeside (r .next) (r .slot) ⌝ }
 {
     let found = lookup(file, index, work, w.lists(), name);
     if found.some {
@@ -304,13 +309,14 @@ fn begin_place(
 ) -> Begun
     requires { ⌜ Ready (now file) (now index) ⌝ }
     requires { ⌜ ty < length (tablesOf (now file) .types) ⌝ }
-    ensures { λ r. ⌜ (
+    ensures starts { λ r. ⌜ (
         (plan : List ℕ) →
         let T = tablesOf (now (file .entry)) in
         let before = walkState T w (now (work .entry)) plan in
         let after = walkState T (r .walk) (now (work .exit)) plan in
         startOf r after ≡ placeStart T node ty before
         ) ⌝ }
+    ensures unset { λ r. ⌜ r .slot ≡ slotBeside (r .next) (r .slot) ⌝ }
 {
     if is_injection(file, index, node, ty) {
         let slot = Slot::plain(SlotKind::Const(0));
@@ -337,12 +343,13 @@ pub fn begin(
 ) -> Begun
     requires { ⌜ Ready (now file) (now index) ⌝ }
     requires { ⌜ Fits (tablesOf (now file)) path ty ⌝ }
-    ensures { λ r. ⌜ (
+    ensures starts { λ r. ⌜ (
         let T = tablesOf (now (file .entry)) in
         let before = walkState T w (now (work .entry)) (now (plan .entry)) in
         let after = walkState T (r .walk) (now (work .exit)) (now (plan .exit)) in
         startOf r after ≡ start T (address .0) node ty (pathOf path) before
         ) ⌝ }
+    ensures unset { λ r. ⌜ r .slot ≡ slotBeside (r .next) (r .slot) ⌝ }
 {
     let level = w.level;
     if level.over {

@@ -10,7 +10,7 @@ plain-requires : tie.Need-plain-requires
 plain-requires c κs = search needs
 
 returns : tie.Need-returns
-returns c = λ plan. place-injection _ _ _ _ _ (c .before .before .is-injection .ensures) (c .before .if1 .taken)
+returns c = (λ plan. place-injection _ _ _ _ _ (c .before .before .is-injection .ensures) (c .before .if1 .taken), c .plain .ensures)
 
 begin-read-requires : tie.Need-begin-read-requires
 begin-read-requires c κs = search needs
@@ -19,7 +19,7 @@ same-length : tie.Need-same-length
 same-length c = search needs
 
 returns-2 : tie.Need-returns-2
-returns-2 c = λ plan. place-read _ _ _ _ _ (c .before .before .before .before .before .is-injection .ensures) (c .before .before .before .before .if1 .left) _ (c .before .before .begin-read .ensures plan)
+returns-2 c = (λ plan. place-read _ _ _ _ _ (c .before .before .before .before .before .is-injection .ensures) (c .before .before .before .before .if1 .left) _ (c .before .before .begin-read .ensures .0 plan), c .before .before .begin-read .ensures .1)
 
 pub begin-place-spec : {M : Type 1} → statement M
 begin-place-spec =

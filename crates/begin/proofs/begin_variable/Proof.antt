@@ -1,7 +1,7 @@
 use mathlib.Core.Path.{ap}
 use Rattle.slots.specs.Slots.{slotOf}
-use Rattle.begin.proofs.Reading.{done-is}
-use Rattle.begin.proofs.Starts.{looked-up, variable-bound, variable-new}
+use Rattle.begin.proofs.Reading.{done-is, done-unset}
+use Rattle.begin.proofs.Starts.{looked-up, bound-whole, variable-new}
 use mathlib.Core.Path.{_∙_}
 use borrow.Author.Needs.{needs}
 use Rattle.begin.proofs.begin_variable.Statement.{statement}
@@ -17,7 +17,7 @@ same-length : tie.Need-same-length
 same-length c = search needs
 
 returns : tie.Need-returns
-returns c = variable-bound _ _ _ _ _ _ (c .before .before .lookup .result) (looked-up _ _ (c .before .before .lookup .result) _ _ _ _ (c .before .before .before .lists .ensures) (c .before .before .lookup .ensures)) (c .before .if1 .taken)
+returns c = bound-whole _ _ _ _ _ (c .before .before .lookup .result) _ _ _ _ (c .before .before .before .lists .ensures) (c .before .before .lookup .ensures) (c .before .if1 .taken)
 
 field-requires : tie.Need-field-requires
 field-requires c κs = search needs
@@ -38,7 +38,7 @@ same-length-3 : tie.Need-same-length-3
 same-length-3 c = search needs
 
 returns-2 : tie.Need-returns-2
-returns-2 c = done-is _ (c .done .result) _ _ _ (c .done .ensures) ∙ variable-new _ _ _ _ _ _ (c .before .before .before .before .before .before .before .before .before .before .before .before .before .before .lookup .result) (looked-up _ _ (c .before .before .before .before .before .before .before .before .before .before .before .before .before .before .lookup .result) _ _ _ _ (c .before .before .before .before .before .before .before .before .before .before .before .before .before .before .before .lists .ensures) (c .before .before .before .before .before .before .before .before .before .before .before .before .before .before .lookup .ensures)) (c .before .before .before .before .before .before .before .before .before .before .before .before .before .if1 .left) _ _ _ (ap slotOf (c .before .before .before .before .before .before .before .before .before .before .before .before .field .ensures)) (c .before .before .before .before .before .before .before .before .before .before .bind .ensures _ _) (c .before .before .before .before .before .constrain .ensures)
+returns-2 c = (done-is _ (c .done .result) _ _ _ (c .done .ensures) ∙ variable-new _ _ _ _ _ _ (c .before .before .before .before .before .before .before .before .before .before .before .before .before .before .lookup .result) (looked-up _ _ (c .before .before .before .before .before .before .before .before .before .before .before .before .before .before .lookup .result) _ _ _ _ (c .before .before .before .before .before .before .before .before .before .before .before .before .before .before .before .lists .ensures) (c .before .before .before .before .before .before .before .before .before .before .before .before .before .before .lookup .ensures)) (c .before .before .before .before .before .before .before .before .before .before .before .before .before .if1 .left) _ _ _ (ap slotOf (c .before .before .before .before .before .before .before .before .before .before .before .before .field .ensures)) (c .before .before .before .before .before .before .before .before .before .before .bind .ensures _ _) (c .before .before .before .before .before .constrain .ensures), done-unset (c .done .result) _ (c .done .ensures))
 
 pub begin-variable-spec : {M : Type 1} → statement M
 begin-variable-spec =

@@ -38,7 +38,7 @@ pub field-same-length-2 : (t : ℕ) → field-lts.Need-same-length-2 (field-clai
 field-same-length-2 t c = c .before .before .before .before .before .before .before .begin .kept .1 .1 .1 .0
 
 pub field-returns : (t : ℕ) → field-lts.Need-returns (field-claims t) (field-at t) field.Post
-field-returns t c = field-done _ _ _ _ _ _ _ (c .before .before .before .before .before .before .before .begin .result) (c .before .before .before .before .before .before .before .begin .ensures) (c .before .enum-told .given .1)
+field-returns t c = field-done _ _ _ _ _ _ _ (c .before .before .before .before .before .before .before .begin .result) (c .before .before .before .before .before .before .before .begin .ensures .0) (c .before .enum-told .given .1)
 
 pub field-same-length-3 : (t : ℕ) → field-lts.Need-same-length-3 (field-claims t) (field-at t) field.Post
 field-same-length-3 t c = c .before .before .before .before .matched .kept .1 .1 .0 ∙ c .before .before .before .before .before .before .before .before .before .before .before .before .before .begin .kept .1 .1 .0
@@ -47,7 +47,7 @@ pub field-same-length-4 : (t : ℕ) → field-lts.Need-same-length-4 (field-clai
 field-same-length-4 t c = c .before .before .before .before .matched .kept .1 .1 .1 .0 ∙ c .before .before .before .before .before .before .before .before .before .before .before .before .before .begin .kept .1 .1 .1 .0
 
 pub field-returns-2 : (t : ℕ) → field-lts.Need-returns-2 (field-claims t) (field-at t) field.Post
-field-returns-2 t c = field-matched _ _ _ _ _ _ _ (c .before .before .before .before .before .before .before .before .before .before .before .before .before .begin .result) (c .before .before .before .before .before .before .before .before .before .before .before .before .before .begin .ensures) (c .before .before .before .before .before .before .before .enum-told2 .given .1) _ (c .before .before .before .before .matched .ensures)
+field-returns-2 t c = field-matched _ _ _ _ _ _ _ (c .before .before .before .before .before .before .before .before .before .before .before .before .before .begin .result) (c .before .before .before .before .before .before .before .before .before .before .before .before .before .begin .ensures .0) (c .before .before .before .before .before .before .before .enum-told2 .given .1) _ (c .before .before .before .before .matched .ensures)
 
 pub field-same-length-5 : (t : ℕ) → field-lts.Need-same-length-5 (field-claims t) (field-at t) field.Post
 field-same-length-5 t c = c .before .before .before .before .partial .kept .1 .1 .0 ∙ c .before .before .before .before .before .before .before .before .before .before .before .before .before .begin .kept .1 .1 .0
@@ -56,7 +56,7 @@ pub field-same-length-6 : (t : ℕ) → field-lts.Need-same-length-6 (field-clai
 field-same-length-6 t c = c .before .before .before .before .partial .kept .1 .1 .1 .0 ∙ c .before .before .before .before .before .before .before .before .before .before .before .before .before .begin .kept .1 .1 .1 .0
 
 pub field-returns-3 : (t : ℕ) → field-lts.Need-returns-3 (field-claims t) (field-at t) field.Post
-field-returns-3 t c = field-partial _ _ _ _ _ _ _ (c .before .before .before .before .before .before .before .before .before .before .before .before .before .begin .result) (c .before .before .before .before .before .before .before .before .before .before .before .before .before .begin .ensures) (c .before .before .before .before .before .before .before .enum-told3 .given .1) _ (c .before .before .before .before .partial .ensures)
+field-returns-3 t c = field-partial _ _ _ _ _ _ _ (c .before .before .before .before .before .before .before .before .before .before .before .before .before .begin .result) (c .before .before .before .before .before .before .before .before .before .before .before .before .before .begin .ensures .0) (c .before .before .before .before .before .before .before .enum-told3 .given .1) _ (c .before .before .before .before .partial .ensures)
 
 pub field-same-length-7 : (t : ℕ) → field-lts.Need-same-length-7 (field-claims t) (field-at t) field.Post
 field-same-length-7 t c = c .before .before .before .before .inject .kept .1 .1 .0 ∙ c .before .before .before .before .before .before .before .before .before .before .before .before .before .begin .kept .1 .1 .0
@@ -65,4 +65,4 @@ pub field-same-length-8 : (t : ℕ) → field-lts.Need-same-length-8 (field-clai
 field-same-length-8 t c = c .before .before .before .before .inject .kept .1 .1 .1 .0 ∙ c .before .before .before .before .before .before .before .before .before .before .before .before .before .begin .kept .1 .1 .1 .0
 
 pub field-returns-4 : (t : ℕ) → field-lts.Need-returns-4 (field-claims t) (field-at t) field.Post
-field-returns-4 t c = field-inject _ _ _ _ _ _ _ (c .before .before .before .before .before .before .before .before .before .before .before .before .before .begin .result) (c .before .before .before .before .before .before .before .before .before .before .before .before .before .begin .ensures) (c .before .before .before .before .before .before .before .enum-told4 .given .1) _ (c .before .before .before .before .inject .ensures)
+field-returns-4 t c = field-inject _ _ _ _ _ _ _ (c .before .before .before .before .before .before .before .before .before .before .before .before .before .begin .result) (c .before .before .before .before .before .before .before .before .before .before .before .before .before .begin .ensures .0) (c .before .before .before .before .before .before .before .enum-told4 .given .1) _ (c .before .before .before .before .inject .ensures)
