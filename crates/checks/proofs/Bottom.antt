@@ -17,9 +17,9 @@ use Rattle.rules.specs.Checks.{childrenLower}
 use Rattle.file.proofs.Readers.{lt-or-le}
 use Rattle.file.proofs.Accepted.{sets-in}
 use Rattle.views.specs.Views.{run}
-use Rattle.numbers.specs.Numbers.{typesLower, nodesLower}
-use Rattle.numbers.proofs.Every.{if-both, both-inv, every-at}
-use Rattle.numbers.proofs.Seen.{types-lower-every, nodes-lower-every}
+use Rattle.record_checks.specs.Numbers.{typesLower, nodesLower}
+use Rattle.record_checks.proofs.Every.{if-both, both-inv, every-at}
+use Rattle.record_checks.proofs.Seen.{types-lower-every, nodes-lower-every}
 
 module _ {A B : Type 0} (f : List B → A → B) (d : B) (a : A) where
   bottom-length : (l : List A) (done : List B) → length (bottomUp f done l) ≡ length done + length l

@@ -27,9 +27,9 @@ use Rattle.views.specs.declared.SlotView.{SlotView}
 use Rattle.views.specs.declared.SlotView.the-variants as Sv
 use Rattle.views.proofs.Runs.{length-run}
 use Rattle.paths.specs.declared.Address.{Address}
-use Rattle.numbers.specs.Numbers.{recordIn, sectionIn}
-use Rattle.numbers.proofs.Every.{every, if-both, both-inv, every-at, all-every}
-use Rattle.numbers.proofs.Seen.{numbers-every, section-every, by-slot}
+use Rattle.record_checks.specs.Numbers.{recordIn, sectionIn}
+use Rattle.record_checks.proofs.Every.{every, if-both, both-inv, every-at, all-every}
+use Rattle.record_checks.proofs.Seen.{numbers-every, section-every, by-slot}
 use Rattle.checks.specs.Checked.{bitOf, flagsAt, flagsOf, slotsFit, fetchedFit}
 use Rattle.checks.proofs.Bottom.{store-next, stored-at, depth-agree, constant-agree, depths-long, constants-long, depths-entry, constants-entry, depth-bound, type-lower, node-lower}
 

@@ -15,8 +15,8 @@ use Rattle.rules.specs.File.{Tables, Node, nodeAt, childNodes}
 use Rattle.rules.specs.Checks.{childrenLower, childrenOnce}
 use Rattle.file.proofs.Readers.{down}
 use Rattle.views.specs.Views.{run}
-use Rattle.numbers.proofs.Every.{if-both, both-inv}
-use Rattle.numbers.proofs.Marks.{fresh, fresh-none, fresh-more, fresh-stop, fresh-zeros}
+use Rattle.record_checks.proofs.Every.{if-both, both-inv}
+use Rattle.record_checks.proofs.Marks.{fresh, fresh-none, fresh-more, fresh-stop, fresh-zeros}
 use Rattle.checks.specs.Checked.{once, marked}
 use Rattle.checks.proofs.Bottom.{node-lower}
 

@@ -14,8 +14,8 @@ use Rattle.views.specs.declared.TypeView.{TypeView}
 use Rattle.views.specs.declared.TypeView.the-variants as Tv
 use Rattle.views.specs.declared.NodeView.{NodeView}
 use Rattle.views.specs.declared.NodeView.the-variants as Nv
-use Rattle.numbers.proofs.Every.{if-both, both-inv}
-use Rattle.numbers.proofs.Seen.{by-type, by-node, record-children, union-children, pattern-children}
+use Rattle.record_checks.proofs.Every.{if-both, both-inv}
+use Rattle.record_checks.proofs.Seen.{by-type, by-node, record-children, union-children, pattern-children}
 use Rattle.checks.proofs.Bottom.{all-map}
 
 -- where a type's child numbers stand

@@ -12,12 +12,12 @@ use Rattle.rules.specs.Demand3.{Demand3}
 use Rattle.rules.proofs.Demand1.{demand1}
 use Rattle.rules.proofs.Demand3.{demand3}
 use Rattle.zeroes.specs.Zeroed.{zeroed}
-use Rattle.compile.specs.Endings.{outcomeOf, lengthOf, answerOf, Within}
+use Rattle.compile.specs.Endings.{endingOutcome, lengthOf, answerOf, Within}
 use Rattle.compile.specs.declared.Ending.{Ending}
 use Rattle.compile.specs.declared.Ending.the-variants.{Planned, Refused}
 
-answered : (e : Ending) (p : List ℕ) → Within e p → answerOf e ≡ returned (outcomeOf e p)
-unfolding returned outcomeOf
+answered : (e : Ending) (p : List ℕ) → Within e p → answerOf e ≡ returned (endingOutcome e p)
+unfolding returned endingOutcome
 answered (Planned n) p h = sym (length-take-le n p h)
 answered (Refused n) p h = refl
 
@@ -25,19 +25,19 @@ zeroed-whole : (w : List ℕ) → zeroed w 0 ≡ replicate (length w) 0
 unfolding zeroed
 zeroed-whole w = ap (λ (k : ℕ). replicate k 0) (sub-zero (length w))
 
-left : (e : Ending) (p : List ℕ) → Within e p → zeroed p (lengthOf e) ≡ buffer (length p) (outcomeOf e p)
-unfolding buffer outcomeOf zeroed
+left : (e : Ending) (p : List ℕ) → Within e p → zeroed p (lengthOf e) ≡ buffer (length p) (endingOutcome e p)
+unfolding buffer endingOutcome zeroed
 left (Planned n) p h = ap (λ (k : ℕ). take n p ++ replicate (length p - k) 0) (sym (length-take-le n p h))
 left (Refused n) p h = zeroed-whole p
 
-module _ (f p w : List ℕ) (e : Ending) (p′ : List ℕ) (is : outcomeOf e p′ ≡ outcome f (length p) (length w)) (h : Within e p′) where
+module _ (f p w : List ℕ) (e : Ending) (p′ : List ℕ) (is : endingOutcome e p′ ≡ outcome f (length p) (length w)) (h : Within e p′) where
   pub result-is : (r : ℕ) → r ≡ answerOf e → r ≡ compile f p w .result
   unfolding compile compiled
   result-is r q = q ∙ answered e p′ h ∙ ap returned is
 
   pub plan-is : (n : ℕ) (p″ : List ℕ) → length p′ ≡ length p → n ≡ lengthOf e → p″ ≡ zeroed p′ n → p″ ≡ compile f p w .plan
   unfolding compile compiled
-  plan-is n p″ l m q = q ∙ ap (zeroed p′) m ∙ left e p′ h ∙ ap (λ (k : ℕ). buffer k (outcomeOf e p′)) l ∙ ap (buffer (length p)) is
+  plan-is n p″ l m q = q ∙ ap (zeroed p′) m ∙ left e p′ h ∙ ap (λ (k : ℕ). buffer k (endingOutcome e p′)) l ∙ ap (buffer (length p)) is
 
   pub work-is : (w′ w″ : List ℕ) → length w′ ≡ length w → w″ ≡ zeroed w′ 0 → w″ ≡ compile f p w .work
   unfolding compile compiled

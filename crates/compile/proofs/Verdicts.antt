@@ -1,4 +1,4 @@
--- From the lent memory and the verdict on a file to the written rules' outcome.
+-- From the lent memory and the verdict on a file to the writtenTo rules' outcome.
 use mathlib.Core.Bool.{Bool, true, false}
 use mathlib.Core.List.{List, []}
 use mathlib.Core.Option.{Option, none, some}
@@ -14,22 +14,22 @@ use Rattle.rules.specs.Limits.{fileLimit, workLimit, planLimit}
 use Rattle.rules.specs.File.{Tables, isConstant}
 use Rattle.rules.specs.Read as Read
 use Rattle.rules.specs.Checks.{checks, fault}
-use Rattle.rules.specs.Compile as Rules
+use Rattle.rules.specs.Compile as CompileRules
 use Rattle.rules.specs.Compile.{Outcome, outcome}
 use Rattle.rules.specs.Demand1.{Byte}
 use Rattle.rules.proofs.Cases.{by-test, true≢false}
 use Rattle.rules.proofs.Choices.{by-test₂}
 use Rattle.state.specs.State.{state, stop}
 use Rattle.state.specs.Levels as Kept
-use Rattle.state.specs.Levels.{written, finished, compiled, lists}
+use Rattle.state.specs.Levels.{writtenTo, finished, compiled, lists}
 use Rattle.state.proofs.Whole.{exact-file}
 use Rattle.file.specs.Tables.{tablesOf}
-use Rattle.ready.specs.Ready.{Ready, flag}
+use Rattle.accepted_file.specs.AcceptedFile.{AcceptedFile, flag}
 use Rattle.checks.specs.Checked.{bitOf, Checked, verdictOf, allFault, readVerdict, fileVerdict}
 use Rattle.checks.specs.declared.Verdict.{Verdict}
 use Rattle.checks.specs.declared.Verdict.the-variants as Ve
-use Rattle.compile.specs.Endings.{outcomeOf, callVerdict, Memory, memory, memoryBy}
-use Rattle.levels.specs.Written.{unleveled, between, writtenOf}
+use Rattle.compile.specs.Endings.{endingOutcome, callVerdict, Memory, memory, memoryBy}
+use Rattle.levels.specs.Written.{unleveled, betweenLevels, writtenOf}
 use Rattle.compile.specs.declared.Ending.the-variants.{Planned, Refused}
 use Rattle.levels.specs.declared.Written.{Written}
 
@@ -59,18 +59,18 @@ refused-number m n e = cc
 accepted≢refused : (n : ℕ) → Ve.Accepted ≡ Ve.Refused n → ⊥
 accepted≢refused n e = let z : _≡_ {A = ℕ} 0 1 = cc in omega arith
 
-fault-refused : (room : ℕ) (T : Tables) (o : Option ℕ) (n : ℕ) → verdictOf o ≡ Ve.Refused n → Rules.checked room T o ≡ Outcome.refused n
-unfolding Rules.checked
+fault-refused : (room : ℕ) (T : Tables) (o : Option ℕ) (n : ℕ) → verdictOf o ≡ Ve.Refused n → CompileRules.checked room T o ≡ Outcome.refused n
+unfolding CompileRules.checked
 fault-refused room T none n e = absurd (accepted≢refused n e)
 fault-refused room T (some m) n e = ap Outcome.refused (refused-number m n e)
 
-read-refused : (room : ℕ) (r : Read.Read Tables) (n : ℕ) → readVerdict r ≡ Ve.Refused n → Rules.reading room r ≡ Outcome.refused n
-unfolding Rules.reading readVerdict allFault
+read-refused : (room : ℕ) (r : Read.Read Tables) (n : ℕ) → readVerdict r ≡ Ve.Refused n → CompileRules.reading room r ≡ Outcome.refused n
+unfolding CompileRules.reading readVerdict allFault
 read-refused room (Read.got T rest) n e = fault-refused room T (fault checks T) n e
 read-refused room (Read.refused m) n e = ap Outcome.refused (refused-number m n e)
 
-pub refused-outcome : (f p : List ℕ) (room area n : ℕ) → callVerdict f area ≡ Ve.Refused n → outcomeOf (Refused n) p ≡ outcome f room area
-unfolding callVerdict fileVerdict outcomeOf outcome
+pub refused-outcome : (f p : List ℕ) (room area n : ℕ) → callVerdict f area ≡ Ve.Refused n → endingOutcome (Refused n) p ≡ outcome f room area
+unfolding callVerdict fileVerdict endingOutcome outcome
 refused-outcome f p room area n =
     by-test₂ (λ (v : Verdict) (o : Outcome). v ≡ Ve.Refused n → Outcome.refused n ≡ o) (leb (length f) fileLimit)
     (λ q. by-test₂ (λ (v : Verdict) (o : Outcome). v ≡ Ve.Refused n → Outcome.refused n ≡ o) (leb workLimit area)
@@ -87,7 +87,7 @@ bit-flag : (b : Bool) → bitOf b ≡ flag b
 bit-flag true = refl
 bit-flag false = refl
 
-pub ready : (f ix : List ℕ) (v : Verdict) → v ≡ fileVerdict f → v ≡ Ve.Accepted → Checked f ix → Ready f ix
+pub ready : (f ix : List ℕ) (v : Verdict) → v ≡ fileVerdict f → v ≡ Ve.Accepted → Checked f ix → AcceptedFile f ix
 unfolding fileVerdict readVerdict allFault
 ready f ix v e q k =
     let filled = k .numbered .filled in
@@ -99,7 +99,7 @@ ready f ix v e q k =
       last-bindings = filled .last-at;
     }
 
-pub accepted-outcome : (f ix : List ℕ) → Each Byte f → Ready f ix → (work plan : List ℕ) → length f ≤ fileLimit → workLimit ≤ length work → Kept.outcomeOf (compiled (tablesOf f) work plan) ≡ outcome f (length plan) (length work)
+pub accepted-outcome : (f ix : List ℕ) → Each Byte f → AcceptedFile f ix → (work plan : List ℕ) → length f ≤ fileLimit → workLimit ≤ length work → Kept.writtenOutcome (compiled (tablesOf f) work plan) ≡ outcome f (length plan) (length work)
 accepted-outcome f ix b k work plan short large = exact-file f b (tablesOf f) [] (k .indexed .accepted) (k .accepted) work plan short large
 
 -- a plan that is not too long lies within its buffer
@@ -108,7 +108,7 @@ unfolding finished stop
 finished-within k =
     by-test (λ (r : Kept.Written). r .state .over ≡ false → r .at ≤ length (r .state .plan)) (k .state .over) (λ q e. absurd (true≢false (sym q ∙ e)))
     (λ q. by-test (λ (r : Kept.Written). r .state .over ≡ false → r .at ≤ length (r .state .plan)) (leb (k .at + length (lists (k .state))) (min planLimit (length (k .state .plan))))
-    {x = written (k .at + length (lists (k .state))) (state false (k .state .ends) (k .state .level) (k .state .target) (k .state .work) (sets (k .state .plan) (k .at) (lists (k .state))))}
+    {x = writtenTo (k .at + length (lists (k .state))) (state false (k .state .ends) (k .state .level) (k .state .target) (k .state .work) (sets (k .state .plan) (k .at) (lists (k .state))))}
     (λ t e. omega (arith, leb-true (k .at + length (lists (k .state))) (min planLimit (length (k .state .plan))) t, length-sets (k .state .plan) (k .at) (lists (k .state))))
     (λ t e. absurd (true≢false e)))
 
@@ -120,21 +120,21 @@ pub refused-memory : (v : Verdict) (n : ℕ) (T : Tables) (work plan : List ℕ)
 unfolding memoryBy
 refused-memory v n T work plan e = left-by (Ve.Refused n) v T work plan (memory work plan) refl (sym e)
 
-module _ (T : Tables) (work plan work′ plan′ : List ℕ) (w : Written) (e : writtenOf w work′ plan′ ≡ between (compiled T work plan)) where
-  same : Kept.outcomeOf (writtenOf w work′ plan′) ≡ Kept.outcomeOf (compiled T work plan)
-  unfolding between unleveled Kept.outcomeOf
-  same = ap Kept.outcomeOf e
+module _ (T : Tables) (work plan work′ plan′ : List ℕ) (w : Written) (e : writtenOf w work′ plan′ ≡ betweenLevels (compiled T work plan)) where
+  same : Kept.writtenOutcome (writtenOf w work′ plan′) ≡ Kept.writtenOutcome (compiled T work plan)
+  unfolding betweenLevels unleveled Kept.writtenOutcome
+  same = ap Kept.writtenOutcome e
 
   pub kept-memory : memory work′ plan′ ≡ memoryBy Ve.Accepted T work plan
-  unfolding writtenOf between unleveled memoryBy
+  unfolding writtenOf betweenLevels unleveled memoryBy
   kept-memory = ap (λ (k : Kept.Written). memory (k .state .work) (k .state .plan)) e
 
-  pub too-long : w .lists .over ≡ true → outcomeOf (Refused 15) plan′ ≡ Kept.outcomeOf (compiled T work plan)
-  unfolding outcomeOf Kept.outcomeOf writtenOf
+  pub too-long : w .lists .over ≡ true → endingOutcome (Refused 15) plan′ ≡ Kept.writtenOutcome (compiled T work plan)
+  unfolding endingOutcome Kept.writtenOutcome writtenOf
   too-long o = ap (λ (b : Bool). elim b [ true ↦ Outcome.refused 15 | false ↦ Outcome.planned (take (w .at) plan′) ]) (sym o) ∙ same
 
-  pub short-enough : w .lists .over ≡ false → (outcomeOf (Planned (w .at)) plan′ ≡ Kept.outcomeOf (compiled T work plan)) × (w .at ≤ length plan′)
-  unfolding outcomeOf Kept.outcomeOf writtenOf between unleveled compiled
+  pub short-enough : w .lists .over ≡ false → (endingOutcome (Planned (w .at)) plan′ ≡ Kept.writtenOutcome (compiled T work plan)) × (w .at ≤ length plan′)
+  unfolding endingOutcome Kept.writtenOutcome writtenOf betweenLevels unleveled compiled
   short-enough o = (
     ap (λ (b : Bool). elim b [ true ↦ Outcome.refused 15 | false ↦ Outcome.planned (take (w .at) plan′) ]) (sym o) ∙ same,
     omega (arith, ap (λ k. k .at) e, ap (λ k. length (k .state .plan)) e, finished-within _ (ap (λ k. k .state .over) (sym e) ∙ o)),

@@ -15,9 +15,9 @@ use Rattle.compile.specs.declared.Ending.{Ending}
 use Rattle.compile.specs.declared.Ending.the-variants.{Planned, Refused}
 
 -- the written rules' outcome: a plan stands at the front of its buffer
-unfoldable pub outcomeOf : Ending → List ℕ → Outcome
-outcomeOf (Planned n) plan = Outcome.planned (take n plan)
-outcomeOf (Refused n) plan = Outcome.refused n
+unfoldable pub endingOutcome : Ending → List ℕ → Outcome
+endingOutcome (Planned n) plan = Outcome.planned (take n plan)
+endingOutcome (Refused n) plan = Outcome.refused n
 
 abbrev pub lengthOf : Ending → ℕ
 lengthOf (Planned n) = n

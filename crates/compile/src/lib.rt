@@ -3,13 +3,13 @@ ghost use mathlib.Core.Path.{_≡_};
 ghost use Prim.Native.Nat.{ℕ, _≤_, _<_};
 ghost use lib.ListN.{length, take};
 ghost use Rattle.rules.specs.Limits.{fileLimit, workLimit};
-ghost use Rattle.rules.specs.Compile as Rules;
+ghost use Rattle.rules.specs.Compile as CompileRules;
 ghost use Rattle.rules.specs.Demand1.{refusals, Demand1};
 ghost use Rattle.rules.specs.Demand3.{Demand3};
 ghost use Rattle.state.specs.Levels as Kept;
 ghost use Rattle.file.specs.Tables.{tablesOf};
-ghost use Rattle.ready.specs.Ready.{Ready};
-ghost use Rattle.compile.specs.Endings.{outcomeOf, lengthOf, answerOf, Within, callVerdict, memory};
+ghost use Rattle.accepted_file.specs.AcceptedFile.{AcceptedFile};
+ghost use Rattle.compile.specs.Endings.{endingOutcome, lengthOf, answerOf, Within, callVerdict, memory};
 ghost use Rattle.compile.specs.Endings.{memoryBy};
 ghost use Rattle.checks.specs.Checked.{fileVerdict};
 use checks::Verdict;
@@ -30,10 +30,10 @@ pub enum Ending {
 
 // What an accepted file comes to.
 fn accepted(file: &[u8], index: &[u16], plan: &mut [u8], work: &mut [u8]) -> Ending
-    requires { ⌜ Ready (now file) (now index) ⌝ }
+    requires { ⌜ AcceptedFile (now file) (now index) ⌝ }
     ensures outcome { λ r. ⌜ (
         let T = tablesOf (now (file .entry)) in
-        outcomeOf r (now (plan .exit)) ≡ Kept.outcomeOf (Kept.compiled T (now (work .entry)) (now (plan .entry)))
+        endingOutcome r (now (plan .exit)) ≡ Kept.writtenOutcome (Kept.compiled T (now (work .entry)) (now (plan .entry)))
         ) ⌝ }
     ensures within { λ r. ⌜ Within r (now (plan .exit)) ⌝ }
     ensures memory { λ _. ⌜ (
@@ -57,7 +57,7 @@ fn checked(file: &[u8], plan: &mut [u8], work: &mut [u8]) -> Ending
     ensures outcome { λ r. ⌜ (
         let room = length (now (plan .entry)) in
         let area = length (now (work .entry)) in
-        outcomeOf r (now (plan .exit)) ≡ Rules.outcome (now (file .entry)) room area
+        endingOutcome r (now (plan .exit)) ≡ CompileRules.outcome (now (file .entry)) room area
         ) ⌝ }
     ensures within { λ r. ⌜ Within r (now (plan .exit)) ⌝ }
     ensures memory { λ _. ⌜ (
@@ -79,7 +79,7 @@ fn decide(file: &[u8], plan: &mut [u8], work: &mut [u8]) -> Ending
     ensures outcome { λ r. ⌜ (
         let room = length (now (plan .entry)) in
         let area = length (now (work .entry)) in
-        outcomeOf r (now (plan .exit)) ≡ Rules.outcome (now (file .entry)) room area
+        endingOutcome r (now (plan .exit)) ≡ CompileRules.outcome (now (file .entry)) room area
         ) ⌝ }
     ensures within { λ r. ⌜ Within r (now (plan .exit)) ⌝ }
     ensures memory { λ _. ⌜ (
@@ -125,15 +125,15 @@ impl Ending {
 #[no_mangle]
 pub extern "C" fn sinalvento_compile(file: &[u8], plan: &mut [u8], work: &mut [u8]) -> u64
     ensures result { λ r. ⌜ (
-        let c = Rules.compile (now (file .entry)) (now (plan .entry)) (now (work .entry)) in
+        let c = CompileRules.compile (now (file .entry)) (now (plan .entry)) (now (work .entry)) in
         r ≡ c .result
         ) ⌝ }
     ensures plan { λ _. ⌜ (
-        let c = Rules.compile (now (file .entry)) (now (plan .entry)) (now (work .entry)) in
+        let c = CompileRules.compile (now (file .entry)) (now (plan .entry)) (now (work .entry)) in
         now (plan .exit) ≡ c .plan
         ) ⌝ }
     ensures work { λ _. ⌜ (
-        let c = Rules.compile (now (file .entry)) (now (plan .entry)) (now (work .entry)) in
+        let c = CompileRules.compile (now (file .entry)) (now (plan .entry)) (now (work .entry)) in
         now (work .exit) ≡ c .work
         ) ⌝ }
     ensures demand1 { λ r. ⌜ (

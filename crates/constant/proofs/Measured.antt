@@ -11,7 +11,7 @@ use denote.Enum.Declared.{tagOf}
 use Rattle.rules.specs.Base.{_>>=_}
 use Rattle.rules.specs.File.{Tables, Ty}
 use Rattle.rules.specs.File as File
-use Rattle.rules.specs.Constant as Rules
+use Rattle.rules.specs.Constant as ConstantRules
 use Rattle.rules.specs.Constant.{bytesOnly, fieldPattern, onlyField, encodeRecord, encodeUnion, unionTag, bigEndian32, constantFields, constantRecord}
 use Rattle.rules.proofs.Cases.{bind-some}
 use Rattle.rules.proofs.Each.{each-first, each-at}
@@ -23,7 +23,7 @@ use Rattle.views.specs.declared.TypeView.{TypeView}
 use Rattle.views.specs.declared.TypeView.the-variants as Tv
 use Rattle.views.proofs.TypeView as TypeViews
 use Rattle.views.proofs.Runs.{run-at, length-run}
-use Rattle.ready.specs.Ready.{rank, PatternOk}
+use Rattle.accepted_file.specs.AcceptedFile.{constantRank, PatternOk}
 use Rattle.tables.specs.Tables.{foundOption, alternativeOption}
 use Rattle.tables.specs.declared.Found.{Found}
 use Rattle.tables.specs.declared.Found.the-variants as Fo
@@ -52,19 +52,19 @@ size-none k none e = refl
 size-none k (some bytes) e = absurd (let z : _≡_ {A = ℕ} 0 1 = cc in omega arith)
 
 -- the length that a constant carries is its bytes'
-only-size : (T : Tables) (n t : ℕ) (o : Option Rules.Const) → sizeOf (viewOf T n t o) ≡ sizeWith 0 (o >>= bytesOnly)
+only-size : (T : Tables) (n t : ℕ) (o : Option ConstantRules.Const) → sizeOf (viewOf T n t o) ≡ sizeWith 0 (o >>= bytesOnly)
 unfolding _>>=_ bytesOnly sizeWith
 only-size T n t none = refl
-only-size T n t (some (Rules.Const.Bytes bytes)) = let e : min cap (length bytes) ≡ min cap (0 + length bytes) = omega arith in ap Si.Of e
-only-size T n t (some (Rules.Const.Prefix bytes)) = refl
-only-size T n t (some (Rules.Const.Fuzzy x d a)) = refl
+only-size T n t (some (ConstantRules.Const.Bytes bytes)) = let e : min cap (length bytes) ≡ min cap (0 + length bytes) = omega arith in ap Si.Of e
+only-size T n t (some (ConstantRules.Const.Prefix bytes)) = refl
+only-size T n t (some (ConstantRules.Const.Fuzzy x d a)) = refl
 
-pub only-const : (T : Tables) (n t : ℕ) (c : Const) (s : Size) → c ≡ constView T n t → s ≡ sizeOf c → s ≡ sizeWith 0 (Rules.constant T n t >>= bytesOnly)
+pub only-const : (T : Tables) (n t : ℕ) (c : Const) (s : Size) → c ≡ constView T n t → s ≡ sizeOf c → s ≡ sizeWith 0 (ConstantRules.constant T n t >>= bytesOnly)
 unfolding constView
-only-const T n t c s e q = q ∙ ap sizeOf e ∙ only-size T n t (Rules.constant T n t)
+only-const T n t c s e q = q ∙ ap sizeOf e ∙ only-size T n t (ConstantRules.constant T n t)
 
 -- A field: the first pattern of its name.
-module _ (b : ℕ → ℕ → Option Rules.Const) (patterns : List File.FieldPattern) (x t : ℕ) where
+module _ (b : ℕ → ℕ → Option ConstantRules.Const) (patterns : List File.FieldPattern) (x t : ℕ) where
   pub field-none : (r : Found) → foundOption r ≡ fieldPattern patterns x → r ≡ Fo.Nothing → Si.Nothing ≡ sizeWith 0 (fieldBytes b patterns x t)
   unfolding fieldBytes _>>=_ sizeWith
   field-none r e q = ap (λ (o : Option ℕ). sizeWith 0 (o >>= λ p. b p t >>= bytesOnly)) (sym (ap foundOption q) ∙ e)
@@ -74,18 +74,18 @@ module _ (b : ℕ → ℕ → Option Rules.Const) (patterns : List File.FieldPat
   field-some r p s e q g = g ∙ ap (λ (o : Option ℕ). sizeWith 0 (o >>= λ p. b p t >>= bytesOnly)) (sym (ap foundOption q) ∙ e)
 
 -- the pattern that was found
-pub pattern-ok : (f : List ℕ) (T : Tables) (node n at x : ℕ) → Patterns f T node n at → (r : Found) (p : ℕ) → foundOption r ≡ fieldPattern (run (patternAt f) 4 n at) x → r ≡ Fo.At p → (p < length (T .nodes)) × (rank T p < rank T node)
+pub pattern-ok : (f : List ℕ) (T : Tables) (node n at x : ℕ) → Patterns f T node n at → (r : Found) (p : ℕ) → foundOption r ≡ fieldPattern (run (patternAt f) 4 n at) x → r ≡ Fo.At p → (p < length (T .nodes)) × (constantRank T p < constantRank T node)
 unfolding fieldPattern
 pattern-ok f T node n at x k r p e q =
     let w = bind-some _ (λ g. some (g .node)) p (sym e ∙ ap foundOption q) in
     let o = each-first (λ g. eqb (g .name) x) (k .each) (w .0) (w .1) in
-    subst (λ (m : ℕ). (m < length (T .nodes)) × (rank T m < rank T node)) (some-is (w .2)) (o .in-nodes, o .lower)
+    subst (λ (m : ℕ). (m < length (T .nodes)) × (constantRank T m < constantRank T node)) (some-is (w .2)) (o .in-nodes, o .lower)
   where
     some-is : {a b : ℕ} → some a ≡ some b → a ≡ b
     some-is {a} {b} e = cc
 
 -- The fields of a type, of which i are measured.
-module _ (b : ℕ → ℕ → Option Rules.Const) (patterns : List File.FieldPattern) (f : List ℕ) (k from : ℕ) where
+module _ (b : ℕ → ℕ → Option ConstantRules.Const) (patterns : List File.FieldPattern) (f : List ℕ) (k from : ℕ) where
   unfoldable pub fieldsFrom : ℕ → Option (List ℕ)
   fieldsFrom i = constantFields b patterns (run (fieldAt f) 4 (k - i) (from + 4 * i))
 
@@ -101,7 +101,7 @@ module _ (b : ℕ → ℕ → Option Rules.Const) (patterns : List File.FieldPat
   regroup none t rest = refl
   regroup (some p) t rest = go (b p t)
     where
-      go : (c : Option Rules.Const) → (c >>= λ c. bytesOnly c >>= λ bytes. rest >>= λ more. some (bytes ++ more)) ≡ ((c >>= bytesOnly) >>= λ bytes. rest >>= λ more. some (bytes ++ more))
+      go : (c : Option ConstantRules.Const) → (c >>= λ c. bytesOnly c >>= λ bytes. rest >>= λ more. some (bytes ++ more)) ≡ ((c >>= bytesOnly) >>= λ bytes. rest >>= λ more. some (bytes ++ more))
       go none = refl
       go (some c) = refl
 
@@ -175,12 +175,12 @@ only-other f at zero d = refl
 only-other f at (suc zero) d = absurd (d refl)
 only-other f at (suc (suc m)) d = refl
 
-module _ (b : ℕ → ℕ → Option Rules.Const) (f : List ℕ) (n at : ℕ) (alts : List File.Alternative) where
+module _ (b : ℕ → ℕ → Option ConstantRules.Const) (f : List ℕ) (n at : ℕ) (alts : List File.Alternative) where
   pub payload-many : (n ≡ 1 → ⊥) → Si.Nothing ≡ sizeWith 0 (payloadBytes b (run (patternAt f) 4 n at) alts)
   unfolding payloadBytes _>>=_ sizeWith
-  payload-many d = sym (ap (λ (o : Option File.FieldPattern). sizeWith 0 (o >>= λ g. Rules.alternativeOf alts (g .name) >>= λ a. b (g .node) (a .type) >>= bytesOnly)) (only-other f at n d))
+  payload-many d = sym (ap (λ (o : Option File.FieldPattern). sizeWith 0 (o >>= λ g. ConstantRules.alternativeOf alts (g .name) >>= λ a. b (g .node) (a .type) >>= bytesOnly)) (only-other f at n d))
 
-  module _ (one : n ≡ 1) (v : FieldPattern) (e : patternOf v ≡ patternAt f (at + 4 * 0)) (r : MaybeAlternative) (q : alternativeOption r ≡ Rules.alternativeOf alts (v .name)) where
+  module _ (one : n ≡ 1) (v : FieldPattern) (e : patternOf v ≡ patternAt f (at + 4 * 0)) (r : MaybeAlternative) (q : alternativeOption r ≡ ConstantRules.alternativeOf alts (v .name)) where
     only-one : onlyField (run (patternAt f) 4 n at) ≡ some (patternOf v)
     unfolding run onlyField
     only-one =
@@ -190,7 +190,7 @@ module _ (b : ℕ → ℕ → Option Rules.Const) (f : List ℕ) (n at : ℕ) (a
     payload-is : payloadBytes b (run (patternAt f) 4 n at) alts ≡ (alternativeOption r >>= λ a. b (v .node) (a .type) >>= bytesOnly)
     unfolding payloadBytes _>>=_
     payload-is =
-        ap (λ (o : Option File.FieldPattern). o >>= λ g. Rules.alternativeOf alts (g .name) >>= λ a. b (g .node) (a .type) >>= bytesOnly) only-one
+        ap (λ (o : Option File.FieldPattern). o >>= λ g. ConstantRules.alternativeOf alts (g .name) >>= λ a. b (g .node) (a .type) >>= bytesOnly) only-one
         ∙ ap (λ (o : Option File.Alternative). o >>= λ a. b (v .node) (a .type) >>= bytesOnly) (sym q)
 
     pub payload-none : r ≡ Ma.Nothing → Si.Nothing ≡ sizeWith 0 (payloadBytes b (run (patternAt f) 4 n at) alts)
@@ -202,19 +202,19 @@ module _ (b : ℕ → ℕ → Option Rules.Const) (f : List ℕ) (n at : ℕ) (a
     payload-some a s d g = g ∙ sym (ap (sizeWith 0) (payload-is ∙ ap (λ (r : MaybeAlternative). alternativeOption r >>= λ a. b (v .node) (a .type) >>= bytesOnly) d))
 
 -- the only pattern and the alternative that was found
-pub only-ok : (f : List ℕ) (T : Tables) (node n at : ℕ) → Patterns f T node n at → n ≡ 1 → (v : FieldPattern) → patternOf v ≡ patternAt f (at + 4 * 0) → (v .node < length (T .nodes)) × (rank T (v .node) < rank T node)
+pub only-ok : (f : List ℕ) (T : Tables) (node n at : ℕ) → Patterns f T node n at → n ≡ 1 → (v : FieldPattern) → patternOf v ≡ patternAt f (at + 4 * 0) → (v .node < length (T .nodes)) × (constantRank T (v .node) < constantRank T node)
 only-ok f T node n at k one v e =
     let l : 0 < length (run (patternAt f) 4 n at) = omega (arith, length-run (patternAt f) 4 n at) in
-    let o = subst (PatternOk T (rank T node)) (run-at (patternAt f) 4 n at 0 (patternOf v) (omega arith) ∙ sym e) (each-at (k .each) 0 (patternOf v) l) in
+    let o = subst (PatternOk T (constantRank T node)) (run-at (patternAt f) 4 n at 0 (patternOf v) (omega arith) ∙ sym e) (each-at (k .each) 0 (patternOf v) l) in
     (o .in-nodes, o .lower)
 
-pub alternative-ok : (f : List ℕ) (T : Tables) (k from x : ℕ) → Alternatives f T k from → (r : MaybeAlternative) (a : Alternative) → alternativeOption r ≡ Rules.alternativeOf (run (alternativeAt f) 8 k from) x → r ≡ Ma.Just a → a .ty < length (T .types)
-unfolding Rules.alternativeOf
+pub alternative-ok : (f : List ℕ) (T : Tables) (k from x : ℕ) → Alternatives f T k from → (r : MaybeAlternative) (a : Alternative) → alternativeOption r ≡ ConstantRules.alternativeOf (run (alternativeAt f) 8 k from) x → r ≡ Ma.Just a → a .ty < length (T .types)
+unfolding ConstantRules.alternativeOf
 alternative-ok f T k from x o r a e q = each-first (λ a. eqb (a .name) x) (o .each) (alternativeOf a) (sym e ∙ ap alternativeOption q)
 
 -- A record or a union around what was measured.
-module _ (T : Tables) (n t : ℕ) (b : ℕ → ℕ → Option Rules.Const) (patterns : List File.FieldPattern) where
-  around : (k : ℕ) (enc : List ℕ → List ℕ) → ((bytes : List ℕ) → length (enc bytes) ≡ k + length bytes) → (o : Option (List ℕ)) → wrapped n t k (sizeWith 0 o) ≡ viewOf T n t (o >>= λ bytes. some (Rules.Const.Bytes (enc bytes)))
+module _ (T : Tables) (n t : ℕ) (b : ℕ → ℕ → Option ConstantRules.Const) (patterns : List File.FieldPattern) where
+  around : (k : ℕ) (enc : List ℕ → List ℕ) → ((bytes : List ℕ) → length (enc bytes) ≡ k + length bytes) → (o : Option (List ℕ)) → wrapped n t k (sizeWith 0 o) ≡ viewOf T n t (o >>= λ bytes. some (ConstantRules.Const.Bytes (enc bytes)))
   unfolding _>>=_ sizeWith
   around k enc h none = refl
   around k enc h (some bytes) =
@@ -234,17 +234,17 @@ module _ (T : Tables) (n t : ℕ) (b : ℕ → ℕ → Option Rules.Const) (patt
   unfolding constantRecord payloadBytes _>>=_ sizeWith
   union-view alts = go (onlyField patterns)
     where
-      last : (d : ℕ) (o : Option Rules.Const) → wrapped n t 6 (sizeWith 0 (o >>= bytesOnly)) ≡ viewOf T n t (o >>= λ c. bytesOnly c >>= λ bytes. some (Rules.Const.Bytes (encodeUnion d bytes)))
+      last : (d : ℕ) (o : Option ConstantRules.Const) → wrapped n t 6 (sizeWith 0 (o >>= bytesOnly)) ≡ viewOf T n t (o >>= λ c. bytesOnly c >>= λ bytes. some (ConstantRules.Const.Bytes (encodeUnion d bytes)))
       last d none = refl
       last d (some c) = around 6 (encodeUnion d) (tagged d) (bytesOnly c)
 
-      among : (g : File.FieldPattern) (o : Option File.Alternative) → wrapped n t 6 (sizeWith 0 (o >>= λ a. b (g .node) (a .type) >>= bytesOnly)) ≡ viewOf T n t (o >>= λ a. b (g .node) (a .type) >>= λ c. bytesOnly c >>= λ bytes. some (Rules.Const.Bytes (encodeUnion (a .disc) bytes)))
+      among : (g : File.FieldPattern) (o : Option File.Alternative) → wrapped n t 6 (sizeWith 0 (o >>= λ a. b (g .node) (a .type) >>= bytesOnly)) ≡ viewOf T n t (o >>= λ a. b (g .node) (a .type) >>= λ c. bytesOnly c >>= λ bytes. some (ConstantRules.Const.Bytes (encodeUnion (a .disc) bytes)))
       among g none = refl
       among g (some a) = last (a .disc) (b (g .node) (a .type))
 
-      go : (o : Option File.FieldPattern) → wrapped n t 6 (sizeWith 0 (o >>= λ g. Rules.alternativeOf alts (g .name) >>= λ a. b (g .node) (a .type) >>= bytesOnly)) ≡ viewOf T n t (o >>= λ g. Rules.alternativeOf alts (g .name) >>= λ a. b (g .node) (a .type) >>= λ c. bytesOnly c >>= λ bytes. some (Rules.Const.Bytes (encodeUnion (a .disc) bytes)))
+      go : (o : Option File.FieldPattern) → wrapped n t 6 (sizeWith 0 (o >>= λ g. ConstantRules.alternativeOf alts (g .name) >>= λ a. b (g .node) (a .type) >>= bytesOnly)) ≡ viewOf T n t (o >>= λ g. ConstantRules.alternativeOf alts (g .name) >>= λ a. b (g .node) (a .type) >>= λ c. bytesOnly c >>= λ bytes. some (ConstantRules.Const.Bytes (encodeUnion (a .disc) bytes)))
       go none = refl
-      go (some g) = among g (Rules.alternativeOf alts (g .name))
+      go (some g) = among g (ConstantRules.alternativeOf alts (g .name))
 
   -- a type that is neither Record nor Union
   pub neither : (f : List ℕ) (v : TypeView) → OneOf (0 ∷ 1 ∷ 2 ∷ 3 ∷ []) (tagOf TypeViews.the-type v) → constantRecord b patterns (typeOf f v) ≡ none

@@ -6,12 +6,12 @@ use lib.ListN.{length}
 use Rattle.rules.specs.Base.{Each, _>>=_}
 use Rattle.rules.specs.File as File
 use Rattle.rules.specs.File.{Tables, FieldPattern, Ty, Node, nodeAt}
-use Rattle.rules.specs.Constant as Rules
+use Rattle.rules.specs.Constant as ConstantRules
 use Rattle.rules.specs.Constant.{bytesOnly, fieldPattern, alternativeOf, onlyField, standsFor}
 use Rattle.views.specs.Views.{run, fieldAt, alternativeAt, patternAt}
 use Rattle.views.specs.declared.Anchor.{Anchor}
 use Rattle.views.specs.declared.Anchor.the-variants as An
-use Rattle.ready.specs.Ready.{rank, PatternOk}
+use Rattle.accepted_file.specs.AcceptedFile.{constantRank, PatternOk}
 use Rattle.constant.specs.declared.Const.{Const}
 use Rattle.constant.specs.declared.Const.the-variants as Co
 use Rattle.constant.specs.declared.Size.{Size}
@@ -57,18 +57,18 @@ prefixName Node.Arith = 0
 prefixName Node.Error = 0
 
 -- the code's constant for the rules', of node n at type t
-abbrev pub viewSome : Tables → ℕ → ℕ → Rules.Const → Const
-viewSome T n t (Rules.Const.Bytes bytes) = Co.Bytes n t (min cap (length bytes))
-viewSome T n t (Rules.Const.Prefix bytes) = Co.Prefix (prefixName (nodeAt T (standsFor T n)))
-viewSome T n t (Rules.Const.Fuzzy x d a) = Co.Fuzzy x d (anchorView a)
+abbrev pub viewSome : Tables → ℕ → ℕ → ConstantRules.Const → Const
+viewSome T n t (ConstantRules.Const.Bytes bytes) = Co.Bytes n t (min cap (length bytes))
+viewSome T n t (ConstantRules.Const.Prefix bytes) = Co.Prefix (prefixName (nodeAt T (standsFor T n)))
+viewSome T n t (ConstantRules.Const.Fuzzy x d a) = Co.Fuzzy x d (anchorView a)
 
-abbrev pub viewOf : Tables → ℕ → ℕ → Option Rules.Const → Const
+abbrev pub viewOf : Tables → ℕ → ℕ → Option ConstantRules.Const → Const
 viewOf T n t none = Co.Nothing
 viewOf T n t (some c) = viewSome T n t c
 
 -- the constant of node n at type t, as the code has it
 unfoldable pub constView : Tables → ℕ → ℕ → Const
-constView T n t = viewOf T n t (Rules.constant T n t)
+constView T n t = viewOf T n t (ConstantRules.constant T n t)
 
 -- a constant that fits one type alone
 abbrev pub intOnly : Ty → Const → Const
@@ -108,14 +108,14 @@ wrapped n t k Si.Nothing = Co.Nothing
 wrapped n t k (Si.Of l) = Co.Bytes n t (min cap (k + l))
 
 -- a field's bytes: those of the first pattern of its name
-unfoldable pub fieldBytes : (ℕ → ℕ → Option Rules.Const) → List FieldPattern → ℕ → ℕ → Option (List ℕ)
+unfoldable pub fieldBytes : (ℕ → ℕ → Option ConstantRules.Const) → List FieldPattern → ℕ → ℕ → Option (List ℕ)
 fieldBytes below patterns x t = do
   pattern ← fieldPattern patterns x
   constant ← below pattern t
   bytesOnly constant
 
 -- the payload's bytes of a union value
-unfoldable pub payloadBytes : (ℕ → ℕ → Option Rules.Const) → List FieldPattern → List File.Alternative → Option (List ℕ)
+unfoldable pub payloadBytes : (ℕ → ℕ → Option ConstantRules.Const) → List FieldPattern → List File.Alternative → Option (List ℕ)
 payloadBytes below patterns alts = do
   f ← onlyField patterns
   alt ← alternativeOf alts (f .name)
@@ -125,7 +125,7 @@ payloadBytes below patterns alts = do
 -- the pairs of a Record below node, the fields of a Record type and the alternatives of a Union type, where they stand in file f
 pub record Patterns (f : List ℕ) (T : Tables) (node n at : ℕ) : Type 0 where
   pub inside : at + 4 * n ≤ length f
-  pub each : Each (PatternOk T (rank T node)) (run (patternAt f) 4 n at)
+  pub each : Each (PatternOk T (constantRank T node)) (run (patternAt f) 4 n at)
 
 pub record Fields (f : List ℕ) (T : Tables) (n at : ℕ) : Type 0 where
   pub inside : at + 4 * n ≤ length f

@@ -6,11 +6,11 @@ ghost use mathlib.Core.List.{[], _∷_};
 ghost use lib.ListN.{length};
 ghost use Rattle.rules.specs.Limits.{fileLimit};
 ghost use Rattle.rules.specs.File.{nameAt, typeAt};
-ghost use Rattle.rules.specs.Constant as Rules;
+ghost use Rattle.rules.specs.Constant as ConstantRules;
 ghost use Rattle.rules.specs.Constant.{escape, encodePrefix, constantFields, constantRecord};
 ghost use Rattle.file.specs.Tables.{Indexed, tablesOf};
 ghost use Rattle.views.specs.Views.{run, byteAt, fieldAt, alternativeAt, patternAt};
-ghost use Rattle.ready.specs.Ready.{Ready};
+ghost use Rattle.accepted_file.specs.AcceptedFile.{AcceptedFile};
 ghost use Rattle.constant.specs.Plain.{leastByte, plain};
 ghost use Rattle.constant.specs.Sizes.{cap, sizeWith, Small, viewOf, constView, intOnly, strOnly, bytesAlone, sizeOf, wrapped, fieldBytes, payloadBytes, Patterns, Fields, Alternatives};
 use file::least;
@@ -197,13 +197,13 @@ fn constant_field(
     name: usize,
     ty: usize,
 ) -> Size
-    requires { ⌜ Ready (now file) (now index) ⌝ }
+    requires { ⌜ AcceptedFile (now file) (now index) ⌝ }
     requires { ⌜ Patterns (now file) (tablesOf (now file)) node n at ⌝ }
     requires { ⌜ ty < length (tablesOf (now file) .types) ⌝ }
     ensures { λ r. ⌜ (
         let f = now (file .entry) in
         let patterns = run (patternAt f) 4 n at in
-        r ≡ sizeWith 0 (fieldBytes (Rules.constant (tablesOf f)) patterns name ty)
+        r ≡ sizeWith 0 (fieldBytes (ConstantRules.constant (tablesOf f)) patterns name ty)
         ) ⌝ }
 {
     let Found::At(p) = field_pattern(file, at, n, name) else {
@@ -222,14 +222,14 @@ fn constant_fields(
     k: usize,
     from: usize,
 ) -> Size
-    requires { ⌜ Ready (now file) (now index) ⌝ }
+    requires { ⌜ AcceptedFile (now file) (now index) ⌝ }
     requires { ⌜ Patterns (now file) (tablesOf (now file)) node n at ⌝ }
     requires { ⌜ Fields (now file) (tablesOf (now file)) k from ⌝ }
     ensures { λ r. ⌜ (
         let f = now (file .entry) in
         let patterns = run (patternAt f) 4 n at in
         let fields = run (fieldAt f) 4 k from in
-        r ≡ sizeWith 0 (constantFields (Rules.constant (tablesOf f)) patterns fields)
+        r ≡ sizeWith 0 (constantFields (ConstantRules.constant (tablesOf f)) patterns fields)
         ) ⌝ }
 {
     let mut total: usize = 0;
@@ -255,14 +255,14 @@ fn constant_union(
     k: usize,
     from: usize,
 ) -> Size
-    requires { ⌜ Ready (now file) (now index) ⌝ }
+    requires { ⌜ AcceptedFile (now file) (now index) ⌝ }
     requires { ⌜ Patterns (now file) (tablesOf (now file)) node n at ⌝ }
     requires { ⌜ Alternatives (now file) (tablesOf (now file)) k from ⌝ }
     ensures { λ r. ⌜ (
         let f = now (file .entry) in
         let patterns = run (patternAt f) 4 n at in
         let alternatives = run (alternativeAt f) 8 k from in
-        r ≡ sizeWith 0 (payloadBytes (Rules.constant (tablesOf f)) patterns alternatives)
+        r ≡ sizeWith 0 (payloadBytes (ConstantRules.constant (tablesOf f)) patterns alternatives)
         ) ⌝ }
 {
     if n != 1 {
@@ -277,14 +277,14 @@ fn constant_union(
 
 // A Record's n pairs at a type: a record, a union, or no constant.
 fn constant_record(file: &[u8], index: &[u16], node: usize, ty: usize, n: usize, at: usize) -> Const
-    requires { ⌜ Ready (now file) (now index) ⌝ }
+    requires { ⌜ AcceptedFile (now file) (now index) ⌝ }
     requires { ⌜ Patterns (now file) (tablesOf (now file)) node n at ⌝ }
     requires { ⌜ ty < length (tablesOf (now file) .types) ⌝ }
     ensures { λ r. ⌜ (
         let f = now (file .entry) in
         let T = tablesOf f in
         let patterns = run (patternAt f) 4 n at in
-        r ≡ viewOf T node ty (constantRecord (Rules.constant T) patterns (typeAt T ty))
+        r ≡ viewOf T node ty (constantRecord (ConstantRules.constant T) patterns (typeAt T ty))
         ) ⌝ }
 {
     match type_at(file, index, ty) {
@@ -306,7 +306,7 @@ fn constant_record(file: &[u8], index: &[u16], node: usize, ty: usize, n: usize,
 
 // The bytes that a pattern determines at a type, if it determines all of them: where they come from, and how many they are.
 pub fn constant(file: &[u8], index: &[u16], node: usize, ty: usize) -> Const
-    requires { ⌜ Ready (now file) (now index) ⌝ }
+    requires { ⌜ AcceptedFile (now file) (now index) ⌝ }
     requires { ⌜ node < length (tablesOf (now file) .nodes) ⌝ }
     requires { ⌜ ty < length (tablesOf (now file) .types) ⌝ }
     ensures { λ r. ⌜ r ≡ constView (tablesOf (now (file .entry))) node ty ⌝ }

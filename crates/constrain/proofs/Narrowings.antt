@@ -6,7 +6,7 @@ use mathlib.Core.Option.{Option, none, some}
 use lib.ListN.{length, List·getD-eq-default}
 use Rattle.rules.specs.File as File
 use Rattle.rules.specs.File.{Tables, Node, typeAt, nodeAt, varName}
-use Rattle.rules.specs.Constant as Rules
+use Rattle.rules.specs.Constant as ConstantRules
 use Rattle.rules.specs.Constant.{constant, constantNode}
 use Rattle.rules.specs.Events.{Code}
 use Rattle.rules.specs.Walk.{FieldWalk, narrowBy, ranged}
@@ -15,13 +15,13 @@ use Rattle.rules.proofs.Sound.{Sound}
 use Rattle.state.specs.State.{State}
 use Rattle.state.specs.Ops.{ops}
 use Rattle.tables.proofs.Searches.{stands-self}
-use Rattle.ready.proofs.Constants.{constant-is}
+use Rattle.accepted_file.proofs.Constants.{constant-is}
 use Rattle.constant.specs.Sizes.{viewOf, constView}
 use Rattle.constant.specs.declared.Const.{Const}
 use Rattle.constant.specs.declared.Const.the-variants as Co
 use Rattle.constant.proofs.Known.{known-nothing}
 use Rattle.seek.specs.Narrow.{narrowedBy}
-use Rattle.step.specs.Step.{diagnosed}
+use Rattle.walk.specs.Step.{diagnosed}
 use Rattle.constrain.specs.Constrain.{isNothing, isSome, narrowOr}
 
 -- a number past the nodes is no constant
@@ -62,13 +62,13 @@ module _ (T : Tables) (n t : ℕ) where
 
   pub none-narrows : (path : File.FieldPath) (s : State) → constant T n t ≡ none → s ≡ narrowedBy T (constant T n t) path s
   unfolding narrowedBy
-  none-narrows path s e = ap (λ (o : Option Rules.Const). narrowedBy T o path s) (sym e)
+  none-narrows path s e = ap (λ (o : Option ConstantRules.Const). narrowedBy T o path s) (sym e)
 
   -- there is one
   pub some-told : (r : Const) → r ≡ constView T n t → isNothing r ≡ false → true ≡ isSome (constant T n t)
   some-told r v h = go (constant T n t) refl
     where
-      go : (o : Option Rules.Const) → constant T n t ≡ o → true ≡ isSome o
+      go : (o : Option ConstantRules.Const) → constant T n t ≡ o → true ≡ isSome o
       go none g = absurd (true≢false (sym (something r (v ∙ view-none T n t g)) ∙ h))
       go (some c) g = refl
 
@@ -77,10 +77,10 @@ module _ {A : Type 0} (T : Tables) (n t : ℕ) (path : File.FieldPath) (s₀ : S
   abbrev told-by : Bool → A
   told-by x = elim x [ true ↦ f s | false ↦ k s ]
 
-  abbrev by : Option Rules.Const → A
+  abbrev by : Option ConstantRules.Const → A
   by o = elim o [ some c ↦ f (narrowBy (ops T) T c path s₀) | none ↦ k s₀ ]
 
-  follows : (o : Option Rules.Const) → b ≡ isSome o → s ≡ narrowedBy T o path s₀ → told-by b ≡ by o
+  follows : (o : Option ConstantRules.Const) → b ≡ isSome o → s ≡ narrowedBy T o path s₀ → told-by b ≡ by o
   unfolding narrowedBy
   follows none eb es = ap told-by eb ∙ ap k es
   follows (some c) eb es = ap told-by eb ∙ ap f es

@@ -5,17 +5,17 @@ ghost use Prim.Native.Nat.{ℕ, _<_};
 ghost use lib.ListN.{length};
 ghost use Rattle.rules.specs.File.{nodeAt};
 ghost use Rattle.rules.specs.Constant as Constants;
-ghost use Rattle.rules.specs.Walk as Rules;
+ghost use Rattle.rules.specs.Walk as WalkRules;
 ghost use Rattle.rules.specs.Walk.{FieldWalk};
 ghost use Rattle.state.specs.State.{State};
 ghost use Rattle.state.specs.Ops.{ops};
 ghost use Rattle.file.specs.Tables.{Indexed, tablesOf};
 ghost use Rattle.paths.specs.Paths.{pathOf};
 ghost use Rattle.views.specs.Views.{anchorOf, constraintAt};
-ghost use Rattle.ready.specs.Ready.{Ready};
+ghost use Rattle.accepted_file.specs.AcceptedFile.{AcceptedFile};
 ghost use Rattle.tables.specs.Tables.{foundOption};
 ghost use Rattle.seek.specs.Narrow.{narrowedBy};
-ghost use Rattle.step.specs.Step.{walkState};
+ghost use Rattle.walk.specs.Step.{walkState};
 ghost use Rattle.constrain.specs.Constrain.{isNothing, isSome, narrowOr, patternFor, isConstrained};
 use constant::Const;
 use constant::constant;
@@ -25,12 +25,12 @@ use file::NODES;
 use lists::Code;
 use narrow::narrowed;
 use paths::FieldPath;
-use step::Walk;
 use tables::Found;
 use views::Anchor;
 use views::NodeView;
 use views::constraint_at;
 use views::count_of;
+use walk::Walk;
 
 // Whether there was a constant that narrowed the walk.
 pub struct Narrowed {
@@ -59,7 +59,7 @@ pub fn narrow(
     path: FieldPath,
     w: Walk,
 ) -> Narrowed
-    requires { ⌜ Ready (now file) (now index) ⌝ }
+    requires { ⌜ AcceptedFile (now file) (now index) ⌝ }
     requires { ⌜ ty < length (tablesOf (now file) .types) ⌝ }
     ensures tells { λ r. ⌜ r .some ≡ isSome (Constants.constant (tablesOf (now (file .entry))) node ty) ⌝ }
     ensures narrows { λ r. ⌜ (
@@ -100,7 +100,7 @@ fn narrow_or_report(
     falls: bool,
     w: Walk,
 ) -> Walk
-    requires { ⌜ Ready (now file) (now index) ⌝ }
+    requires { ⌜ AcceptedFile (now file) (now index) ⌝ }
     requires { ⌜ ty < length (tablesOf (now file) .types) ⌝ }
     ensures { λ r. ⌜ (
         let T = tablesOf (now (file .entry)) in
@@ -128,21 +128,21 @@ pub fn ranged(
     path: FieldPath,
     w: Walk,
 ) -> Walk
-    requires { ⌜ Ready (now file) (now index) ⌝ }
+    requires { ⌜ AcceptedFile (now file) (now index) ⌝ }
     requires { ⌜ ty < length (tablesOf (now file) .types) ⌝ }
     ensures { λ r. ⌜ (
         (address : ℕ) (below : FieldWalk State) →
         let T = tablesOf (now (file .entry)) in
         let before = walkState T w (now (work .entry)) (now (plan .entry)) in
         let after = walkState T r (now (work .exit)) (now (plan .exit)) in
-        after ≡ Rules.ranged (ops T) T address below node ty (pathOf path) before
+        after ≡ WalkRules.ranged (ops T) T address below node ty (pathOf path) before
         ) ⌝ }
 {
     narrow_or_report(file, index, work, plan, node, ty, path, false, w)
 }
 
 fn anchor_rank(anchor: Anchor) -> usize
-    ensures { λ r. ⌜ r ≡ Rules.anchorRank (anchorOf anchor) ⌝ }
+    ensures { λ r. ⌜ r ≡ WalkRules.anchorRank (anchorOf anchor) ⌝ }
 {
     match anchor {
         Anchor::Prefix => 3,
@@ -153,7 +153,7 @@ fn anchor_rank(anchor: Anchor) -> usize
 // In what order a pattern constrains: what extends the prefix first, then a range, then a guide.
 fn rank_of(file: &[u8], index: &[u16], node: usize) -> usize
     requires { ⌜ Indexed (now file) (now index) ⌝ }
-    ensures { λ r. ⌜ r ≡ Rules.rank (nodeAt (tablesOf (now (file .entry))) node) ⌝ }
+    ensures { λ r. ⌜ r ≡ WalkRules.rank (nodeAt (tablesOf (now (file .entry))) node) ⌝ }
 {
     match node_of(file, index, node) {
         NodeView::Prefix(_) => 1,
@@ -194,13 +194,13 @@ fn constrain_rank(
     path: FieldPath,
     w: Walk,
 ) -> Walk
-    requires { ⌜ Ready (now file) (now index) ⌝ }
+    requires { ⌜ AcceptedFile (now file) (now index) ⌝ }
     requires { ⌜ ty < length (tablesOf (now file) .types) ⌝ }
     ensures { λ r. ⌜ (
         let T = tablesOf (now (file .entry)) in
         let before = walkState T w (now (work .entry)) (now (plan .entry)) in
         let after = walkState T r (now (work .exit)) (now (plan .exit)) in
-        after ≡ Rules.constrainEach (ops T) T (Rules.constraintsOf T name rank) ty (pathOf path) before
+        after ≡ WalkRules.constrainEach (ops T) T (WalkRules.constraintsOf T name rank) ty (pathOf path) before
         ) ⌝ }
 {
     let n = count_of(file, index, CONSTRAINTS);
@@ -244,13 +244,13 @@ pub fn constrain(
     path: FieldPath,
     w: Walk,
 ) -> Walk
-    requires { ⌜ Ready (now file) (now index) ⌝ }
+    requires { ⌜ AcceptedFile (now file) (now index) ⌝ }
     requires { ⌜ ty < length (tablesOf (now file) .types) ⌝ }
     ensures { λ r. ⌜ (
         let T = tablesOf (now (file .entry)) in
         let before = walkState T w (now (work .entry)) (now (plan .entry)) in
         let after = walkState T r (now (work .exit)) (now (plan .exit)) in
-        after ≡ Rules.constrain (ops T) T name ty (pathOf path) before
+        after ≡ WalkRules.constrain (ops T) T name ty (pathOf path) before
         ) ⌝ }
 {
     if is_constrained(file, index, name) {

@@ -8,28 +8,28 @@ use lib.ListN.{length}
 use Rattle.rules.specs.Base.{_>>=_}
 use Rattle.rules.specs.File.{Tables}
 use Rattle.rules.specs.Limits.{planLimit}
-use Rattle.rules.specs.Constant as Rules
+use Rattle.rules.specs.Constant as ConstantRules
 use Rattle.rules.specs.Constant.{bytesOnly}
 use Rattle.records.specs.Records.{reach}
 use Rattle.constant.specs.Sizes.{constView}
 use Rattle.constant.specs.declared.Const.the-variants as Co
 use Rattle.constant.proofs.Known.{known-bytes}
-use Rattle.encode.specs.Written.{orEmpty, bytesOf, Here}
+use Rattle.encode.specs.Written.{orEmpty, bytesOf, RoomForBytes}
 
 module _ (T : Tables) (n t m s l : ℕ) (e : constView T n t ≡ Co.Bytes m s l) (short : l ≤ planLimit) where
   found : bytesOf T n t ≡ some (known-bytes T n t m s l e .bytes)
   unfolding bytesOf _>>=_ bytesOnly
-  found = ap (λ (o : Option Rules.Const). o >>= bytesOnly) (known-bytes T n t m s l e .is)
+  found = ap (λ (o : Option ConstantRules.Const). o >>= bytesOnly) (known-bytes T n t m s l e .is)
 
   same : orEmpty (bytesOf T n t) ≡ known-bytes T n t m s l e .bytes
   unfolding orEmpty
   same = ap orEmpty found
 
-  pub bytes-are : Rules.constant T n t ≡ some (Rules.Const.Bytes (orEmpty (bytesOf T n t)))
-  bytes-are = known-bytes T n t m s l e .is ∙ ap (λ (x : List ℕ). some (Rules.Const.Bytes x)) (sym same)
+  pub bytes-are : ConstantRules.constant T n t ≡ some (ConstantRules.Const.Bytes (orEmpty (bytesOf T n t)))
+  bytes-are = known-bytes T n t m s l e .is ∙ ap (λ (x : List ℕ). some (ConstantRules.Const.Bytes x)) (sym same)
 
   pub bytes-size : l ≡ length (orEmpty (bytesOf T n t))
   bytes-size = omega (arith, known-bytes T n t m s l e .size, ap length same)
 
-  pub bytes-here : (at : ℕ) → at + l ≤ reach → Here (bytesOf T n t) at
+  pub bytes-here : (at : ℕ) → at + l ≤ reach → RoomForBytes (bytesOf T n t) at
   bytes-here at h = record { is = found ∙ ap some (sym same); room = omega (arith, bytes-size) }

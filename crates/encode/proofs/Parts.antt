@@ -10,7 +10,7 @@ use denote.Enum.Declared.{tagOf}
 use Rattle.rules.specs.Base.{_>>=_}
 use Rattle.rules.specs.File.{Tables, Ty, Node, nameAt, typeAt}
 use Rattle.rules.specs.File as File
-use Rattle.rules.specs.Constant as Rules
+use Rattle.rules.specs.Constant as ConstantRules
 use Rattle.rules.specs.Constant.{atInt, atStr, atBytes, bytesOnly, fieldPattern, onlyField, encodeInt, encodeStr, encodeBytes, encodeRecord, encodeUnion, unionTag, bigEndian32, encodePrefix, constantFields, constantRecord, constantNode}
 use Rattle.rules.proofs.Cases.{some≢none, some-injective, bind-some}
 use Rattle.views.specs.Views.{run, byteAt, fieldAt, alternativeAt, patternAt, fieldOf, alternativeOf, patternOf, nodeOf, SeenType}
@@ -30,9 +30,9 @@ use Rattle.tables.specs.declared.MaybeAlternative.{MaybeAlternative}
 use Rattle.tables.specs.declared.MaybeAlternative.the-variants as Ma
 use Rattle.constant.specs.Sizes.{fieldBytes}
 use Rattle.constant.proofs.Measured.{fieldsFrom, fields-start, fields-more, fields-end, neither}
-use Rattle.constant.proofs.Arms.{Met}
+use Rattle.constant.proofs.Arms.{ConstantSeen}
 use Rattle.records.specs.Records.{put, reach}
-use Rattle.encode.specs.Written.{orEmpty, bytesOf, recordBytes, Here, Wrote}
+use Rattle.encode.specs.Written.{orEmpty, bytesOf, recordBytes, RoomForBytes, Wrote}
 use Rattle.encode.proofs.Puts.{wrote-one, wrote-then, wrote-as, wrote-end, Going, going-start, going-more, going-end}
 
 full : (o : Option (List ℕ)) (x : List ℕ) → o ≡ some x → orEmpty o ≡ x
@@ -42,19 +42,19 @@ full o x e = ap orEmpty e
 there : (o : Option (List ℕ)) (x : List ℕ) → o ≡ some x → o ≡ some (orEmpty o)
 there o x e = e ∙ ap some (sym (full o x e))
 
-pub nowhere : (o : Option (List ℕ)) (at : ℕ) → Here o at → o ≡ none → ⊥
+pub nowhere : (o : Option (List ℕ)) (at : ℕ) → RoomForBytes o at → o ≡ none → ⊥
 nowhere o at h e = some≢none (orEmpty o) (sym (h .is) ∙ e)
 
 -- the same bytes under another name
-pub here-as : (o o′ : Option (List ℕ)) (at : ℕ) → Here o at → o ≡ o′ → Here o′ at
-here-as o o′ at h e = subst (λ (q : Option (List ℕ)). Here q at) e h
+pub here-as : (o o′ : Option (List ℕ)) (at : ℕ) → RoomForBytes o at → o ≡ o′ → RoomForBytes o′ at
+here-as o o′ at h e = subst (λ (q : Option (List ℕ)). RoomForBytes q at) e h
 
 pub wrote-same : (o o′ : Option (List ℕ)) (at end : ℕ) (w w′ : List ℕ) → Wrote (orEmpty o′) at w end w′ → o ≡ o′ → Wrote (orEmpty o) at w end w′
 wrote-same o o′ at end w w′ a e = subst (λ (q : Option (List ℕ)). Wrote (orEmpty q) at w end w′) (sym e) a
 
 -- a scalar's bytes, at whatever type it has them
 module _ (c bytes : List ℕ) where
-  at-int : (ty : Ty) → (atInt ty (Rules.Const.Bytes c) >>= bytesOnly) ≡ some bytes → c ≡ bytes
+  at-int : (ty : Ty) → (atInt ty (ConstantRules.Const.Bytes c) >>= bytesOnly) ≡ some bytes → c ≡ bytes
   unfolding atInt _>>=_ bytesOnly
   at-int Ty.Int e = some-injective c bytes e
   at-int Ty.Str e = absurd (some≢none bytes (sym e))
@@ -63,7 +63,7 @@ module _ (c bytes : List ℕ) where
   at-int (Ty.Record fs) e = absurd (some≢none bytes (sym e))
   at-int (Ty.Union alts) e = absurd (some≢none bytes (sym e))
 
-  at-str : (ty : Ty) → (atStr ty (Rules.Const.Bytes c) >>= bytesOnly) ≡ some bytes → c ≡ bytes
+  at-str : (ty : Ty) → (atStr ty (ConstantRules.Const.Bytes c) >>= bytesOnly) ≡ some bytes → c ≡ bytes
   unfolding atStr _>>=_ bytesOnly
   at-str Ty.Int e = absurd (some≢none bytes (sym e))
   at-str Ty.Str e = some-injective c bytes e
@@ -72,7 +72,7 @@ module _ (c bytes : List ℕ) where
   at-str (Ty.Record fs) e = absurd (some≢none bytes (sym e))
   at-str (Ty.Union alts) e = absurd (some≢none bytes (sym e))
 
-  at-bytes : (ty : Ty) → (atBytes ty (Rules.Const.Bytes c) >>= bytesOnly) ≡ some bytes → c ≡ bytes
+  at-bytes : (ty : Ty) → (atBytes ty (ConstantRules.Const.Bytes c) >>= bytesOnly) ≡ some bytes → c ≡ bytes
   unfolding atBytes _>>=_ bytesOnly
   at-bytes Ty.Int e = absurd (some≢none bytes (sym e))
   at-bytes Ty.Str e = absurd (some≢none bytes (sym e))
@@ -81,7 +81,7 @@ module _ (c bytes : List ℕ) where
   at-bytes (Ty.Record fs) e = absurd (some≢none bytes (sym e))
   at-bytes (Ty.Union alts) e = absurd (some≢none bytes (sym e))
 
-no-prefix : (x : List ℕ) (ty : Ty) → (atStr ty (Rules.Const.Prefix x) >>= bytesOnly) ≡ none
+no-prefix : (x : List ℕ) (ty : Ty) → (atStr ty (ConstantRules.Const.Prefix x) >>= bytesOnly) ≡ none
 unfolding atStr _>>=_ bytesOnly
 no-prefix x Ty.Int = refl
 no-prefix x Ty.Str = refl
@@ -90,7 +90,7 @@ no-prefix x (Ty.Fact p) = refl
 no-prefix x (Ty.Record fs) = refl
 no-prefix x (Ty.Union alts) = refl
 
-no-fuzzy : (x d : ℕ) (a : File.Anchor) (ty : Ty) → (atStr ty (Rules.Const.Fuzzy x d a) >>= bytesOnly) ≡ none
+no-fuzzy : (x d : ℕ) (a : File.Anchor) (ty : Ty) → (atStr ty (ConstantRules.Const.Fuzzy x d a) >>= bytesOnly) ≡ none
 unfolding atStr _>>=_ bytesOnly
 no-fuzzy x d a Ty.Int = refl
 no-fuzzy x d a Ty.Str = refl
@@ -100,7 +100,7 @@ no-fuzzy x d a (Ty.Record fs) = refl
 no-fuzzy x d a (Ty.Union alts) = refl
 
 -- a node that has no bytes
-no-bytes : (T : Tables) (b : ℕ → ℕ → Option Rules.Const) (f : List ℕ) (v : NodeView) (ty : Ty) → OneOf (3 ∷ 4 ∷ 5 ∷ 6 ∷ 7 ∷ 9 ∷ 10 ∷ 11 ∷ 12 ∷ 13 ∷ 14 ∷ 15 ∷ 16 ∷ []) (tagOf NodeViews.the-type v) → (constantNode T b (nodeOf f v) ty >>= bytesOnly) ≡ none
+no-bytes : (T : Tables) (b : ℕ → ℕ → Option ConstantRules.Const) (f : List ℕ) (v : NodeView) (ty : Ty) → OneOf (3 ∷ 4 ∷ 5 ∷ 6 ∷ 7 ∷ 9 ∷ 10 ∷ 11 ∷ 12 ∷ 13 ∷ 14 ∷ 15 ∷ 16 ∷ []) (tagOf NodeViews.the-type v) → (constantNode T b (nodeOf f v) ty >>= bytesOnly) ≡ none
 unfolding constantNode _>>=_
 no-bytes T b f (Nv.Int at) ty w = absurd (miss (3 ∷ 4 ∷ 5 ∷ 6 ∷ 7 ∷ 9 ∷ 10 ∷ 11 ∷ 12 ∷ 13 ∷ 14 ∷ 15 ∷ 16 ∷ []) 0 tt w)
 no-bytes T b f (Nv.Str x) ty w = absurd (miss (3 ∷ 4 ∷ 5 ∷ 6 ∷ 7 ∷ 9 ∷ 10 ∷ 11 ∷ 12 ∷ 13 ∷ 14 ∷ 15 ∷ 16 ∷ []) 1 tt w)
@@ -120,12 +120,12 @@ no-bytes T b f (Nv.Fact p n) ty w = refl
 no-bytes T b f Nv.Arith ty w = refl
 no-bytes T b f Nv.Error ty w = refl
 
-module _ (f : List ℕ) (T : Tables) (n t : ℕ) (v : NodeView) (k : Met f T n t v) where
-  node-bytes : (w : NodeView) → v ≡ w → bytesOf T n t ≡ (constantNode T (Rules.constant T) (nodeOf f w) (typeAt T t) >>= bytesOnly)
+module _ (f : List ℕ) (T : Tables) (n t : ℕ) (v : NodeView) (k : ConstantSeen f T n t v) where
+  node-bytes : (w : NodeView) → v ≡ w → bytesOf T n t ≡ (constantNode T (ConstantRules.constant T) (nodeOf f w) (typeAt T t) >>= bytesOnly)
   unfolding bytesOf
-  node-bytes w e = ap (λ (o : Option Rules.Const). o >>= bytesOnly) (k .is ∙ ap (λ (y : Node). constantNode T (Rules.constant T) y (typeAt T t)) (sym (k .node) ∙ ap (nodeOf f) e))
+  node-bytes w e = ap (λ (o : Option ConstantRules.Const). o >>= bytesOnly) (k .is ∙ ap (λ (y : Node). constantNode T (ConstantRules.constant T) y (typeAt T t)) (sym (k .node) ∙ ap (nodeOf f) e))
 
-  module _ (at : ℕ) (h : Here (bytesOf T n t) at) (end : ℕ) (w w′ : List ℕ) where
+  module _ (at : ℕ) (h : RoomForBytes (bytesOf T n t) at) (end : ℕ) (w w′ : List ℕ) where
     pub put-int : (p : ℕ) → v ≡ Nv.Int p → Wrote (encodeInt (run (byteAt f) 1 8 p)) at w end w′ → Wrote (orEmpty (bytesOf T n t)) at w end w′
     unfolding constantNode
     put-int p e a = wrote-as _ _ at end w w′ a (at-int (encodeInt (run (byteAt f) 1 8 p)) (orEmpty (bytesOf T n t)) (typeAt T t) (sym (node-bytes (Nv.Int p) e) ∙ h .is))
@@ -138,25 +138,25 @@ module _ (f : List ℕ) (T : Tables) (n t : ℕ) (v : NodeView) (k : Met f T n t
     unfolding constantNode
     put-raw i p e a = wrote-as _ _ at end w w′ a (at-bytes (encodeBytes (run (byteAt f) 1 i p)) (orEmpty (bytesOf T n t)) (typeAt T t) (sym (node-bytes (Nv.Bytes i p) e) ∙ h .is))
 
-  pub pairs-bytes : (i p : ℕ) → v ≡ Nv.Record i p → bytesOf T n t ≡ recordBytes (Rules.constant T) (run (patternAt f) 4 i p) (typeAt T t)
+  pub pairs-bytes : (i p : ℕ) → v ≡ Nv.Record i p → bytesOf T n t ≡ recordBytes (ConstantRules.constant T) (run (patternAt f) 4 i p) (typeAt T t)
   unfolding constantNode recordBytes
   pairs-bytes i p e = node-bytes (Nv.Record i p) e
 
-  pub put-other : (at : ℕ) → Here (bytesOf T n t) at → OneOf (3 ∷ 4 ∷ 5 ∷ 6 ∷ 7 ∷ 9 ∷ 10 ∷ 11 ∷ 12 ∷ 13 ∷ 14 ∷ 15 ∷ 16 ∷ []) (tagOf NodeViews.the-type v) → ⊥
-  put-other at h w = nowhere (bytesOf T n t) at h (node-bytes v refl ∙ no-bytes T (Rules.constant T) f v (typeAt T t) w)
+  pub put-other : (at : ℕ) → RoomForBytes (bytesOf T n t) at → OneOf (3 ∷ 4 ∷ 5 ∷ 6 ∷ 7 ∷ 9 ∷ 10 ∷ 11 ∷ 12 ∷ 13 ∷ 14 ∷ 15 ∷ 16 ∷ []) (tagOf NodeViews.the-type v) → ⊥
+  put-other at h w = nowhere (bytesOf T n t) at h (node-bytes v refl ∙ no-bytes T (ConstantRules.constant T) f v (typeAt T t) w)
 
 -- A field's bytes are those of its pattern.
 module _ (T : Tables) (patterns : List File.FieldPattern) (x t : ℕ) (r : Found) (e : foundOption r ≡ fieldPattern patterns x) where
-  pub field-bytes : (p : ℕ) → r ≡ Fo.At p → fieldBytes (Rules.constant T) patterns x t ≡ bytesOf T p t
+  pub field-bytes : (p : ℕ) → r ≡ Fo.At p → fieldBytes (ConstantRules.constant T) patterns x t ≡ bytesOf T p t
   unfolding fieldBytes bytesOf _>>=_
-  field-bytes p q = sym (ap (λ (o : Option ℕ). o >>= λ p. Rules.constant T p t >>= bytesOnly) (sym (ap foundOption q) ∙ e))
+  field-bytes p q = sym (ap (λ (o : Option ℕ). o >>= λ p. ConstantRules.constant T p t >>= bytesOnly) (sym (ap foundOption q) ∙ e))
 
-  pub field-missing : (at : ℕ) → Here (fieldBytes (Rules.constant T) patterns x t) at → r ≡ Fo.Nothing → ⊥
+  pub field-missing : (at : ℕ) → RoomForBytes (fieldBytes (ConstantRules.constant T) patterns x t) at → r ≡ Fo.Nothing → ⊥
   unfolding fieldBytes _>>=_
-  field-missing at h q = nowhere _ at h (sym (ap (λ (o : Option ℕ). o >>= λ p. Rules.constant T p t >>= bytesOnly) (sym (ap foundOption q) ∙ e)))
+  field-missing at h q = nowhere _ at h (sym (ap (λ (o : Option ℕ). o >>= λ p. ConstantRules.constant T p t >>= bytesOnly) (sym (ap foundOption q) ∙ e)))
 
 -- The fields, one after another.
-module _ (b : ℕ → ℕ → Option Rules.Const) (patterns : List File.FieldPattern) (f : List ℕ) (k from : ℕ) where
+module _ (b : ℕ → ℕ → Option ConstantRules.Const) (patterns : List File.FieldPattern) (f : List ℕ) (k from : ℕ) where
   record Split (i : ℕ) (v : FieldTy) : Type 0 where
     first : fieldBytes b patterns (v .name) (v .ty) ≡ some (orEmpty (fieldBytes b patterns (v .name) (v .ty)))
     rest : fieldsFrom b patterns f k from (i + 1) ≡ some (orEmpty (fieldsFrom b patterns f k from (i + 1)))
@@ -181,12 +181,12 @@ module _ (b : ℕ → ℕ → Option Rules.Const) (patterns : List File.FieldPat
       pub given : fieldsFrom b patterns f k from i ≡ some (orEmpty (fieldsFrom b patterns f k from i))
       pub going : Going (orEmpty (constantFields b patterns (run (fieldAt f) 4 k from))) at w (orEmpty (fieldsFrom b patterns f k from i)) p v
 
-    pub put-start : Here (constantFields b patterns (run (fieldAt f) 4 k from)) at → Fielding 0 at w
+    pub put-start : RoomForBytes (constantFields b patterns (run (fieldAt f) 4 k from)) at → Fielding 0 at w
     put-start h =
         let e = fields-start b patterns f k from in
         record { within = omega arith; given = sym e ∙ h .is ∙ ap (λ (o : Option (List ℕ)). some (orEmpty o)) e; going = going-start _ _ at w (ap orEmpty e) }
 
-    pub put-here : Here (constantFields b patterns (run (fieldAt f) 4 k from)) at → (i p : ℕ) (u : List ℕ) → Fielding i p u → i < k → (v : FieldTy) → fieldOf v ≡ fieldAt f (from + 4 * i) → Here (fieldBytes b patterns (v .name) (v .ty)) p
+    pub put-here : RoomForBytes (constantFields b patterns (run (fieldAt f) 4 k from)) at → (i p : ℕ) (u : List ℕ) → Fielding i p u → i < k → (v : FieldTy) → fieldOf v ≡ fieldAt f (from + 4 * i) → RoomForBytes (fieldBytes b patterns (v .name) (v .ty)) p
     put-here h i p u g l v e =
         let s = split i v l e (g .given) in
         let n = ap length (s .joined) ∙ length-append (orEmpty (fieldBytes b patterns (v .name) (v .ty))) (orEmpty (fieldsFrom b patterns f k from (i + 1))) in
@@ -201,21 +201,21 @@ module _ (b : ℕ → ℕ → Option Rules.Const) (patterns : List File.FieldPat
     put-end i p u g l = going-end _ at w _ p u (g .going) (full _ [] (fields-end b patterns f k from i l))
 
 -- A record around its fields.
-module _ (b : ℕ → ℕ → Option Rules.Const) (patterns : List File.FieldPattern) where
+module _ (b : ℕ → ℕ → Option ConstantRules.Const) (patterns : List File.FieldPattern) where
   record-parts : (fs : List File.FieldTy) (bytes : List ℕ) → recordBytes b patterns (Ty.Record fs) ≡ some bytes → (constantFields b patterns fs ≡ some (orEmpty (constantFields b patterns fs))) × (bytes ≡ encodeRecord (orEmpty (constantFields b patterns fs)))
   unfolding recordBytes constantRecord bytesOnly _>>=_
   record-parts fs bytes e =
       let o = constantFields b patterns fs in
-      let p = bind-some (o >>= λ bs. some (Rules.Const.Bytes (encodeRecord bs))) bytesOnly bytes e in
-      let q = bind-some o (λ bs. some (Rules.Const.Bytes (encodeRecord bs))) (p .0) (p .1) in
+      let p = bind-some (o >>= λ bs. some (ConstantRules.Const.Bytes (encodeRecord bs))) bytesOnly bytes e in
+      let q = bind-some o (λ bs. some (ConstantRules.Const.Bytes (encodeRecord bs))) (p .0) (p .1) in
       (there o (q .0) (q .1), some-injective _ _ (sym (p .2) ∙ ap bytesOnly (sym (some-injective _ _ (q .2)))) ∙ ap encodeRecord (sym (full o (q .0) (q .1))))
 
-  module _ (f : List ℕ) (ty : Ty) (v : TypeView) (s : SeenType f ty v) (at : ℕ) (h : Here (recordBytes b patterns ty) at) where
+  module _ (f : List ℕ) (ty : Ty) (v : TypeView) (s : SeenType f ty v) (at : ℕ) (h : RoomForBytes (recordBytes b patterns ty) at) where
     module _ (k from : ℕ) (e : v ≡ Tv.Record k from) where
       parts : (constantFields b patterns (run (fieldAt f) 4 k from) ≡ some (orEmpty (constantFields b patterns (run (fieldAt f) 4 k from)))) × (orEmpty (recordBytes b patterns ty) ≡ encodeRecord (orEmpty (constantFields b patterns (run (fieldAt f) 4 k from))))
       parts = record-parts (run (fieldAt f) 4 k from) (orEmpty (recordBytes b patterns ty)) (ap (recordBytes b patterns) (subst (SeenType f ty) e s .is) ∙ h .is)
 
-      pub fields-here : Here (constantFields b patterns (run (fieldAt f) 4 k from)) (at + 1)
+      pub fields-here : RoomForBytes (constantFields b patterns (run (fieldAt f) 4 k from)) (at + 1)
       unfolding encodeRecord
       fields-here =
           let fields = orEmpty (constantFields b patterns (run (fieldAt f) 4 k from)) in
@@ -234,7 +234,7 @@ module _ (b : ℕ → ℕ → Option Rules.Const) (patterns : List File.FieldPat
 
     pub put-neither : OneOf (0 ∷ 1 ∷ 2 ∷ 3 ∷ []) (tagOf TypeViews.the-type v) → ⊥
     unfolding recordBytes _>>=_
-    put-neither w = nowhere _ at h (ap (λ (o : Option Rules.Const). o >>= bytesOnly) (sym (ap (constantRecord b patterns) (s .is)) ∙ neither (record { names = []; types = []; predicates = []; nodes = []; bindings = []; hoisted = []; fetched = []; constraints = []; comparisons = []; levels = [] }) 0 0 b patterns f v w))
+    put-neither w = nowhere _ at h (ap (λ (o : Option ConstantRules.Const). o >>= bytesOnly) (sym (ap (constantRecord b patterns) (s .is)) ∙ neither (record { names = []; types = []; predicates = []; nodes = []; bindings = []; hoisted = []; fetched = []; constraints = []; comparisons = []; levels = [] }) 0 0 b patterns f v w))
 
 -- A union around its payload.
 tag-size : (at d : ℕ) → at + 5 ≡ at + length (unionTag d)
@@ -247,11 +247,11 @@ only-first f zero at g e = absurd (some≢none g (sym e))
 only-first f (suc zero) at g e = (refl, some-injective (patternAt f at) g e)
 only-first f (suc (suc n)) at g e = absurd (some≢none g (sym e))
 
-module _ (T : Tables) (f : List ℕ) (n pairs : ℕ) (alts : List File.Alternative) (at : ℕ) (h : Here (recordBytes (Rules.constant T) (run (patternAt f) 4 n pairs) (Ty.Union alts)) at) where
+module _ (T : Tables) (f : List ℕ) (n pairs : ℕ) (alts : List File.Alternative) (at : ℕ) (h : RoomForBytes (recordBytes (ConstantRules.constant T) (run (patternAt f) 4 n pairs) (Ty.Union alts)) at) where
   pub union-one : n ≡ 1
   unfolding recordBytes constantRecord
   union-one =
-      let p = bind-some (constantRecord (Rules.constant T) (run (patternAt f) 4 n pairs) (Ty.Union alts)) bytesOnly _ (h .is) in
+      let p = bind-some (constantRecord (ConstantRules.constant T) (run (patternAt f) 4 n pairs) (Ty.Union alts)) bytesOnly _ (h .is) in
       let q = bind-some (onlyField (run (patternAt f) 4 n pairs)) _ (p .0) (p .1) in
       only-first f n pairs (q .0) (q .1) .0
 
@@ -259,33 +259,33 @@ module _ (T : Tables) (f : List ℕ) (n pairs : ℕ) (alts : List File.Alternati
     -- its one pair, the alternative that this names, and the payload
     record Parts : Type 0 where
       alternative : File.Alternative
-      named : Rules.alternativeOf alts (v .name) ≡ some alternative
+      named : ConstantRules.alternativeOf alts (v .name) ≡ some alternative
       payload : List ℕ
       is : bytesOf T (v .node) (alternative .type) ≡ some payload
-      whole : orEmpty (recordBytes (Rules.constant T) (run (patternAt f) 4 n pairs) (Ty.Union alts)) ≡ encodeUnion (alternative .disc) payload
+      whole : orEmpty (recordBytes (ConstantRules.constant T) (run (patternAt f) 4 n pairs) (Ty.Union alts)) ≡ encodeUnion (alternative .disc) payload
 
     parts-of : Parts
     unfolding recordBytes constantRecord bytesOnly bytesOf _>>=_
     parts-of =
-        let all = orEmpty (recordBytes (Rules.constant T) (run (patternAt f) 4 n pairs) (Ty.Union alts)) in
-        let p = bind-some (constantRecord (Rules.constant T) (run (patternAt f) 4 n pairs) (Ty.Union alts)) bytesOnly all (h .is) in
+        let all = orEmpty (recordBytes (ConstantRules.constant T) (run (patternAt f) 4 n pairs) (Ty.Union alts)) in
+        let p = bind-some (constantRecord (ConstantRules.constant T) (run (patternAt f) 4 n pairs) (Ty.Union alts)) bytesOnly all (h .is) in
         let q = bind-some (onlyField (run (patternAt f) 4 n pairs)) _ (p .0) (p .1) in
         let o = only-first f n pairs (q .0) (q .1) in
         let z : pairs ≡ pairs + 4 * 0 = omega arith in
         let g : q .0 ≡ patternOf v = sym (o .1) ∙ ap (patternAt f) z ∙ sym e in
-        let m = subst (λ (y : File.FieldPattern). (Rules.alternativeOf alts (y .name) >>= λ alt. Rules.constant T (y .node) (alt .type) >>= λ c. bytesOnly c >>= λ bytes. some (Rules.Const.Bytes (encodeUnion (alt .disc) bytes))) ≡ some (p .0)) g (q .2) in
-        let r = bind-some (Rules.alternativeOf alts (v .name)) _ (p .0) m in
-        let s = bind-some (Rules.constant T (v .node) (r .0 .type)) _ (p .0) (r .2) in
+        let m = subst (λ (y : File.FieldPattern). (ConstantRules.alternativeOf alts (y .name) >>= λ alt. ConstantRules.constant T (y .node) (alt .type) >>= λ c. bytesOnly c >>= λ bytes. some (ConstantRules.Const.Bytes (encodeUnion (alt .disc) bytes))) ≡ some (p .0)) g (q .2) in
+        let r = bind-some (ConstantRules.alternativeOf alts (v .name)) _ (p .0) m in
+        let s = bind-some (ConstantRules.constant T (v .node) (r .0 .type)) _ (p .0) (r .2) in
         let u = bind-some (bytesOnly (s .0)) _ (p .0) (s .2) in
         record {
           alternative = r .0;
           named = r .1;
           payload = u .0;
-          is = ap (λ (o : Option Rules.Const). o >>= bytesOnly) (s .1) ∙ u .1;
+          is = ap (λ (o : Option ConstantRules.Const). o >>= bytesOnly) (s .1) ∙ u .1;
           whole = some-injective _ _ (sym (p .2) ∙ ap bytesOnly (sym (some-injective _ _ (u .2))));
         }
 
-    module _ (r : MaybeAlternative) (q : alternativeOption r ≡ Rules.alternativeOf alts (v .name)) where
+    module _ (r : MaybeAlternative) (q : alternativeOption r ≡ ConstantRules.alternativeOf alts (v .name)) where
       pub union-none : r ≡ Ma.Nothing → ⊥
       union-none d = some≢none (parts-of .alternative) (sym (sym (ap alternativeOption d) ∙ q ∙ parts-of .named))
 
@@ -296,20 +296,20 @@ module _ (T : Tables) (f : List ℕ) (n pairs : ℕ) (alts : List File.Alternati
         payload-is : bytesOf T (v .node) (a .ty) ≡ some (parts-of .payload)
         payload-is = ap (λ (y : File.Alternative). bytesOf T (v .node) (y .type)) (sym which) ∙ parts-of .is
 
-        union-is : orEmpty (recordBytes (Rules.constant T) (run (patternAt f) 4 n pairs) (Ty.Union alts)) ≡ encodeUnion (a .disc) (orEmpty (bytesOf T (v .node) (a .ty)))
+        union-is : orEmpty (recordBytes (ConstantRules.constant T) (run (patternAt f) 4 n pairs) (Ty.Union alts)) ≡ encodeUnion (a .disc) (orEmpty (bytesOf T (v .node) (a .ty)))
         union-is = parts-of .whole ∙ ap (λ (y : File.Alternative). encodeUnion (y .disc) (parts-of .payload)) which ∙ ap (encodeUnion (a .disc)) (sym (full _ _ payload-is))
 
-        union-size : length (orEmpty (recordBytes (Rules.constant T) (run (patternAt f) 4 n pairs) (Ty.Union alts))) ≡ 6 + length (orEmpty (bytesOf T (v .node) (a .ty)))
+        union-size : length (orEmpty (recordBytes (ConstantRules.constant T) (run (patternAt f) 4 n pairs) (Ty.Union alts))) ≡ 6 + length (orEmpty (bytesOf T (v .node) (a .ty)))
         unfolding encodeUnion unionTag bigEndian32
         union-size = let l : length (orEmpty (bytesOf T (v .node) (a .ty)) ++ (0 ∷ [])) ≡ length (orEmpty (bytesOf T (v .node) (a .ty))) + 1 = length-append (orEmpty (bytesOf T (v .node) (a .ty))) (0 ∷ []) in ap length union-is ∙ omega arith
 
-        pub payload-here : Here (bytesOf T (v .node) (a .ty)) (at + 5)
+        pub payload-here : RoomForBytes (bytesOf T (v .node) (a .ty)) (at + 5)
         payload-here = record { is = there _ _ payload-is; room = omega (arith, union-size, h .room) }
 
         pub union-far : at + 6 ≤ reach
         union-far = omega (arith, union-size, h .room)
 
-        pub put-union : (mid : ℕ) (w w1 w2 w3 : List ℕ) → w1 ≡ put w at (unionTag (a .disc)) → Wrote (orEmpty (bytesOf T (v .node) (a .ty))) (at + 5) w1 mid w2 → w3 ≡ put w2 mid (0 ∷ []) → Wrote (orEmpty (recordBytes (Rules.constant T) (run (patternAt f) 4 n pairs) (Ty.Union alts))) at w (mid + 1) w3
+        pub put-union : (mid : ℕ) (w w1 w2 w3 : List ℕ) → w1 ≡ put w at (unionTag (a .disc)) → Wrote (orEmpty (bytesOf T (v .node) (a .ty))) (at + 5) w1 mid w2 → w3 ≡ put w2 mid (0 ∷ []) → Wrote (orEmpty (recordBytes (ConstantRules.constant T) (run (patternAt f) 4 n pairs) (Ty.Union alts))) at w (mid + 1) w3
         unfolding encodeUnion
         put-union mid w w1 w2 w3 e1 b e3 =
             wrote-as (encodeUnion (a .disc) (orEmpty (bytesOf T (v .node) (a .ty)))) _ at (mid + 1) w w3 (wrote-end _ at mid w w2 w3 (wrote-then (tag-one w w1 e1) b) e3) (sym union-is)

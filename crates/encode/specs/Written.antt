@@ -6,7 +6,7 @@ use mathlib.Core.Option.{Option, none, some}
 use lib.ListN.{length}
 use Rattle.rules.specs.Base.{_>>=_}
 use Rattle.rules.specs.File.{Tables, FieldPattern, Ty}
-use Rattle.rules.specs.Constant as Rules
+use Rattle.rules.specs.Constant as ConstantRules
 use Rattle.rules.specs.Constant.{bytesOnly, constantRecord}
 use Rattle.records.specs.Records.{put, reach}
 
@@ -17,14 +17,14 @@ orEmpty (some bytes) = bytes
 
 -- the bytes of node n at type t, where its constant is bytes
 unfoldable pub bytesOf : Tables → ℕ → ℕ → Option (List ℕ)
-bytesOf T n t = Rules.constant T n t >>= bytesOnly
+bytesOf T n t = ConstantRules.constant T n t >>= bytesOnly
 
 -- the bytes of a Record's patterns at a type
-unfoldable pub recordBytes : (ℕ → ℕ → Option Rules.Const) → List FieldPattern → Ty → Option (List ℕ)
+unfoldable pub recordBytes : (ℕ → ℕ → Option ConstantRules.Const) → List FieldPattern → Ty → Option (List ℕ)
 recordBytes below patterns ty = constantRecord below patterns ty >>= bytesOnly
 
 -- there are bytes, and they end where no sum of places wraps
-pub record Here (o : Option (List ℕ)) (at : ℕ) : Type 0 where
+pub record RoomForBytes (o : Option (List ℕ)) (at : ℕ) : Type 0 where
   pub is : o ≡ some (orEmpty o)
   pub room : at + length (orEmpty o) ≤ reach
 

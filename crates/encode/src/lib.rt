@@ -5,14 +5,14 @@ ghost use mathlib.Core.List.{[], _∷_};
 ghost use lib.ListN.{length};
 ghost use Rattle.rules.specs.Limits.{fileLimit};
 ghost use Rattle.rules.specs.File.{Ty, nameAt, typeAt};
-ghost use Rattle.rules.specs.Constant as Rules;
+ghost use Rattle.rules.specs.Constant as ConstantRules;
 ghost use Rattle.rules.specs.Constant.{escape, encodeInt, encodePrefix, encodeStr, encodeBytes, constantFields};
 ghost use Rattle.file.specs.Tables.{Indexed, tablesOf};
 ghost use Rattle.views.specs.Views.{run, byteAt, fieldAt, alternativeAt, patternAt};
 ghost use Rattle.records.specs.Records.{reach};
-ghost use Rattle.ready.specs.Ready.{Ready};
+ghost use Rattle.accepted_file.specs.AcceptedFile.{AcceptedFile};
 ghost use Rattle.constant.specs.Sizes.{cap, fieldBytes, Patterns, Fields, Alternatives};
-ghost use Rattle.encode.specs.Written.{orEmpty, bytesOf, recordBytes, Here, Wrote, down};
+ghost use Rattle.encode.specs.Written.{orEmpty, bytesOf, recordBytes, RoomForBytes, Wrote, down};
 use constant::is_plain;
 use file::wide;
 use records::put_tag;
@@ -176,18 +176,18 @@ fn put_field(
     name: usize,
     ty: usize,
 ) -> usize
-    requires { ⌜ Ready (now file) (now index) ⌝ }
+    requires { ⌜ AcceptedFile (now file) (now index) ⌝ }
     requires { ⌜ Patterns (now file) (tablesOf (now file)) node n pairs ⌝ }
     requires { ⌜ ty < length (tablesOf (now file) .types) ⌝ }
     requires { ⌜ (
         let f = now file in
         let patterns = run (patternAt f) 4 n pairs in
-        Here (fieldBytes (Rules.constant (tablesOf f)) patterns name ty) at
+        RoomForBytes (fieldBytes (ConstantRules.constant (tablesOf f)) patterns name ty) at
         ) ⌝ }
     ensures { λ r. ⌜ (
         let f = now (file .entry) in
         let patterns = run (patternAt f) 4 n pairs in
-        let bytes = fieldBytes (Rules.constant (tablesOf f)) patterns name ty in
+        let bytes = fieldBytes (ConstantRules.constant (tablesOf f)) patterns name ty in
         Wrote (orEmpty bytes) at (now (buf .entry)) r (now (buf .exit))
         ) ⌝ }
 {
@@ -209,20 +209,20 @@ fn put_fields(
     k: usize,
     from: usize,
 ) -> usize
-    requires { ⌜ Ready (now file) (now index) ⌝ }
+    requires { ⌜ AcceptedFile (now file) (now index) ⌝ }
     requires { ⌜ Patterns (now file) (tablesOf (now file)) node n pairs ⌝ }
     requires { ⌜ Fields (now file) (tablesOf (now file)) k from ⌝ }
     requires { ⌜ (
         let f = now file in
         let patterns = run (patternAt f) 4 n pairs in
         let fields = run (fieldAt f) 4 k from in
-        Here (constantFields (Rules.constant (tablesOf f)) patterns fields) at
+        RoomForBytes (constantFields (ConstantRules.constant (tablesOf f)) patterns fields) at
         ) ⌝ }
     ensures { λ r. ⌜ (
         let f = now (file .entry) in
         let patterns = run (patternAt f) 4 n pairs in
         let fields = run (fieldAt f) 4 k from in
-        let bytes = constantFields (Rules.constant (tablesOf f)) patterns fields in
+        let bytes = constantFields (ConstantRules.constant (tablesOf f)) patterns fields in
         Wrote (orEmpty bytes) at (now (buf .entry)) r (now (buf .exit))
         ) ⌝ }
 {
@@ -248,20 +248,20 @@ fn put_union(
     k: usize,
     from: usize,
 ) -> usize
-    requires { ⌜ Ready (now file) (now index) ⌝ }
+    requires { ⌜ AcceptedFile (now file) (now index) ⌝ }
     requires { ⌜ Patterns (now file) (tablesOf (now file)) node n pairs ⌝ }
     requires { ⌜ Alternatives (now file) (tablesOf (now file)) k from ⌝ }
     requires { ⌜ (
         let f = now file in
         let patterns = run (patternAt f) 4 n pairs in
         let alternatives = run (alternativeAt f) 8 k from in
-        Here (recordBytes (Rules.constant (tablesOf f)) patterns (Ty.Union alternatives)) at
+        RoomForBytes (recordBytes (ConstantRules.constant (tablesOf f)) patterns (Ty.Union alternatives)) at
         ) ⌝ }
     ensures { λ r. ⌜ (
         let f = now (file .entry) in
         let patterns = run (patternAt f) 4 n pairs in
         let alternatives = run (alternativeAt f) 8 k from in
-        let bytes = recordBytes (Rules.constant (tablesOf f)) patterns (Ty.Union alternatives) in
+        let bytes = recordBytes (ConstantRules.constant (tablesOf f)) patterns (Ty.Union alternatives) in
         Wrote (orEmpty bytes) at (now (buf .entry)) r (now (buf .exit))
         ) ⌝ }
 {
@@ -286,20 +286,20 @@ fn put_record(
     pairs: usize,
     ty: usize,
 ) -> usize
-    requires { ⌜ Ready (now file) (now index) ⌝ }
+    requires { ⌜ AcceptedFile (now file) (now index) ⌝ }
     requires { ⌜ Patterns (now file) (tablesOf (now file)) node n pairs ⌝ }
     requires { ⌜ ty < length (tablesOf (now file) .types) ⌝ }
     requires { ⌜ (
         let f = now file in
         let patterns = run (patternAt f) 4 n pairs in
         let T = tablesOf f in
-        Here (recordBytes (Rules.constant T) patterns (typeAt T ty)) at
+        RoomForBytes (recordBytes (ConstantRules.constant T) patterns (typeAt T ty)) at
         ) ⌝ }
     ensures { λ r. ⌜ (
         let f = now (file .entry) in
         let patterns = run (patternAt f) 4 n pairs in
         let T = tablesOf f in
-        let bytes = recordBytes (Rules.constant T) patterns (typeAt T ty) in
+        let bytes = recordBytes (ConstantRules.constant T) patterns (typeAt T ty) in
         Wrote (orEmpty bytes) at (now (buf .entry)) r (now (buf .exit))
         ) ⌝ }
 {
@@ -324,10 +324,10 @@ pub fn put_constant(
     node: usize,
     ty: usize,
 ) -> usize
-    requires { ⌜ Ready (now file) (now index) ⌝ }
+    requires { ⌜ AcceptedFile (now file) (now index) ⌝ }
     requires { ⌜ node < length (tablesOf (now file) .nodes) ⌝ }
     requires { ⌜ ty < length (tablesOf (now file) .types) ⌝ }
-    requires { ⌜ Here (bytesOf (tablesOf (now file)) node ty) at ⌝ }
+    requires { ⌜ RoomForBytes (bytesOf (tablesOf (now file)) node ty) at ⌝ }
     ensures { λ r. ⌜ (
         let bytes = bytesOf (tablesOf (now (file .entry))) node ty in
         Wrote (orEmpty bytes) at (now (buf .entry)) r (now (buf .exit))

@@ -19,7 +19,7 @@ use Rattle.paths.specs.declared.Address.{Address}
 use Rattle.paths.specs.declared.FieldPath.{FieldPath}
 use Rattle.views.specs.Views.{typeOf, SeenType}
 use Rattle.views.specs.declared.TypeView.{TypeView}
-use Rattle.slots.specs.Slots.{fieldSlot, justSlot, noSlot, IsSlot, Room}
+use Rattle.slots.specs.Slots.{fieldSlot, justSlot, noSlot, IsSlot, PathRoom}
 use Rattle.slots.specs.declared.Slot.{Slot}
 use Rattle.slots.specs.declared.MaybeSlot.{MaybeSlot}
 use Rattle.slots.proofs.Tidy.{no-slot, field-is, slot-as}
@@ -88,8 +88,8 @@ counts room q h l = let g : q .count ≤ length (q .steps) = omega arith in leng
 
 -- a type with a child is at least two deep, so its path has room for a step
 module _ {T : Tables} (S : Sound T) where
-  pub room-below : {p : File.FieldPath} {t c : ℕ} (q : FieldPath) → pathOf q ≡ p → Room T p t → Child T t c → q .count ≤ stepLimit → length (q .steps) ≡ stepLimit → q .count < stepLimit
+  pub room-below : {p : File.FieldPath} {t c : ℕ} (q : FieldPath) → pathOf q ≡ p → PathRoom T p t → Child T t c → q .count ≤ stepLimit → length (q .steps) ≡ stepLimit → q .count < stepLimit
   room-below {p} {t} {c} q e r k h l = omega (arith, counts stepLimit q h l, ap (λ (p : File.FieldPath). length (p .steps)) e, r .short, k .less-deep, S .positive c (k .in-types))
 
-  pub field-room : {p : File.FieldPath} {t : ℕ} (x : ℕ) (f : FieldAt) (q : FieldPath) → fieldOf (typeAt T t) x ≡ some f → pathOf q ≡ p → Room T p t → q .count ≤ stepLimit → length (q .steps) ≡ stepLimit → q .count < stepLimit
+  pub field-room : {p : File.FieldPath} {t : ℕ} (x : ℕ) (f : FieldAt) (q : FieldPath) → fieldOf (typeAt T t) x ≡ some f → pathOf q ≡ p → PathRoom T p t → q .count ≤ stepLimit → length (q .steps) ≡ stepLimit → q .count < stepLimit
   field-room {p} {t} x f q g e r h l = room-below q e r (field-child (Child T t) (typeAt T t) x f (S .children t (r .known)) g) h l

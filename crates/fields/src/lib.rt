@@ -8,9 +8,9 @@ ghost use Rattle.rules.specs.Lookup.{fieldFrom, fieldOf, samePath, fetchedRegis
 ghost use Rattle.file.specs.Tables.{Indexed, tablesOf};
 ghost use Rattle.paths.specs.Paths.{pathOf, pathFor, Holds};
 ghost use Rattle.views.specs.Views.{fieldAt, pathAt, run, fetchedOf, predicateOption, typeOption, PathInside};
-ghost use Rattle.ready.specs.Ready.{Ready};
+ghost use Rattle.accepted_file.specs.AcceptedFile.{AcceptedFile};
 ghost use Rattle.tables.specs.Tables.{foundOption};
-ghost use Rattle.slots.specs.Slots.{IsSlot, Room};
+ghost use Rattle.slots.specs.Slots.{IsSlot, PathRoom};
 ghost use Rattle.fields.specs.Found.{placeOf, nameOption, addressOption, hoistedName, fetches, valueSide};
 use entries::node_of;
 use entries::predicate_of;
@@ -230,8 +230,8 @@ pub fn path_field(
     ty: usize,
     name: usize,
 ) -> MaybeSlot
-    requires { ⌜ Ready (now file) (now index) ⌝ }
-    requires { ⌜ Room (tablesOf (now file)) (pathOf path) ty ⌝ }
+    requires { ⌜ AcceptedFile (now file) (now index) ⌝ }
+    requires { ⌜ PathRoom (tablesOf (now file)) (pathOf path) ty ⌝ }
     ensures { λ r. ⌜ (
         let T = tablesOf (now (file .entry)) in
         IsSlot (slotAt (address .0) (then (pathOf path)) (fieldOf (typeAt T ty) name)) r

@@ -14,7 +14,7 @@ use Rattle.rules.specs.Read.{Reader, follow, _>>=_, pure, refuse, u8, u16, many
 use Rattle.rules.specs.Read.Read.{got, refused}
 use Rattle.file.specs.Steps.{readAt, stepAt, skim, recordOf}
 use Rattle.file.specs.declared.Step.the-variants.{Next, Refused}
-use Rattle.file.proofs.Readers.{then-got, then-refused, byte-in, byte-out, kind-in, kind-out, several-in, several-out, step-refused, step-same, step-skim, Fixed, fixed-pure, fixed-bind, fixed-many, fixed-u8, fixed-u16, fixed-u32, fixed-optional, fixed-bytes, fixed-in, fixed-then, needs-fixed, needs-bind, needs-first, needs-kind, cut-short, Alike, alike-refl, alike-step, alike-value, alike-pure, alike-several, alike-map, alike-fixed}
+use Rattle.file.proofs.Readers.{then-got, then-refused, byte-in, byte-out, kind-in, kind-out, several-in, several-out, step-refused, step-same, step-skim, Fixed, fixed-pure, fixed-bind, fixed-many, fixed-u8, fixed-u16, fixed-u32, fixed-optional, fixed-bytes, fixed-in, fixed-then, needs-fixed, needs-bind, needs-first, needs-kind, cut-short, SameSteps, alike-refl, alike-step, alike-value, alike-pure, alike-several, alike-map, alike-fixed}
 use Rattle.file.proofs.Suffix.{ended, faulted, suffix-path}
 
 pub times : (w n : ℕ) → w ≤ 8 → n < 256 → n * w ≤ 2040
@@ -310,7 +310,7 @@ fixed-known x = subst (λ r. Fixed 0 r) (sym (x .1)) (fixed-pure (x .0))
 -- records whose parts follow one another
 module _ (f : List ℕ) (p : ℕ) where
   -- what follows a first number
-  word-then : {B C : Type 0} (k : ℕ → Reader B) (r : Reader C) → ((a : ℕ) → Alike (k a) r) → p + 2 ≤ length f → stepAt f (u16 >>= k) p ≡ stepAt f r (p + 2)
+  word-then : {B C : Type 0} (k : ℕ → Reader B) (r : Reader C) → ((a : ℕ) → SameSteps (k a) r) → p + 2 ≤ length f → stepAt f (u16 >>= k) p ≡ stepAt f r (p + 2)
   word-then k r x h = step-same f _ _ _ _ (fixed-then f 2 p fixed-u16 k h) ∙ alike-step f (x _) (p + 2)
 
   word-cut : {B : Type 0} (k : ℕ → Reader B) → p ≤ length f → length f < p + 2 → stepAt f (u16 >>= k) p ≡ Refused 3

@@ -253,10 +253,10 @@ cut-short f n p {r} x g h =
     step-refused f r p 3 (x .cut (drop p f) k)
 
 -- two readers that end alike, wherever they are applied
-pub record Alike {A B : Type 0} (r : Reader A) (s : Reader B) : Type 0 where
+pub record SameSteps {A B : Type 0} (r : Reader A) (s : Reader B) : Type 0 where
   pub ends : (l : List ℕ) → skim r l ≡ skim s l
 
-pub alike-refl : {A : Type 0} (r : Reader A) → Alike r r
+pub alike-refl : {A : Type 0} (r : Reader A) → SameSteps r r
 alike-refl r = record { ends = λ l. refl }
 
 skimmed : {A : Type 0} → Read A → Read (Unit {0})
@@ -271,11 +271,11 @@ skim-is {A} r l = go (r l)
     go (got a rest) = refl
     go (refused n) = refl
 
-pub alike-step : {A B : Type 0} (f : List ℕ) {r : Reader A} {s : Reader B} → Alike r s → (p : ℕ) → stepAt f r p ≡ stepAt f s p
+pub alike-step : {A B : Type 0} (f : List ℕ) {r : Reader A} {s : Reader B} → SameSteps r s → (p : ℕ) → stepAt f r p ≡ stepAt f s p
 unfolding stepAt readAt
 alike-step f {r} {s} x p = sym (step-skim f r p) ∙ ap (stepOf f) (x .ends (drop p f)) ∙ step-skim f s p
 
-pub alike-skim : {A : Type 0} (r : Reader A) → Alike r (skim r)
+pub alike-skim : {A : Type 0} (r : Reader A) → SameSteps r (skim r)
 unfolding skimmed
 alike-skim {A} r = record { ends = λ l. skim-is r l ∙ go (r l) ∙ ap skimmed (sym (skim-is r l)) ∙ sym (skim-is (skim r) l) }
   where
@@ -284,7 +284,7 @@ alike-skim {A} r = record { ends = λ l. skim-is r l ∙ go (r l) ∙ ap skimmed
     go (refused n) = refl
 
 -- after one and the same reader
-pub alike-value : {A C D : Type 0} (r : Reader A) {k : A → Reader C} {h : A → Reader D} → ((a : A) → Alike (k a) (h a)) → Alike (r >>= k) (r >>= h)
+pub alike-value : {A C D : Type 0} (r : Reader A) {k : A → Reader C} {h : A → Reader D} → ((a : A) → SameSteps (k a) (h a)) → SameSteps (r >>= k) (r >>= h)
 unfolding skimmed _>>=_ follow
 alike-value {A} {C} {D} r {k} {h} y = record { ends = λ l. skim-is (r >>= k) l ∙ go (r l) ∙ sym (skim-is (r >>= h) l) }
   where
@@ -292,7 +292,7 @@ alike-value {A} {C} {D} r {k} {h} y = record { ends = λ l. skim-is (r >>= k) l 
     go (got a l) = sym (skim-is (k a) l) ∙ y a .ends l ∙ skim-is (h a) l
     go (refused n) = refl
 
-pub alike-bind : {A B C D : Type 0} {r : Reader A} {s : Reader B} {k : A → Reader C} {h : B → Reader D} → Alike r s → ((a : A) (b : B) → Alike (k a) (h b)) → Alike (r >>= k) (s >>= h)
+pub alike-bind : {A B C D : Type 0} {r : Reader A} {s : Reader B} {k : A → Reader C} {h : B → Reader D} → SameSteps r s → ((a : A) (b : B) → SameSteps (k a) (h b)) → SameSteps (r >>= k) (s >>= h)
 unfolding skimmed _>>=_ follow
 alike-bind {A} {B} {C} {D} {r} {s} {k} {h} x y = record { ends = λ l. skim-is (r >>= k) l ∙ go (r l) (s l) (sym (skim-is r l) ∙ x .ends l ∙ skim-is s l) ∙ sym (skim-is (s >>= h) l) }
   where
@@ -302,24 +302,24 @@ alike-bind {A} {B} {C} {D} {r} {s} {k} {h} x y = record { ends = λ l. skim-is (
     go (refused n) (got b m) e = absurd (refused-got e)
     go (refused n) (refused m) e = e
 
-pub alike-pure : {A B : Type 0} (a : A) (b : B) → Alike (pure a) (pure b)
+pub alike-pure : {A B : Type 0} (a : A) (b : B) → SameSteps (pure a) (pure b)
 unfolding skimmed pure
 alike-pure a b = record { ends = λ l. skim-is (pure a) l ∙ sym (skim-is (pure b) l) }
 
-pub alike-refuse : {A B : Type 0} (n : ℕ) → Alike {A = A} {B = B} (refuse n) (refuse n)
+pub alike-refuse : {A B : Type 0} (n : ℕ) → SameSteps {A = A} {B = B} (refuse n) (refuse n)
 unfolding skimmed refuse
 alike-refuse n = record { ends = λ l. skim-is (refuse n) l ∙ sym (skim-is (refuse n) l) }
 
-pub alike-many : {A B : Type 0} {r : Reader A} {s : Reader B} → Alike r s → (n : ℕ) → Alike (many n r) (many n s)
+pub alike-many : {A B : Type 0} {r : Reader A} {s : Reader B} → SameSteps r s → (n : ℕ) → SameSteps (many n r) (many n s)
 unfolding many
 alike-many x zero = alike-pure _ _
 alike-many x (suc n) = alike-bind x (λ a b. alike-bind (alike-many x n) (λ as′ bs. alike-pure _ _))
 
-pub alike-several : {A B : Type 0} {r : Reader A} {s : Reader B} → Alike r s → Alike (several r) (several s)
+pub alike-several : {A B : Type 0} {r : Reader A} {s : Reader B} → SameSteps r s → SameSteps (several r) (several s)
 unfolding several
 alike-several x = alike-value u8 (λ n. alike-many x n)
 
-pub alike-map : {A B C : Type 0} (g : A → B) {r : Reader A} {s : Reader C} → Alike r s → Alike (r >>= λ (a : A). pure (g a)) s
+pub alike-map : {A B C : Type 0} (g : A → B) {r : Reader A} {s : Reader C} → SameSteps r s → SameSteps (r >>= λ (a : A). pure (g a)) s
 unfolding skimmed _>>=_ follow pure
 alike-map {A} {B} {C} g {r} {s} x = record { ends = λ l. skim-is (r >>= λ (a : A). pure (g a)) l ∙ go (r l) ∙ sym (skim-is r l) ∙ x .ends l }
   where
@@ -328,6 +328,6 @@ alike-map {A} {B} {C} g {r} {s} x = record { ends = λ l. skim-is (r >>= λ (a :
     go (refused n) = refl
 
 -- readers of as many bytes
-pub alike-fixed : {A B : Type 0} (n : ℕ) {r : Reader A} {s : Reader B} → Fixed n r → Fixed n s → Alike r s
+pub alike-fixed : {A B : Type 0} (n : ℕ) {r : Reader A} {s : Reader B} → Fixed n r → Fixed n s → SameSteps r s
 unfolding skimmed
 alike-fixed n {r} {s} x y = record { ends = λ l. skim-is r l ∙ ⊎-elim (λ h. ap skimmed (x .cut l h) ∙ sym (ap skimmed (y .cut l h))) (λ h. ap skimmed (x .whole l h) ∙ sym (ap skimmed (y .whole l h))) (lt-or-le (length l) n) ∙ sym (skim-is s l) }

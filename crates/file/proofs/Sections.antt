@@ -15,7 +15,7 @@ use Rattle.rules.specs.Read.Read.{got, refused}
 use Rattle.rules.specs.Read as Read
 use Rattle.file.specs.Steps.{word, readAt, stepAt, skim, recordOf, limitOf, baseOf, sectionOf, count, counted, countAt, starts, entries, sections, filled}
 use Rattle.file.specs.declared.Step.the-variants.{Next, Refused}
-use Rattle.file.proofs.Readers.{lt-or-le, down, refused-next, then-got, then-refused, byte-in, step-got, step-refused, step-same, many-none, many-more, many-fault, fixed-u16, needs-fixed, needs-first, cut-short, Alike, alike-step, alike-skim, alike-bind, alike-value, alike-refuse, alike-many}
+use Rattle.file.proofs.Readers.{lt-or-le, down, refused-next, then-got, then-refused, byte-in, step-got, step-refused, step-same, many-none, many-more, many-fault, fixed-u16, needs-fixed, needs-first, cut-short, SameSteps, alike-step, alike-skim, alike-bind, alike-value, alike-refuse, alike-many}
 use Rattle.file.proofs.Suffix.{ended, faulted, suffix-record, suffix-sections}
 
 -- the areas of the index stand one behind the other
@@ -214,15 +214,15 @@ module _ (f : List ℕ) (n s p : ℕ) where
   unfolding filled
   filled-fault x ix h e = rw (down n h) (simp (filled, e))
 
-alike-if : {A B : Type 0} (b : Bool) {r t : Reader A} {s u : Reader B} → Alike r s → Alike t u → Alike {A = A} {B = B} (elim b as (λ _. Reader A) [ true ↦ r | false ↦ t ]) (elim b as (λ _. Reader B) [ true ↦ s | false ↦ u ])
+alike-if : {A B : Type 0} (b : Bool) {r t : Reader A} {s u : Reader B} → SameSteps r s → SameSteps t u → SameSteps {A = A} {B = B} (elim b as (λ _. Reader A) [ true ↦ r | false ↦ t ]) (elim b as (λ _. Reader B) [ true ↦ s | false ↦ u ])
 alike-if true x y = x
 alike-if false x y = y
 
-pub alike-section : {A : Type 0} (limit : ℕ) (r : Reader A) → Alike (section limit r) (section limit (skim r))
+pub alike-section : {A : Type 0} (limit : ℕ) (r : Reader A) → SameSteps (section limit r) (section limit (skim r))
 unfolding section
 alike-section limit r = alike-value u16 (λ n. alike-if (leb n limit) (alike-many (alike-skim r) n) (alike-refuse 4))
 
-alike-end : {A B : Type 0} (a : A) (b : B) → Alike (end a) (end b)
+alike-end : {A B : Type 0} (a : A) (b : B) → SameSteps (end a) (end b)
 unfolding end skim _>>=_ follow pure
 alike-end a b = record { ends = go }
   where

@@ -11,25 +11,25 @@ use Rattle.rules.specs.File.{Tables, LevelEntry}
 use Rattle.rules.proofs.Cases.{by-test, true≢false}
 use Rattle.state.specs.Levels as Kept
 use Rattle.state.specs.Levels.{begin, level, levels}
-use Rattle.views.specs.Views.{levelAt}
-use Rattle.levels.specs.Written.{unleveled, between, writtenOf}
+use Rattle.views.specs.Views.{levelEntryAt}
+use Rattle.levels.specs.Written.{unleveled, betweenLevels, writtenOf}
 use Rattle.levels.specs.declared.Written.{Written}
 
-level-between : (T : Tables) (l : LevelEntry) (w : Kept.Written) → level T l (between w) ≡ level T l w
-unfolding level begin between unleveled
+level-between : (T : Tables) (l : LevelEntry) (w : Kept.Written) → level T l (betweenLevels w) ≡ level T l w
+unfolding level begin betweenLevels unleveled
 level-between T l w = refl
 
-levels-between : (T : Tables) (ls : List LevelEntry) (w : Kept.Written) → between (levels T ls (between w)) ≡ between (levels T ls w)
-unfolding levels between unleveled
+levels-between : (T : Tables) (ls : List LevelEntry) (w : Kept.Written) → betweenLevels (levels T ls (betweenLevels w)) ≡ betweenLevels (levels T ls w)
+unfolding levels betweenLevels unleveled
 levels-between T [] w = refl
 levels-between T (l ∷ ls) w = go (w .state .over)
   where
-    go : (o : Bool) → between (elim o [ true ↦ between w | false ↦ levels T ls (level T l (between w)) ]) ≡ between (elim o [ true ↦ w | false ↦ levels T ls (level T l w) ])
+    go : (o : Bool) → betweenLevels (elim o [ true ↦ betweenLevels w | false ↦ levels T ls (level T l (betweenLevels w)) ]) ≡ betweenLevels (elim o [ true ↦ w | false ↦ levels T ls (level T l w) ])
     go true = refl
-    go false = ap (λ (x : Kept.Written). between (levels T ls x)) (level-between T l w)
+    go false = ap (λ (x : Kept.Written). betweenLevels (levels T ls x)) (level-between T l w)
 
-pub settled : (w : Written) (work plan : List ℕ) → between (writtenOf w work plan) ≡ writtenOf w work plan
-unfolding between unleveled writtenOf
+pub settled : (w : Written) (work plan : List ℕ) → betweenLevels (writtenOf w work plan) ≡ writtenOf w work plan
+unfolding betweenLevels unleveled writtenOf
 settled w work plan = refl
 
 levels-over : (T : Tables) (ls : List LevelEntry) (w : Kept.Written) → w .state .over ≡ true → levels T ls w ≡ w
@@ -44,10 +44,10 @@ levels-live T l ls w e = by-test (λ (r : Kept.Written). r ≡ levels T ls (leve
 -- The levels from k on, of what the first k left, make what all make of the start.
 module _ (T : Tables) (start : Written) (work₀ plan₀ : List ℕ) where
   abbrev all : Kept.Written
-  all = between (levels T (T .levels) (writtenOf start work₀ plan₀))
+  all = betweenLevels (levels T (T .levels) (writtenOf start work₀ plan₀))
 
   pub record Going (k : ℕ) (w : Written) (work plan : List ℕ) : Type 0 where
-    pub left : between (levels T (drop k (T .levels)) (writtenOf w work plan)) ≡ all
+    pub left : betweenLevels (levels T (drop k (T .levels)) (writtenOf w work plan)) ≡ all
     pub near : w .at ≤ planLimit
     pub work-size : length work ≡ length work₀
     pub plan-size : length plan ≡ length plan₀
@@ -59,24 +59,24 @@ module _ (T : Tables) (start : Written) (work₀ plan₀ : List ℕ) where
     abbrev here : Kept.Written
     here = writtenOf w work plan
 
-    going-left : (x : Kept.Written) → k < length (T .levels) → w .lists .over ≡ false → x ≡ between (level T (levelAt T k) here) → between (levels T (drop (k + 1) (T .levels)) x) ≡ all
-    unfolding levelAt writtenOf
+    going-left : (x : Kept.Written) → k < length (T .levels) → w .lists .over ≡ false → x ≡ betweenLevels (level T (levelEntryAt T k) here) → betweenLevels (levels T (drop (k + 1) (T .levels)) x) ≡ all
+    unfolding levelEntryAt writtenOf
     going-left x h o e =
-        ap (λ (y : Kept.Written). between (levels T (drop (k + 1) (T .levels)) y)) e
-        ∙ levels-between T (drop (k + 1) (T .levels)) (level T (levelAt T k) here)
-        ∙ ap (λ (j : ℕ). between (levels T (drop j (T .levels)) (level T (levelAt T k) here))) (add-one k)
-        ∙ sym (ap between (levels-live T (levelAt T k) (drop (suc k) (T .levels)) here o))
-        ∙ sym (ap (λ (ls : List LevelEntry). between (levels T ls here)) (drop-cons (T .levels) k _ h))
+        ap (λ (y : Kept.Written). betweenLevels (levels T (drop (k + 1) (T .levels)) y)) e
+        ∙ levels-between T (drop (k + 1) (T .levels)) (level T (levelEntryAt T k) here)
+        ∙ ap (λ (j : ℕ). betweenLevels (levels T (drop j (T .levels)) (level T (levelEntryAt T k) here))) (add-one k)
+        ∙ sym (ap betweenLevels (levels-live T (levelEntryAt T k) (drop (suc k) (T .levels)) here o))
+        ∙ sym (ap (λ (ls : List LevelEntry). betweenLevels (levels T ls here)) (drop-cons (T .levels) k _ h))
         ∙ g .left
 
-    pub going-more : (w₁ : Written) (work₁ plan₁ : List ℕ) → k < length (T .levels) → w .lists .over ≡ false → (writtenOf w₁ work₁ plan₁ ≡ between (level T (levelAt T k) here)) × (w₁ .at ≤ planLimit) → length work₁ ≡ length work → length plan₁ ≡ length plan → Going (k + 1) w₁ work₁ plan₁
+    pub going-more : (w₁ : Written) (work₁ plan₁ : List ℕ) → k < length (T .levels) → w .lists .over ≡ false → (writtenOf w₁ work₁ plan₁ ≡ betweenLevels (level T (levelEntryAt T k) here)) × (w₁ .at ≤ planLimit) → length work₁ ≡ length work → length plan₁ ≡ length plan → Going (k + 1) w₁ work₁ plan₁
     going-more w₁ work₁ plan₁ h o e lw lp =
         record { left = going-left (writtenOf w₁ work₁ plan₁) h o (e .0); near = e .1; work-size = lw ∙ g .work-size; plan-size = lp ∙ g .plan-size }
 
     pub going-over : w .lists .over ≡ true → (here ≡ all) × (w .at ≤ planLimit)
     unfolding writtenOf
-    going-over o = (sym (settled w work plan) ∙ ap between (sym (levels-over T (drop k (T .levels)) here o)) ∙ g .left, g .near)
+    going-over o = (sym (settled w work plan) ∙ ap betweenLevels (sym (levels-over T (drop k (T .levels)) here o)) ∙ g .left, g .near)
 
     pub going-end : length (T .levels) ≤ k → (here ≡ all) × (w .at ≤ planLimit)
     unfolding levels
-    going-end h = (sym (settled w work plan) ∙ ap (λ (ls : List LevelEntry). between (levels T ls here)) (sym (drop-of-length-le (T .levels) {i = k} h)) ∙ g .left, g .near)
+    going-end h = (sym (settled w work plan) ∙ ap (λ (ls : List LevelEntry). betweenLevels (levels T ls here)) (sym (drop-of-length-le (T .levels) {i = k} h)) ∙ g .left, g .near)

@@ -11,7 +11,7 @@ use Rattle.rules.specs.Base.{both}
 use Rattle.rules.specs.Limits.{planLimit}
 use Rattle.rules.specs.File.{Tables, predicateAt}
 use Rattle.rules.specs.File as File
-use Rattle.rules.specs.Walk as Rules
+use Rattle.rules.specs.Walk as WalkRules
 use Rattle.rules.proofs.Cases.{by-test, true≢false}
 use Rattle.rules.proofs.Each.{each-at}
 use Rattle.rules.proofs.Sound.{Sound}
@@ -20,46 +20,46 @@ use Rattle.state.specs.State as Memory
 use Rattle.state.specs.Ops.{ops}
 use Rattle.state.specs.Levels as Kept
 use Rattle.file.specs.Tables.{tablesOf}
-use Rattle.views.specs.Views.{levelAt, predicateOf}
+use Rattle.views.specs.Views.{levelEntryAt, predicateOf}
 use Rattle.views.specs.Views as Views
 use Rattle.views.specs.declared.LevelEntry.{LevelEntry}
 use Rattle.views.specs.declared.Predicate.{Predicate}
-use Rattle.ready.specs.Ready.{Ready}
-use Rattle.ready.proofs.Given.{sound-tables}
+use Rattle.accepted_file.specs.AcceptedFile.{AcceptedFile}
+use Rattle.accepted_file.proofs.Given.{sound-tables}
 use Rattle.seek.specs.Seek.{sumsOf, countsOf, levelOf, stateOf}
 use Rattle.seek.specs.declared.SeekBuilder.{SeekBuilder}
 use Rattle.lists.specs.Lists.{endsOf, stateWith}
 use Rattle.lists.specs.declared.Ends.{Ends}
 use Rattle.lists.specs.declared.Lists.{Lists}
-use Rattle.step.specs.Step.{walkState, listsOf, withLists}
-use Rattle.step.proofs.Parts.{lists-are}
-use Rattle.step.specs.declared.Walk.{Walk}
-use Rattle.frame.specs.Frames.{frameOf}
-use Rattle.frame.specs.declared.Frame.{Frame}
-use Rattle.frame.proofs.Seeks.{joining-is}
-use Rattle.frame.proofs.Places.{parts-is, rest-is}
+use Rattle.walk.specs.Step.{walkState, listsOf, withLists}
+use Rattle.walk.proofs.Parts.{lists-are}
+use Rattle.walk.specs.declared.Walk.{Walk}
+use Rattle.level_frame.specs.Frames.{frameOf}
+use Rattle.level_frame.specs.declared.Frame.{Frame}
+use Rattle.level_frame.proofs.Seeks.{joining-is}
+use Rattle.level_frame.proofs.Places.{parts-is, rest-is}
 use Rattle.levels.specs.Written.{unleveled}
 
 abbrev place : Bool → ℕ → ℕ → Memory.Target
 place j p r = record { writing = true; joining = j; partsAt = p; restAt = r }
 
 -- the key type of a level's predicate is the file's
-key-sound : (T : Tables) → Sound T → (k : ℕ) → k < length (T .levels) → predicateAt T (levelAt T k .predicate) .key < length (T .types)
-unfolding levelAt
+key-sound : (T : Tables) → Sound T → (k : ℕ) → k < length (T .levels) → predicateAt T (levelEntryAt T k .predicate) .key < length (T .types)
+unfolding levelEntryAt
 key-sound T s k h = s .keys _ (each-at (s .levels) k _ h)
 
 module _ (T : Tables) (v : LevelEntry) (l : File.LevelEntry) (p : Predicate) (el : Views.levelOf v ≡ l) (ep : predicateOf p ≡ predicateAt T (v .predicate .0)) where
   key-is : p .key ≡ predicateAt T (l .predicate) .key
   key-is = ap (λ (q : File.Predicate). q .key) ep ∙ ap (λ (m : File.LevelEntry). predicateAt T (m .predicate) .key) el
 
-  pub walked-is : (s r : State) → r ≡ Rules.key (ops T) T (v .address .0) (v .node) (p .key) s → r ≡ Kept.walked T l s
+  pub walked-is : (s r : State) → r ≡ WalkRules.key (ops T) T (v .address .0) (v .node) (p .key) s → r ≡ Kept.walked T l s
   unfolding Kept.walked
   walked-is s r e =
-      e ∙ ap (λ (k : ℕ). Rules.key (ops T) T (v .address .0) (v .node) k s) key-is
-      ∙ ap (λ (m : File.LevelEntry). Rules.key (ops T) T (m .address) (m .node) (predicateAt T (l .predicate) .key) s) el
+      e ∙ ap (λ (k : ℕ). WalkRules.key (ops T) T (v .address .0) (v .node) k s) key-is
+      ∙ ap (λ (m : File.LevelEntry). WalkRules.key (ops T) T (m .address) (m .node) (predicateAt T (l .predicate) .key) s) el
 
-pub key-in : (f ix : List ℕ) → Ready f ix → (k : ℕ) → k < length (tablesOf f .levels) → (v : LevelEntry) (p : Predicate) → Views.levelOf v ≡ levelAt (tablesOf f) k → predicateOf p ≡ predicateAt (tablesOf f) (v .predicate .0) → p .key < length (tablesOf f .types)
-key-in f ix r k h v p el ep = rw (key-is (tablesOf f) v (levelAt (tablesOf f) k) p el ep) (key-sound (tablesOf f) (sound-tables f ix r) k h)
+pub key-in : (f ix : List ℕ) → AcceptedFile f ix → (k : ℕ) → k < length (tablesOf f .levels) → (v : LevelEntry) (p : Predicate) → Views.levelOf v ≡ levelEntryAt (tablesOf f) k → predicateOf p ≡ predicateAt (tablesOf f) (v .predicate .0) → p .key < length (tablesOf f .types)
+key-in f ix r k h v p el ep = rw (key-is (tablesOf f) v (levelEntryAt (tablesOf f) k) p el ep) (key-sound (tablesOf f) (sound-tables f ix r) k h)
 
 -- a new level, with the lists as they were
 pub begun-is : (T : Tables) (o : Bool) (e : Ends) (b : SeekBuilder) (t : Memory.Target) (w p : List ℕ) → stateOf T b (endsOf e) w p ≡ state false (endsOf e) newLevel t w p → walkState T (withLists (record { ends = e; level = b }) (record { over = o; ends = e })) w p ≡ state o (endsOf e) newLevel t w p

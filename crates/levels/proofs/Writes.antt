@@ -1,4 +1,4 @@
--- A measured level and the lists: written where they fit, else the plan is too long.
+-- A measured level and the lists: writtenTo where they fit, else the plan is too long.
 use mathlib.Core.Bool.{Bool, true, false}
 use mathlib.Core.List.{List}
 use mathlib.Core.Path.{_≡_, refl, sym, ap, _∙_}
@@ -15,44 +15,44 @@ use Rattle.rules.proofs.Cases.{by-test, true≢false}
 use Rattle.state.specs.State.{State, Level, state, stop, noEnds, newLevel, measuring}
 use Rattle.state.specs.State as Memory
 use Rattle.state.specs.Levels as Kept
-use Rattle.state.specs.Levels.{written}
+use Rattle.state.specs.Levels.{writtenTo}
 use Rattle.records.specs.Records.{put}
 use Rattle.records.proofs.Stores.{put-sets}
 use Rattle.lists.specs.Lists.{endsOf, stateWith, overrun}
 use Rattle.lists.specs.declared.Lists.{Lists}
 use Rattle.seek.specs.Seek.{levelOf, targetOf, stateOf}
-use Rattle.runs.specs.Runs.{listsIn}
-use Rattle.step.specs.Step.{walkState, listsOf}
-use Rattle.step.specs.declared.Walk.{Walk}
-use Rattle.levels.specs.Written.{unleveled, between, writtenOf}
+use Rattle.plan_lists.specs.Runs.{listsIn}
+use Rattle.walk.specs.Step.{walkState, listsOf}
+use Rattle.walk.specs.declared.Walk.{Walk}
+use Rattle.levels.specs.Written.{unleveled, betweenLevels, writtenOf}
 use Rattle.levels.specs.declared.Written.{Written}
 use Rattle.levels.proofs.Between.{settled}
 
 -- where the plan is too long, the lists stand as they were
-stopped-is : (r : Written) (l : Lists) (at : ℕ) (work plan : List ℕ) (level : Level) (t : Memory.Target) → r ≡ record { at = at; lists = overrun l } → writtenOf r work plan ≡ between (written at (stop (stateWith l level t work plan)))
-unfolding writtenOf between unleveled stop
+stopped-is : (r : Written) (l : Lists) (at : ℕ) (work plan : List ℕ) (level : Level) (t : Memory.Target) → r ≡ record { at = at; lists = overrun l } → writtenOf r work plan ≡ betweenLevels (writtenTo at (stop (stateWith l level t work plan)))
+unfolding writtenOf betweenLevels unleveled stop
 stopped-is r l at work plan level t e = ap (λ (x : Written). writtenOf x work plan) e
 
 module _ (T : Tables) (v : LevelEntry) (e : Memory.Ends) (at : ℕ) where
-  measured-over : (m : State) → m .over ≡ true → Kept.measured T v e at m ≡ written at m
+  measured-over : (m : State) → m .over ≡ true → Kept.measured T v e at m ≡ writtenTo at m
   unfolding Kept.measured
-  measured-over m o = by-test (λ (r : Kept.Written). r ≡ written at m) (m .over) (λ q. refl) (λ q. absurd (true≢false (sym o ∙ q)))
+  measured-over m o = by-test (λ (r : Kept.Written). r ≡ writtenTo at m) (m .over) (λ q. refl) (λ q. absurd (true≢false (sym o ∙ q)))
 
-  measured-live : (m : State) → m .over ≡ false → Kept.measured T v e at m ≡ elim (leb (Kept.levelEnd at (m .level)) (min planLimit (length (m .plan)))) [ true ↦ written (Kept.levelEnd at (m .level)) (Kept.rewritten T v e at m) | false ↦ written at (stop m) ]
+  measured-live : (m : State) → m .over ≡ false → Kept.measured T v e at m ≡ elim (leb (Kept.levelEnd at (m .level)) (min planLimit (length (m .plan)))) [ true ↦ writtenTo (Kept.levelEnd at (m .level)) (Kept.rewritten T v e at m) | false ↦ writtenTo at (stop m) ]
   unfolding Kept.measured
   measured-live m o =
-      by-test (λ (r : Kept.Written). r ≡ elim (leb (Kept.levelEnd at (m .level)) (min planLimit (length (m .plan)))) [ true ↦ written (Kept.levelEnd at (m .level)) (Kept.rewritten T v e at m) | false ↦ written at (stop m) ]) (m .over)
+      by-test (λ (r : Kept.Written). r ≡ elim (leb (Kept.levelEnd at (m .level)) (min planLimit (length (m .plan)))) [ true ↦ writtenTo (Kept.levelEnd at (m .level)) (Kept.rewritten T v e at m) | false ↦ writtenTo at (stop m) ]) (m .over)
       (λ q. absurd (true≢false (sym q ∙ o))) (λ q. refl)
 
-  measured-long : (m : State) → m .over ≡ false → leb (Kept.levelEnd at (m .level)) (min planLimit (length (m .plan))) ≡ false → Kept.measured T v e at m ≡ written at (stop m)
+  measured-long : (m : State) → m .over ≡ false → leb (Kept.levelEnd at (m .level)) (min planLimit (length (m .plan))) ≡ false → Kept.measured T v e at m ≡ writtenTo at (stop m)
   measured-long m o b =
       measured-live m o
-      ∙ by-test (λ (r : Kept.Written). r ≡ written at (stop m)) (leb (Kept.levelEnd at (m .level)) (min planLimit (length (m .plan)))) (λ q. absurd (true≢false (sym q ∙ b))) (λ q. refl)
+      ∙ by-test (λ (r : Kept.Written). r ≡ writtenTo at (stop m)) (leb (Kept.levelEnd at (m .level)) (min planLimit (length (m .plan)))) (λ q. absurd (true≢false (sym q ∙ b))) (λ q. refl)
 
-  measured-fits : (m : State) → m .over ≡ false → leb (Kept.levelEnd at (m .level)) (min planLimit (length (m .plan))) ≡ true → Kept.measured T v e at m ≡ written (Kept.levelEnd at (m .level)) (Kept.rewritten T v e at m)
+  measured-fits : (m : State) → m .over ≡ false → leb (Kept.levelEnd at (m .level)) (min planLimit (length (m .plan))) ≡ true → Kept.measured T v e at m ≡ writtenTo (Kept.levelEnd at (m .level)) (Kept.rewritten T v e at m)
   measured-fits m o b =
       measured-live m o
-      ∙ by-test (λ (r : Kept.Written). r ≡ written (Kept.levelEnd at (m .level)) (Kept.rewritten T v e at m)) (leb (Kept.levelEnd at (m .level)) (min planLimit (length (m .plan)))) (λ q. refl) (λ q. absurd (true≢false (sym b ∙ q)))
+      ∙ by-test (λ (r : Kept.Written). r ≡ writtenTo (Kept.levelEnd at (m .level)) (Kept.rewritten T v e at m)) (leb (Kept.levelEnd at (m .level)) (min planLimit (length (m .plan)))) (λ q. refl) (λ q. absurd (true≢false (sym b ∙ q)))
 
   -- a walk that was measured, in the code's form
   module _ (m : Walk) (work plan : List ℕ) where
@@ -67,32 +67,32 @@ module _ (T : Tables) (v : LevelEntry) (e : Memory.Ends) (at : ℕ) where
       unfolding walkState stateOf
       over-of b o = ap (λ (x : Lists). x .over) (sym el) ∙ o
 
-      pub over-left : l .over ≡ true → writtenOf (record { at = at; lists = l }) work plan ≡ between (Kept.measured T v e at seen)
-      unfolding walkState stateOf writtenOf between unleveled
-      over-left o = ap (λ (x : Lists). written at (stateWith x newLevel measuring work plan)) el ∙ ap between (sym (measured-over seen (over-of true o)))
+      pub over-left : l .over ≡ true → writtenOf (record { at = at; lists = l }) work plan ≡ betweenLevels (Kept.measured T v e at seen)
+      unfolding walkState stateOf writtenOf betweenLevels unleveled
+      over-left o = ap (λ (x : Lists). writtenTo at (stateWith x newLevel measuring work plan)) el ∙ ap betweenLevels (sym (measured-over seen (over-of true o)))
 
-      pub long-left : (r : Written) → l .over ≡ false → room ≡ false → r ≡ record { at = at; lists = overrun l } → writtenOf r work plan ≡ between (Kept.measured T v e at seen)
+      pub long-left : (r : Written) → l .over ≡ false → room ≡ false → r ≡ record { at = at; lists = overrun l } → writtenOf r work plan ≡ betweenLevels (Kept.measured T v e at seen)
       unfolding walkState stateOf
       long-left r o b s =
           stopped-is r l at work plan (levelOf T (m .level)) (targetOf (m .level .target)) s
-          ∙ ap (λ (x : Lists). between (written at (stop (stateWith x (levelOf T (m .level)) (targetOf (m .level .target)) work plan)))) el
-          ∙ ap between (sym (measured-long seen (over-of false o) b))
+          ∙ ap (λ (x : Lists). betweenLevels (writtenTo at (stop (stateWith x (levelOf T (m .level)) (targetOf (m .level .target)) work plan)))) el
+          ∙ ap betweenLevels (sym (measured-long seen (over-of false o) b))
 
       pub fits-left : (r : Written) (work₁ plan₁ : List ℕ) → l .over ≡ false → room ≡ true → r .at ≡ Kept.levelEnd at (levelOf T (m .level))
           → stateWith (r .lists) newLevel measuring work₁ plan₁ ≡ unleveled (Kept.rewritten T v e at seen)
-          → writtenOf r work₁ plan₁ ≡ between (Kept.measured T v e at seen)
-      unfolding walkState stateOf writtenOf between
+          → writtenOf r work₁ plan₁ ≡ betweenLevels (Kept.measured T v e at seen)
+      unfolding walkState stateOf writtenOf betweenLevels
       fits-left r work₁ plan₁ o b ea s =
-          ap (λ (k : ℕ). written k (stateWith (r .lists) newLevel measuring work₁ plan₁)) ea
-          ∙ ap (written (Kept.levelEnd at (levelOf T (m .level)))) s
-          ∙ ap between (sym (measured-fits seen (over-of false o) b))
+          ap (λ (k : ℕ). writtenTo k (stateWith (r .lists) newLevel measuring work₁ plan₁)) ea
+          ∙ ap (writtenTo (Kept.levelEnd at (levelOf T (m .level)))) s
+          ∙ ap betweenLevels (sym (measured-fits seen (over-of false o) b))
 
 -- a level from what the one before left
 pub level-is : (T : Tables) (v : LevelEntry) (w : Written) (work plan : List ℕ) (b m : State) (r : Kept.Written) → b ≡ state (w .lists .over) (endsOf (w .lists .ends)) newLevel (record { writing = false; joining = false; partsAt = 0; restAt = 0 }) work plan → m ≡ Kept.walked T v b
-    → r ≡ between (Kept.measured T v (endsOf (w .lists .ends)) (w .at) m) → r ≡ between (Kept.level T v (writtenOf w work plan))
+    → r ≡ betweenLevels (Kept.measured T v (endsOf (w .lists .ends)) (w .at) m) → r ≡ betweenLevels (Kept.level T v (writtenOf w work plan))
 unfolding Kept.level Kept.begin writtenOf measuring
 level-is T v w work plan b m r eb em er =
-    er ∙ ap (λ (x : State). between (Kept.measured T v (endsOf (w .lists .ends)) (w .at) x)) (em ∙ ap (Kept.walked T v) eb)
+    er ∙ ap (λ (x : State). betweenLevels (Kept.measured T v (endsOf (w .lists .ends)) (w .at) x)) (em ∙ ap (Kept.walked T v) eb)
 
 -- the lists after the levels
 module _ (w : Written) (work plan : List ℕ) where
@@ -102,41 +102,41 @@ module _ (w : Written) (work plan : List ℕ) where
   abbrev before : State
   before = stateWith (w .lists) newLevel measuring work plan
 
-  finished-live : w .lists .over ≡ false → Kept.finished (writtenOf w work plan) ≡ elim (leb (w .at + length bytes) (min planLimit (length plan))) [ true ↦ written (w .at + length bytes) (state false (endsOf (w .lists .ends)) newLevel measuring work (sets plan (w .at) bytes)) | false ↦ written (w .at) (stop before) ]
+  finished-live : w .lists .over ≡ false → Kept.finished (writtenOf w work plan) ≡ elim (leb (w .at + length bytes) (min planLimit (length plan))) [ true ↦ writtenTo (w .at + length bytes) (state false (endsOf (w .lists .ends)) newLevel measuring work (sets plan (w .at) bytes)) | false ↦ writtenTo (w .at) (stop before) ]
   unfolding Kept.finished Kept.lists writtenOf
   finished-live o =
-      by-test (λ (r : Kept.Written). r ≡ elim (leb (w .at + length bytes) (min planLimit (length plan))) [ true ↦ written (w .at + length bytes) (state false (endsOf (w .lists .ends)) newLevel measuring work (sets plan (w .at) bytes)) | false ↦ written (w .at) (stop before) ]) (w .lists .over)
+      by-test (λ (r : Kept.Written). r ≡ elim (leb (w .at + length bytes) (min planLimit (length plan))) [ true ↦ writtenTo (w .at + length bytes) (state false (endsOf (w .lists .ends)) newLevel measuring work (sets plan (w .at) bytes)) | false ↦ writtenTo (w .at) (stop before) ]) (w .lists .over)
       (λ q. absurd (true≢false (sym q ∙ o))) (λ q. refl)
 
-  pub finished-over : w .lists .over ≡ true → writtenOf w work plan ≡ between (Kept.finished (writtenOf w work plan))
+  pub finished-over : w .lists .over ≡ true → writtenOf w work plan ≡ betweenLevels (Kept.finished (writtenOf w work plan))
   unfolding Kept.finished writtenOf
   finished-over o =
       sym (settled w work plan)
-      ∙ ap between (by-test (λ (r : Kept.Written). writtenOf w work plan ≡ r) (writtenOf w work plan .state .over) (λ q. refl) (λ q. absurd (true≢false (sym o ∙ q))))
+      ∙ ap betweenLevels (by-test (λ (r : Kept.Written). writtenOf w work plan ≡ r) (writtenOf w work plan .state .over) (λ q. refl) (λ q. absurd (true≢false (sym o ∙ q))))
 
-  pub finished-long : (r : Written) (n : ℕ) → n ≡ length bytes → w .lists .over ≡ false → min planLimit (length plan) < w .at + n → r ≡ record { at = w .at; lists = overrun (w .lists) } → writtenOf r work plan ≡ between (Kept.finished (writtenOf w work plan))
+  pub finished-long : (r : Written) (n : ℕ) → n ≡ length bytes → w .lists .over ≡ false → min planLimit (length plan) < w .at + n → r ≡ record { at = w .at; lists = overrun (w .lists) } → writtenOf r work plan ≡ betweenLevels (Kept.finished (writtenOf w work plan))
   finished-long r n en o h s =
       stopped-is r (w .lists) (w .at) work plan newLevel measuring s
-      ∙ ap between (sym (finished-live o ∙ by-test (λ (r : Kept.Written). r ≡ written (w .at) (stop before)) (leb (w .at + length bytes) (min planLimit (length plan)))
+      ∙ ap betweenLevels (sym (finished-live o ∙ by-test (λ (r : Kept.Written). r ≡ writtenTo (w .at) (stop before)) (leb (w .at + length bytes) (min planLimit (length plan)))
       (λ q. absurd (true≢false (sym q ∙ lt-leb (w .at + length bytes) (min planLimit (length plan)) (omega (arith, h, en))))) (λ q. refl)))
 
-  pub finished-fits : (n : ℕ) (plan₁ : List ℕ) → n ≡ length bytes → w .lists .over ≡ false → w .at + n ≤ min planLimit (length plan) → plan₁ ≡ put plan (w .at) bytes → writtenOf (record { at = w .at + n; lists = w .lists }) work plan₁ ≡ between (Kept.finished (writtenOf w work plan))
-  unfolding writtenOf between unleveled
+  pub finished-fits : (n : ℕ) (plan₁ : List ℕ) → n ≡ length bytes → w .lists .over ≡ false → w .at + n ≤ min planLimit (length plan) → plan₁ ≡ put plan (w .at) bytes → writtenOf (record { at = w .at + n; lists = w .lists }) work plan₁ ≡ betweenLevels (Kept.finished (writtenOf w work plan))
+  unfolding writtenOf betweenLevels unleveled
   finished-fits n plan₁ en o h ep =
-      ap (λ (x : Bool). written (w .at + n) (state x (endsOf (w .lists .ends)) newLevel measuring work plan₁)) o
-      ∙ ap (λ (k : ℕ). written (w .at + k) (state false (endsOf (w .lists .ends)) newLevel measuring work plan₁)) en
-      ∙ ap (λ (p : List ℕ). written (w .at + length bytes) (state false (endsOf (w .lists .ends)) newLevel measuring work p)) (ep ∙ put-sets plan (w .at) bytes)
-      ∙ ap between (sym (finished-live o ∙ by-test (λ (r : Kept.Written). r ≡ written (w .at + length bytes) (state false (endsOf (w .lists .ends)) newLevel measuring work (sets plan (w .at) bytes))) (leb (w .at + length bytes) (min planLimit (length plan)))
+      ap (λ (x : Bool). writtenTo (w .at + n) (state x (endsOf (w .lists .ends)) newLevel measuring work plan₁)) o
+      ∙ ap (λ (k : ℕ). writtenTo (w .at + k) (state false (endsOf (w .lists .ends)) newLevel measuring work plan₁)) en
+      ∙ ap (λ (p : List ℕ). writtenTo (w .at + length bytes) (state false (endsOf (w .lists .ends)) newLevel measuring work p)) (ep ∙ put-sets plan (w .at) bytes)
+      ∙ ap betweenLevels (sym (finished-live o ∙ by-test (λ (r : Kept.Written). r ≡ writtenTo (w .at + length bytes) (state false (endsOf (w .lists .ends)) newLevel measuring work (sets plan (w .at) bytes))) (leb (w .at + length bytes) (min planLimit (length plan)))
       (λ q. refl) (λ q. absurd (true≢false (sym (le-leb (w .at + length bytes) (min planLimit (length plan)) (omega (arith, h, en))) ∙ q)))))
 
-finished-between : (w : Kept.Written) → between (Kept.finished (between w)) ≡ between (Kept.finished w)
-unfolding Kept.finished Kept.lists between unleveled stop
+finished-between : (w : Kept.Written) → betweenLevels (Kept.finished (betweenLevels w)) ≡ betweenLevels (Kept.finished w)
+unfolding Kept.finished Kept.lists betweenLevels unleveled stop
 finished-between w = go (w .state .over) (leb (w .at + length (Kept.lists (w .state))) (min planLimit (length (w .state .plan))))
   where
     s : State
     s = w .state
 
-    go : (o b : Bool) → between (elim o [ true ↦ between w | false ↦ elim b [ true ↦ written (w .at + length (Kept.lists s)) (state false (s .ends) newLevel measuring (s .work) (sets (s .plan) (w .at) (Kept.lists s))) | false ↦ written (w .at) (stop (unleveled s)) ] ]) ≡ between (elim o [ true ↦ w | false ↦ elim b [ true ↦ written (w .at + length (Kept.lists s)) (state false (s .ends) (s .level) (s .target) (s .work) (sets (s .plan) (w .at) (Kept.lists s))) | false ↦ written (w .at) (stop s) ] ])
+    go : (o b : Bool) → betweenLevels (elim o [ true ↦ betweenLevels w | false ↦ elim b [ true ↦ writtenTo (w .at + length (Kept.lists s)) (state false (s .ends) newLevel measuring (s .work) (sets (s .plan) (w .at) (Kept.lists s))) | false ↦ writtenTo (w .at) (stop (unleveled s)) ] ]) ≡ betweenLevels (elim o [ true ↦ w | false ↦ elim b [ true ↦ writtenTo (w .at + length (Kept.lists s)) (state false (s .ends) (s .level) (s .target) (s .work) (sets (s .plan) (w .at) (Kept.lists s))) | false ↦ writtenTo (w .at) (stop s) ] ])
     go true b = refl
     go false true = refl
     go false false = refl
@@ -146,10 +146,10 @@ abbrev begins : Written
 begins = record { at = 2; lists = record { over = false; ends = record { bindings = 0; «binding_count» = 0; constrained = 16384; selects = 32768; «select_count» = 0; diagnostics = 49152 } } }
 
 pub write-is : (T : Tables) (n : ℕ) (w r : Written) (work plan plan₁ work₂ plan₂ plan₃ : List ℕ) → n ≡ length (T .levels) → plan₁ ≡ put plan 0 (u16 n)
-    → writtenOf w work₂ plan₂ ≡ between (Kept.levels T (T .levels) (writtenOf begins work plan₁)) → writtenOf r work₂ plan₃ ≡ between (Kept.finished (writtenOf w work₂ plan₂)) → writtenOf r work₂ plan₃ ≡ between (Kept.compiled T work plan)
+    → writtenOf w work₂ plan₂ ≡ betweenLevels (Kept.levels T (T .levels) (writtenOf begins work plan₁)) → writtenOf r work₂ plan₃ ≡ betweenLevels (Kept.finished (writtenOf w work₂ plan₂)) → writtenOf r work₂ plan₃ ≡ betweenLevels (Kept.compiled T work plan)
 unfolding Kept.compiled Kept.started writtenOf noEnds
 write-is T n w r work plan plan₁ work₂ plan₂ plan₃ en ep ew er =
-    er ∙ ap (λ (x : Kept.Written). between (Kept.finished x)) ew
+    er ∙ ap (λ (x : Kept.Written). betweenLevels (Kept.finished x)) ew
     ∙ finished-between (Kept.levels T (T .levels) (writtenOf begins work plan₁))
-    ∙ ap (λ (p : List ℕ). between (Kept.finished (Kept.levels T (T .levels) (written 2 (state false noEnds newLevel measuring work p)))))
+    ∙ ap (λ (p : List ℕ). betweenLevels (Kept.finished (Kept.levels T (T .levels) (writtenTo 2 (state false noEnds newLevel measuring work p)))))
     (ep ∙ put-sets plan 0 (u16 n) ∙ ap (λ (k : ℕ). sets plan 0 (u16 k)) en)

@@ -3,16 +3,16 @@ use mathlib.Core.List.{List}
 use Prim.Native.Nat.{ℕ}
 use Rattle.state.specs.State.{newLevel, measuring, State, state}
 use Rattle.state.specs.Levels as Kept
-use Rattle.state.specs.Levels.{written}
+use Rattle.state.specs.Levels.{writtenTo}
 use Rattle.lists.specs.Lists.{stateWith}
 use Rattle.levels.specs.declared.Written.{Written}
 
--- between two levels no level is kept: each begins its own
+-- betweenLevels two levels no level is kept: each begins its own
 unfoldable pub unleveled : State → State
 unleveled s = state (s .over) (s .ends) newLevel measuring (s .work) (s .plan)
 
-unfoldable pub between : Kept.Written → Kept.Written
-between w = written (w .at) (unleveled (w .state))
+unfoldable pub betweenLevels : Kept.Written → Kept.Written
+betweenLevels w = writtenTo (w .at) (unleveled (w .state))
 
 unfoldable pub writtenOf : Written → List ℕ → List ℕ → Kept.Written
-writtenOf w work plan = written (w .at) (stateWith (w .lists) newLevel measuring work plan)
+writtenOf w work plan = writtenTo (w .at) (stateWith (w .lists) newLevel measuring work plan)

@@ -10,30 +10,30 @@ ghost use Rattle.rules.specs.File.{Tables};
 ghost use Rattle.state.specs.State.{newLevel, measuring, state};
 ghost use Rattle.state.specs.Levels as Kept;
 ghost use Rattle.file.specs.Tables.{tablesOf};
-ghost use Rattle.views.specs.Views.{levelAt};
-ghost use Rattle.ready.specs.Ready.{Ready};
+ghost use Rattle.views.specs.Views.{levelEntryAt};
+ghost use Rattle.accepted_file.specs.AcceptedFile.{AcceptedFile};
 ghost use Rattle.seek.specs.Seek.{levelOf, targetOf};
 ghost use Rattle.lists.specs.Lists.{endsOf, stateWith, overrun};
-ghost use Rattle.frame.specs.Frames.{frameOf};
-ghost use Rattle.step.specs.Step.{walkState};
-ghost use Rattle.levels.specs.Written.{unleveled, between, writtenOf};
+ghost use Rattle.level_frame.specs.Frames.{frameOf};
+ghost use Rattle.walk.specs.Step.{walkState};
+ghost use Rattle.levels.specs.Written.{unleveled, betweenLevels, writtenOf};
 use entries::predicate_of;
-use frame::Frame;
-use frame::measure;
-use frame::put_frame;
-use frame::seek_number;
+use key::key;
+use level_frame::Frame;
+use level_frame::measure;
+use level_frame::put_frame;
+use level_frame::seek_number;
 use lists::Ends;
 use lists::Lists;
+use plan_lists::lists_len;
+use plan_lists::put_lists;
 use records::put16;
 use records::wide32;
-use runs::lists_len;
-use runs::put_lists;
 use seek::SeekBuilder;
 use seek::Target;
-use step::Walk;
 use views::count_of;
 use views::level_at;
-use walk::key;
+use walk::Walk;
 
 const PLAN_LIMIT: usize = 16384;
 
@@ -54,13 +54,13 @@ fn begun(over: bool, ends: Ends, target: Target) -> Walk
 
 // The walk of level k.
 fn walked(file: &[u8], index: &[u16], work: &mut [u8], plan: &mut [u8], k: usize, w: Walk) -> Walk
-    requires { ⌜ Ready (now file) (now index) ⌝ }
+    requires { ⌜ AcceptedFile (now file) (now index) ⌝ }
     requires { ⌜ k < length (tablesOf (now file) .levels) ⌝ }
     ensures { λ r. ⌜ (
         let T = tablesOf (now (file .entry)) in
         let before = walkState T w (now (work .entry)) (now (plan .entry)) in
         let after = walkState T r (now (work .exit)) (now (plan .exit)) in
-        after ≡ Kept.walked T (levelAt T k) before
+        after ≡ Kept.walked T (levelEntryAt T k) before
         ) ⌝ }
 {
     let e = level_at(file, index, k);
@@ -109,14 +109,14 @@ fn rewritten(
     m: Walk,
     ends: Ends,
 ) -> Lists
-    requires { ⌜ Ready (now file) (now index) ⌝ }
+    requires { ⌜ AcceptedFile (now file) (now index) ⌝ }
     requires { ⌜ k < length (tablesOf (now file) .levels) ⌝ }
     requires { ⌜ (f ≡ frameOf at (levelOf (tablesOf (now file)) (m .level))) × (f .end ≤ planLimit) ⌝ }
     ensures { λ r. ⌜ (
         let T = tablesOf (now (file .entry)) in
         let before = walkState T m (now (work .entry)) (now (plan .entry)) in
         let after = stateWith r newLevel measuring (now (work .exit)) (now (plan .exit)) in
-        after ≡ unleveled (Kept.rewritten T (levelAt T k) (endsOf ends) at before)
+        after ≡ unleveled (Kept.rewritten T (levelEntryAt T k) (endsOf ends) at before)
         ) ⌝ }
 {
     let l = m.level;
@@ -149,13 +149,13 @@ fn measured(
     ends: Ends,
     m: Walk,
 ) -> Written
-    requires { ⌜ Ready (now file) (now index) ⌝ }
+    requires { ⌜ AcceptedFile (now file) (now index) ⌝ }
     requires { ⌜ (k < length (tablesOf (now file) .levels)) × (at ≤ planLimit) ⌝ }
     ensures writes { λ r. ⌜ (
         let T = tablesOf (now (file .entry)) in
         let before = walkState T m (now (work .entry)) (now (plan .entry)) in
         let after = writtenOf r (now (work .exit)) (now (plan .exit)) in
-        after ≡ between (Kept.measured T (levelAt T k) (endsOf ends) at before)
+        after ≡ betweenLevels (Kept.measured T (levelEntryAt T k) (endsOf ends) at before)
         ) ⌝ }
     ensures bounded { λ r. ⌜ r .at ≤ planLimit ⌝ }
 {
@@ -188,13 +188,13 @@ fn level(
     k: usize,
     w: Written,
 ) -> Written
-    requires { ⌜ Ready (now file) (now index) ⌝ }
+    requires { ⌜ AcceptedFile (now file) (now index) ⌝ }
     requires { ⌜ (k < length (tablesOf (now file) .levels)) × (w .at ≤ planLimit) ⌝ }
     ensures writes { λ r. ⌜ (
         let T = tablesOf (now (file .entry)) in
         let before = writtenOf w (now (work .entry)) (now (plan .entry)) in
         let after = writtenOf r (now (work .exit)) (now (plan .exit)) in
-        after ≡ between (Kept.level T (levelAt T k) before)
+        after ≡ betweenLevels (Kept.level T (levelEntryAt T k) before)
         ) ⌝ }
     ensures bounded { λ r. ⌜ r .at ≤ planLimit ⌝ }
 {
@@ -212,13 +212,13 @@ fn level(
 
 // The levels in order; once the plan is too long no level is walked.
 fn levels(file: &[u8], index: &[u16], work: &mut [u8], plan: &mut [u8], start: Written) -> Written
-    requires { ⌜ Ready (now file) (now index) ⌝ }
+    requires { ⌜ AcceptedFile (now file) (now index) ⌝ }
     requires { ⌜ start .at ≤ planLimit ⌝ }
     ensures writes { λ r. ⌜ (
         let T = tablesOf (now (file .entry)) in
         let before = writtenOf start (now (work .entry)) (now (plan .entry)) in
         let after = writtenOf r (now (work .exit)) (now (plan .exit)) in
-        after ≡ between (Kept.levels T (T .levels) before)
+        after ≡ betweenLevels (Kept.levels T (T .levels) before)
         ) ⌝ }
     ensures bounded { λ r. ⌜ r .at ≤ planLimit ⌝ }
 {
@@ -242,7 +242,7 @@ fn finished(work: &[u8], plan: &mut [u8], w: Written) -> Written
     ensures { λ r. ⌜ (
         let before = writtenOf w (now (work .entry)) (now (plan .entry)) in
         let after = writtenOf r (now (work .entry)) (now (plan .exit)) in
-        after ≡ between (Kept.finished before)
+        after ≡ betweenLevels (Kept.finished before)
         ) ⌝ }
 {
     let lists = w.lists;
@@ -264,11 +264,11 @@ fn finished(work: &[u8], plan: &mut [u8], w: Written) -> Written
 
 // The whole plan.
 pub fn write(file: &[u8], index: &[u16], work: &mut [u8], plan: &mut [u8]) -> Written
-    requires { ⌜ Ready (now file) (now index) ⌝ }
+    requires { ⌜ AcceptedFile (now file) (now index) ⌝ }
     ensures { λ r. ⌜ (
         let T = tablesOf (now (file .entry)) in
         let after = writtenOf r (now (work .exit)) (now (plan .exit)) in
-        after ≡ between (Kept.compiled T (now (work .entry)) (now (plan .entry)))
+        after ≡ betweenLevels (Kept.compiled T (now (work .entry)) (now (plan .entry)))
         ) ⌝ }
 {
     put16(plan, 0, count_of(file, index, file::LEVELS));

@@ -13,8 +13,8 @@ use Rattle.rules.specs.File.{Tables, Slot, Binding}
 use Rattle.rules.specs.Constant.{lookup}
 use Rattle.rules.proofs.Cases.{some≢none}
 use Rattle.state.specs.State.{Level, Target, made, bindingsIn}
-use Rattle.state.specs.Ops.{fitting, ops}
-use Rattle.views.specs.Views.{slotOf, SlotInside}
+use Rattle.state.specs.Ops.{checkedSlot, ops}
+use Rattle.views.specs.Views.{slotViewed, SlotInside}
 use Rattle.views.specs.declared.SlotView.{SlotView}
 use Rattle.tables.specs.Tables.{SeenSlot, MaybeInside}
 use Rattle.tables.specs.declared.MaybeSlotView.{MaybeSlotView}
@@ -79,7 +79,7 @@ module _ (f : List ℕ) (o : Option Slot) (r : MaybeSlotView) (s : SeenSlot f o 
   pub view-inside : (v : SlotView) → r ≡ Ms.Just v → SlotInside f v
   view-inside v e = subst (MaybeInside f) e (s .inside)
 
-  pub view-is : (v : SlotView) → r ≡ Ms.Just v → some (slotOf f v) ≡ o
+  pub view-is : (v : SlotView) → r ≡ Ms.Just v → some (slotViewed f v) ≡ o
   view-is v e = subst (SeenSlot f o) e s .is
 
   pub nothing-is : r ≡ Ms.Nothing → none ≡ o
@@ -95,12 +95,12 @@ module _ (T : Tables) (l : Lists) (lv : Level) (tg : Target) (w p : List ℕ) (x
   unfolding made
   made-is = ap (λ (bytes : List ℕ). bindingsIn (length bytes) bytes) (sym e)
 
-  pub of-made : (v : SlotView) → r ≡ Ms.Just v → fitting T (some (slotOf (take end w) v)) ≡ ops T .lookup (stateWith l lv tg w p) x
+  pub of-made : (v : SlotView) → r ≡ Ms.Just v → checkedSlot T (some (slotViewed (take end w) v)) ≡ ops T .lookup (stateWith l lv tg w p) x
   of-made v g =
-      sym (ap (λ (bs : List Binding). fitting T (lookup (T .bindings ++ bs) x)) made-is
-      ∙ ap (fitting T) (newer x (T .bindings) _ (slotOf (take end w) v) (view-is _ _ r s v g)))
+      sym (ap (λ (bs : List Binding). checkedSlot T (lookup (T .bindings ++ bs) x)) made-is
+      ∙ ap (checkedSlot T) (newer x (T .bindings) _ (slotViewed (take end w) v) (view-is _ _ r s v g)))
 
-  pub of-file : r ≡ Ms.Nothing → fitting T (lookup (T .bindings) x) ≡ ops T .lookup (stateWith l lv tg w p) x
+  pub of-file : r ≡ Ms.Nothing → checkedSlot T (lookup (T .bindings) x) ≡ ops T .lookup (stateWith l lv tg w p) x
   of-file g =
-      sym (ap (λ (bs : List Binding). fitting T (lookup (T .bindings ++ bs) x)) made-is
-      ∙ ap (fitting T) (older x (T .bindings) _ (nothing-is _ _ r s g)))
+      sym (ap (λ (bs : List Binding). checkedSlot T (lookup (T .bindings ++ bs) x)) made-is
+      ∙ ap (checkedSlot T) (older x (T .bindings) _ (nothing-is _ _ r s g)))

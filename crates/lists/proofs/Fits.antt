@@ -14,14 +14,14 @@ use Rattle.rules.specs.File as File
 use Rattle.rules.specs.File.{Tables, depth}
 use Rattle.rules.specs.Checks.{isType, isPredicate, noneOr}
 use Rattle.rules.proofs.Cases.{both-left, both-right, ltb-lt, leb-le}
-use Rattle.state.specs.Ops.{fitting, roomy}
+use Rattle.state.specs.Ops.{checkedSlot, roomy}
 use Rattle.file.specs.Steps.{depthsBase}
 use Rattle.file.specs.Tables.{tablesOf}
 use Rattle.paths.specs.Paths.{Holds}
 use Rattle.paths.specs.declared.FieldPath.{FieldPath}
 use Rattle.paths.specs.declared.Address.{Address}
-use Rattle.ready.specs.Ready.{Ready}
-use Rattle.ready.proofs.Given.{few-types, sound-tables}
+use Rattle.accepted_file.specs.AcceptedFile.{AcceptedFile}
+use Rattle.accepted_file.proofs.Given.{few-types, sound-tables}
 use Rattle.views.specs.Views as Views
 use Rattle.paths.specs.declared.PredicateId.{PredicateId}
 use Rattle.views.specs.declared.MaybePredicate.{MaybePredicate}
@@ -64,7 +64,7 @@ steps-at : (f : List ℕ) (at : ℕ) → length (pathAt f at .steps) ≡ getD f 
 unfolding pathAt byteAt
 steps-at f at = length-run (long f) 4 (getD f (at + 2) 0) (at + 3)
 
-module _ (f ix : List ℕ) (r : Ready f ix) (t : ℕ) (b : Bool) (e : b ≡ ltb t (sizeOf (tablesOf f) 1)) where
+module _ (f ix : List ℕ) (r : AcceptedFile f ix) (t : ℕ) (b : Bool) (e : b ≡ ltb t (sizeOf (tablesOf f) 1)) where
   pub type-known : b ≡ true → t < length (tablesOf f .types)
   type-known h = ltb-lt t (length (tablesOf f .types)) (sym e ∙ h)
 
@@ -93,8 +93,8 @@ module _ (f ix : List ℕ) (r : Ready f ix) (t : ℕ) (b : Bool) (e : b ≡ ltb 
 
 -- a view of a known kind
 module _ (T : Tables) (f : List ℕ) (v w : SlotView) (e : v ≡ w) where
-  pub fits-as : (b : Bool) → b ≡ fitsTables T (Views.slotOf f w) → b ≡ fitsTables T (Views.slotOf f v)
-  fits-as b h = h ∙ ap (λ (u : SlotView). fitsTables T (Views.slotOf f u)) (sym e)
+  pub fits-as : (b : Bool) → b ≡ fitsTables T (Views.slotViewed f w) → b ≡ fitsTables T (Views.slotViewed f v)
+  fits-as b h = h ∙ ap (λ (u : SlotView). fitsTables T (Views.slotViewed f u)) (sym e)
 
 pub inside-as : (f : List ℕ) (v w : SlotView) → v ≡ w → SlotInside f v → SlotInside f w
 inside-as f v w e i = subst (SlotInside f) e i
@@ -102,15 +102,15 @@ inside-as f v w e i = subst (SlotInside f) e i
 pub short-as : (f : List ℕ) (v w : SlotView) → v ≡ w → ShortSlot f v → ShortSlot f w
 short-as f v w e i = subst (ShortSlot f) e i
 
-pub plain-slot : (f : List ℕ) (v w : SlotView) (k : SlotKind) (s : Slot) → v ≡ w → s ≡ plainSlot k → slotWith k noPath ≡ Views.slotOf f w → Stands (Views.slotOf f v) s
-plain-slot f v w k s e g h = stands-as (plain-stands k g) (h ∙ ap (Views.slotOf f) (sym e))
+pub plain-slot : (f : List ℕ) (v w : SlotView) (k : SlotKind) (s : Slot) → v ≡ w → s ≡ plainSlot k → slotWith k noPath ≡ Views.slotViewed f w → Stands (Views.slotViewed f v) s
+plain-slot f v w k s e g h = stands-as (plain-stands k g) (h ∙ ap (Views.slotViewed f) (sym e))
 
-pub field-slot : (f : List ℕ) (v : SlotView) (a : Address) (at t : ℕ) (p : FieldPath) (s : Slot) → v ≡ Sv.Field a at t → Holds p (pathAt f at) → s ≡ fieldSlot a p t → Stands (Views.slotOf f v) s
-field-slot f v a at t p s e g h = stands-as (field-stands a p t h) (ap (λ (q : File.FieldPath). File.Slot.Field (a .0) q t) (g .is) ∙ ap (Views.slotOf f) (sym e))
+pub field-slot : (f : List ℕ) (v : SlotView) (a : Address) (at t : ℕ) (p : FieldPath) (s : Slot) → v ≡ Sv.Field a at t → Holds p (pathAt f at) → s ≡ fieldSlot a p t → Stands (Views.slotViewed f v) s
+field-slot f v a at t p s e g h = stands-as (field-stands a p t h) (ap (λ (q : File.FieldPath). File.Slot.Field (a .0) q t) (g .is) ∙ ap (Views.slotViewed f) (sym e))
 
 -- a slot that fits has a path of few steps: its type is at least one deep
-module _ (f ix : List ℕ) (r : Ready f ix) (g : List ℕ) where
-  pub short : (v : SlotView) → fitsTables (tablesOf f) (Views.slotOf g v) ≡ true → ShortSlot g v
+module _ (f ix : List ℕ) (r : AcceptedFile f ix) (g : List ℕ) where
+  pub short : (v : SlotView) → fitsTables (tablesOf f) (Views.slotViewed g v) ≡ true → ShortSlot g v
   unfolding roomy isType
   short (Sv.Row a p) e = tt
   short (Sv.Key a t) e = tt
@@ -124,12 +124,12 @@ module _ (f ix : List ℕ) (r : Ready f ix) (g : List ℕ) where
 
 -- as the test comes out
 module _ (T : Tables) (s : File.Slot) (b : Bool) (e : b ≡ fitsTables T s) where
-  chosen : (c : Bool) → b ≡ c → _≡_ {A = Option File.Slot} (elim c [ true ↦ some s | false ↦ none ]) (fitting T (some s))
-  unfolding fitting
+  chosen : (c : Bool) → b ≡ c → _≡_ {A = Option File.Slot} (elim c [ true ↦ some s | false ↦ none ]) (checkedSlot T (some s))
+  unfolding checkedSlot
   chosen c h = ap (λ (t : Bool). elim t as (λ _. Option File.Slot) [ true ↦ some s | false ↦ none ]) (sym h ∙ e)
 
-  pub fitted-yes : (r : MaybeSlot) (s′ : Slot) → b ≡ true → r ≡ justSlot s′ → Stands s s′ → IsSlot (fitting T (some s)) r
+  pub fitted-yes : (r : MaybeSlot) (s′ : Slot) → b ≡ true → r ≡ justSlot s′ → Stands s s′ → IsSlot (checkedSlot T (some s)) r
   fitted-yes r s′ h g k = slot-as (just-is g k) (chosen true h)
 
-  pub fitted-no : (r : MaybeSlot) → b ≡ false → r ≡ noSlot → IsSlot (fitting T (some s)) r
+  pub fitted-no : (r : MaybeSlot) → b ≡ false → r ≡ noSlot → IsSlot (checkedSlot T (some s)) r
   fitted-no r h g = slot-as (no-slot g) (chosen false h)

@@ -29,7 +29,7 @@ use Rattle.tables.specs.declared.Found.{Found}
 use Rattle.tables.specs.declared.Found.the-variants as Fo
 use Rattle.tables.specs.Tables.{SeenSlot}
 use Rattle.tables.specs.declared.MaybeSlotView.the-variants as Ms
-use Rattle.views.specs.Views.{slotOf, SlotInside}
+use Rattle.views.specs.Views.{slotViewed, SlotInside}
 use Rattle.views.specs.declared.SlotView.{SlotView}
 use Rattle.lists.specs.Lists.{bindingRead, bindingAt, slotAt, slotFrom, placeOf, endOf, later, Readable, FoundReads, SeenAt, SeenView}
 
@@ -46,7 +46,7 @@ module _ (f : List ℕ) (p : ℕ) (x : Readable f p) where
   abbrev pub there : BindingRead f p (x .value)
   there = binding-read f p (x .value) (x .rest) (x .reads)
 
-  pub seen-view : (v : SlotView) → slotOf f v ≡ there .value → SlotInside f v → SeenView f (slotFrom f p) v
+  pub seen-view : (v : SlotView) → slotViewed f v ≡ there .value → SlotInside f v → SeenView f (slotFrom f p) v
   unfolding slotAt bindingAt _>>=_
   seen-view v e i =
       record {

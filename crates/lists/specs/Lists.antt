@@ -19,7 +19,7 @@ use Rattle.file.specs.declared.Step.{Step}
 use Rattle.file.specs.declared.Step.the-variants.{Next, Refused}
 use Rattle.state.specs.State as Kept
 use Rattle.state.specs.State.{Level, Target, State, state, ends}
-use Rattle.views.specs.Views.{slotOf, SlotInside}
+use Rattle.views.specs.Views.{slotViewed, SlotInside}
 use Rattle.views.specs.declared.SlotView.{SlotView}
 use Rattle.views.specs.declared.SlotView.the-variants as Sv
 use Rattle.tables.specs.declared.Found.{Found}
@@ -112,7 +112,7 @@ pub record SeenAt (f : List ℕ) (o : Option Slot) (r : Found) : Type 0 where
 
 -- a view is the slot o
 pub record SeenView (f : List ℕ) (o : Option Slot) (v : SlotView) : Type 0 where
-  pub is : some (slotOf f v) ≡ o
+  pub is : some (slotViewed f v) ≡ o
   pub inside : SlotInside f v
 
 -- a slot's numbers are the tables', and its path has room

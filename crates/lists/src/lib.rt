@@ -16,14 +16,14 @@ ghost use Rattle.rules.specs.Events.{codeNumber};
 ghost use Rattle.rules.specs.Plan as Plan;
 ghost use Rattle.state.specs.State.{Level, Target, bindingsIn, made};
 ghost use Rattle.state.specs.Ops as Ops;
-ghost use Rattle.state.specs.Ops.{fitting, ops};
+ghost use Rattle.state.specs.Ops.{checkedSlot, ops};
 ghost use Rattle.rules.specs.Read.{binding};
 ghost use Rattle.file.specs.Steps.{word, stepAt};
 ghost use Rattle.file.specs.Tables.{tablesOf};
 ghost use Rattle.paths.specs.Paths.{pathOf};
 ghost use Rattle.views.specs.Views as Views;
 ghost use Rattle.views.specs.Views.{sizeOf, orNone, predicateOption, pathAt, PathInside, SlotInside};
-ghost use Rattle.ready.specs.Ready.{Ready};
+ghost use Rattle.accepted_file.specs.AcceptedFile.{AcceptedFile};
 ghost use Rattle.tables.specs.Tables.{SeenSlot};
 ghost use Rattle.slots.specs.Slots.{slotOf, Stands, IsSlot};
 ghost use Rattle.records.specs.Records.{put, reach};
@@ -479,7 +479,7 @@ fn made_slot(bytes: &[u8], name: usize) -> MaybeSlotView
 
 // Whether n is a number of section s.
 fn numbered(file: &[u8], index: &[u16], s: usize, n: usize) -> bool
-    requires { ⌜ Ready (now file) (now index) ⌝ }
+    requires { ⌜ AcceptedFile (now file) (now index) ⌝ }
     requires { ⌜ s < 10 ⌝ }
     ensures { λ r. ⌜ r ≡ ltb n (sizeOf (tablesOf (now (file .entry))) s) ⌝ }
 {
@@ -490,7 +490,7 @@ fn numbered(file: &[u8], index: &[u16], s: usize, n: usize) -> bool
 }
 
 fn predicate_in(file: &[u8], index: &[u16], p: MaybePredicate) -> bool
-    requires { ⌜ Ready (now file) (now index) ⌝ }
+    requires { ⌜ AcceptedFile (now file) (now index) ⌝ }
     ensures { λ r. ⌜ r ≡ noneOr (isPredicate (tablesOf (now (file .entry)))) (predicateOption p) ⌝ }
 {
     match p {
@@ -501,7 +501,7 @@ fn predicate_in(file: &[u8], index: &[u16], p: MaybePredicate) -> bool
 
 // Whether the path at at has room for the steps below a type.
 fn path_fits(file: &[u8], index: &[u16], bytes: &[u8], at: usize, t: usize) -> bool
-    requires { ⌜ Ready (now file) (now index) ⌝ }
+    requires { ⌜ AcceptedFile (now file) (now index) ⌝ }
     requires { ⌜ PathInside (now bytes) at ⌝ }
     ensures { λ r. ⌜ (
         let T = tablesOf (now (file .entry)) in
@@ -521,9 +521,9 @@ fn path_fits(file: &[u8], index: &[u16], bytes: &[u8], at: usize, t: usize) -> b
 
 // Whether a slot's numbers are the file's, and its path has room.
 fn slot_fits(file: &[u8], index: &[u16], bytes: &[u8], v: SlotView) -> bool
-    requires { ⌜ Ready (now file) (now index) ⌝ }
+    requires { ⌜ AcceptedFile (now file) (now index) ⌝ }
     requires { ⌜ SlotInside (now bytes) v ⌝ }
-    ensures { λ r. ⌜ r ≡ fitsTables (tablesOf (now (file .entry))) (Views.slotOf (now (bytes .entry)) v) ⌝ }
+    ensures { λ r. ⌜ r ≡ fitsTables (tablesOf (now (file .entry))) (Views.slotViewed (now (bytes .entry)) v) ⌝ }
 {
     match v {
         SlotView::Row(_, p) => predicate_in(file, index, p),
@@ -539,7 +539,7 @@ fn slot_fits(file: &[u8], index: &[u16], bytes: &[u8], v: SlotView) -> bool
 fn slot_of(bytes: &[u8], v: SlotView) -> Slot
     requires { ⌜ SlotInside (now bytes) v ⌝ }
     requires { ⌜ ShortSlot (now bytes) v ⌝ }
-    ensures { λ r. ⌜ Stands (Views.slotOf (now (bytes .entry)) v) r ⌝ }
+    ensures { λ r. ⌜ Stands (Views.slotViewed (now (bytes .entry)) v) r ⌝ }
 {
     match v {
         SlotView::Row(a, p) => Slot::plain(SlotKind::Row(a, p)),
@@ -553,11 +553,11 @@ fn slot_of(bytes: &[u8], v: SlotView) -> Slot
 
 // The slot of a view, if it fits.
 fn fitted(file: &[u8], index: &[u16], bytes: &[u8], v: SlotView) -> MaybeSlot
-    requires { ⌜ Ready (now file) (now index) ⌝ }
+    requires { ⌜ AcceptedFile (now file) (now index) ⌝ }
     requires { ⌜ SlotInside (now bytes) v ⌝ }
     ensures { λ r. ⌜ (
         let T = tablesOf (now (file .entry)) in
-        IsSlot (fitting T (some (Views.slotOf (now (bytes .entry)) v))) r
+        IsSlot (checkedSlot T (some (Views.slotViewed (now (bytes .entry)) v))) r
         ) ⌝ }
 {
     if slot_fits(file, index, bytes, v) {
@@ -569,10 +569,10 @@ fn fitted(file: &[u8], index: &[u16], bytes: &[u8], v: SlotView) -> MaybeSlot
 
 // The file's own slot of a name.
 fn own_slot(file: &[u8], index: &[u16], name: usize) -> MaybeSlot
-    requires { ⌜ Ready (now file) (now index) ⌝ }
+    requires { ⌜ AcceptedFile (now file) (now index) ⌝ }
     ensures { λ r. ⌜ (
         let T = tablesOf (now (file .entry)) in
-        IsSlot (fitting T (Constant.lookup (T .bindings) name)) r
+        IsSlot (checkedSlot T (Constant.lookup (T .bindings) name)) r
         ) ⌝ }
 {
     if let MaybeSlotView::Just(v) = tables::lookup(file, index, name) {
@@ -600,7 +600,7 @@ fn made_end(work: &[u8], l: Lists) -> usize
 
 // The slot of a name's last entry: of those that the walks have made, else of the file's own.
 pub fn lookup(file: &[u8], index: &[u16], work: &[u8], l: Lists, name: usize) -> MaybeSlot
-    requires { ⌜ Ready (now file) (now index) ⌝ }
+    requires { ⌜ AcceptedFile (now file) (now index) ⌝ }
     ensures { λ r. ⌜ ((lv : Level) (tg : Target) (p : List ℕ) → (
         let T = tablesOf (now (file .entry)) in
         let before = stateWith l lv tg (now (work .entry)) p in

@@ -8,7 +8,7 @@ ghost use Rattle.state.specs.State.{Ends};
 ghost use Rattle.state.specs.Ops as Ops;
 ghost use Rattle.paths.specs.Paths.{pathOf};
 ghost use Rattle.file.specs.Tables.{tablesOf};
-ghost use Rattle.ready.specs.Ready.{Ready};
+ghost use Rattle.accepted_file.specs.AcceptedFile.{AcceptedFile};
 ghost use Rattle.seek.specs.Seek.{stateOf};
 ghost use Rattle.seek.specs.Narrow.{IsConstant, constOf, narrowedBy};
 use constant::Const;
@@ -24,7 +24,7 @@ pub fn narrow_by(
     level: &mut SeekBuilder,
     plan: &mut [u8],
 )
-    requires { ⌜ Ready (now file) (now index) × IsConstant (tablesOf (now file)) constant ⌝ }
+    requires { ⌜ AcceptedFile (now file) (now index) × IsConstant (tablesOf (now file)) constant ⌝ }
     ensures { λ _. ⌜ ((e : Ends) (w : List ℕ) →
         let T = tablesOf (now (file .entry)) in
         let before = stateOf T (now (level .entry)) e w (now (plan .entry)) in
@@ -57,7 +57,7 @@ pub fn narrowed(
     level: SeekBuilder,
     plan: &mut [u8],
 ) -> SeekBuilder
-    requires { ⌜ Ready (now file) (now index) × IsConstant (tablesOf (now file)) constant ⌝ }
+    requires { ⌜ AcceptedFile (now file) (now index) × IsConstant (tablesOf (now file)) constant ⌝ }
     ensures { λ r. ⌜ ((e : Ends) (w : List ℕ) →
         let T = tablesOf (now (file .entry)) in
         let before = stateOf T level e w (now (plan .entry)) in

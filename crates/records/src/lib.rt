@@ -1,4 +1,4 @@
-// Records of the plan's form, written at a place of a lent buffer and read back. A place outside the buffer takes nothing, so no caller
+// Records of the plan's form, writtenAt at a place of a lent buffer and read back. A place outside the buffer takes nothing, so no caller
 // has to show that there is room.
 ghost use mathlib.Core.Path.{_≡_};
 ghost use mathlib.Core.Bool.{true, false};
@@ -11,7 +11,7 @@ ghost use Rattle.rules.specs.Events.{Narrowing};
 ghost use Rattle.rules.specs.Plan as Plan;
 ghost use Rattle.paths.specs.Paths.{pathOf};
 ghost use Rattle.views.specs.Views.{anchorOf};
-ghost use Rattle.records.specs.Records.{put, reach, written, behind, headOf, apartOf, cut};
+ghost use Rattle.records.specs.Records.{put, reach, writtenAt, behind, headOf, apartOf, cut};
 use file::wide16;
 use paths::Address;
 use paths::FieldPath;
@@ -114,7 +114,7 @@ pub fn put_path_at(plan: &mut [u8], place: Place, path: FieldPath) -> Place
     requires { ⌜ place .at ≤ reach ⌝ }
     ensures { λ r. ⌜ (
         let form = Plan.path (pathOf path) in
-        (now (plan .exit) ≡ written place form (now (plan .entry))) × (r ≡ behind (length form) place) × (r .at ≤ place .at + 63)
+        (now (plan .exit) ≡ writtenAt place form (now (plan .entry))) × (r ≡ behind (length form) place) × (r .at ≤ place .at + 63)
         ) ⌝ }
 {
     if !place.write {
@@ -137,7 +137,7 @@ pub fn put_text_at(plan: &mut [u8], place: Place, kind: u8, len: usize) -> Place
     requires { ⌜ place .at ≤ 2 * reach ⌝ }
     ensures { λ r. ⌜ (
         let form = kind ∷ Plan.u16 len in
-        (now (plan .exit) ≡ written place form (now (plan .entry))) × (r ≡ behind 3 place) × (r .at ≤ place .at + 3)
+        (now (plan .exit) ≡ writtenAt place form (now (plan .entry))) × (r ≡ behind 3 place) × (r .at ≤ place .at + 3)
         ) ⌝ }
 {
     let at = place.at;
@@ -159,7 +159,7 @@ pub fn put_head(plan: &mut [u8], place: Place, len: usize) -> Place
     requires { ⌜ place .at ≤ reach ⌝ }
     ensures { λ r. ⌜ (
         let head = headOf (place .joined) len in
-        (now (plan .exit) ≡ written place head (now (plan .entry))) × (r ≡ behind (length head) place) × (r .at ≤ place .at + 3)
+        (now (plan .exit) ≡ writtenAt place head (now (plan .entry))) × (r ≡ behind (length head) place) × (r .at ≤ place .at + 3)
         ) ⌝ }
 {
     if place.joined {
@@ -170,7 +170,7 @@ pub fn put_head(plan: &mut [u8], place: Place, len: usize) -> Place
 
 pub fn put_tag_at(plan: &mut [u8], place: Place, disc: u32)
     requires { ⌜ place .at ≤ 2 * reach ⌝ }
-    ensures { λ _. ⌜ now (plan .exit) ≡ written place (unionTag disc) (now (plan .entry)) ⌝ }
+    ensures { λ _. ⌜ now (plan .exit) ≡ writtenAt place (unionTag disc) (now (plan .entry)) ⌝ }
 {
     if !place.write {
         return;
@@ -179,7 +179,7 @@ pub fn put_tag_at(plan: &mut [u8], place: Place, disc: u32)
 }
 
 pub fn put_byte_at(plan: &mut [u8], place: Place, b: u8)
-    ensures { λ _. ⌜ now (plan .exit) ≡ written place (b ∷ []) (now (plan .entry)) ⌝ }
+    ensures { λ _. ⌜ now (plan .exit) ≡ writtenAt place (b ∷ []) (now (plan .entry)) ⌝ }
 {
     if !place.write {
         return;
@@ -190,7 +190,7 @@ pub fn put_byte_at(plan: &mut [u8], place: Place, b: u8)
 // A residual's ops.
 pub fn put_tag_op(plan: &mut [u8], place: Place, disc: u32)
     requires { ⌜ place .at ≤ 2 * reach ⌝ }
-    ensures { λ _. ⌜ now (plan .exit) ≡ written place (Plan.op (Narrowing.Tag disc)) (now (plan .entry)) ⌝ }
+    ensures { λ _. ⌜ now (plan .exit) ≡ writtenAt place (Plan.op (Narrowing.Tag disc)) (now (plan .entry)) ⌝ }
 {
     if !place.write {
         return;
@@ -213,7 +213,7 @@ pub fn put_fuzzy(plan: &mut [u8], place: Place, name: usize, distance: u8, ancho
     requires { ⌜ place .at ≤ 2 * reach ⌝ }
     ensures { λ _. ⌜ (
         let form = Plan.op (Narrowing.Fuzzy name distance (anchorOf anchor)) in
-        now (plan .exit) ≡ written place form (now (plan .entry))
+        now (plan .exit) ≡ writtenAt place form (now (plan .entry))
         ) ⌝ }
 {
     if !place.write {
@@ -231,7 +231,7 @@ pub fn put_register(plan: &mut [u8], place: Place, kind: u8, address: Address, p
     requires { ⌜ place .at ≤ reach ⌝ }
     ensures { λ _. ⌜ (
         let form = kind ∷ Plan.u16 (address .0) ++ Plan.path (pathOf path) in
-        now (plan .exit) ≡ written place form (now (plan .entry))
+        now (plan .exit) ≡ writtenAt place form (now (plan .entry))
         ) ⌝ }
 {
     if !place.write {
@@ -245,7 +245,7 @@ pub fn put_register(plan: &mut [u8], place: Place, kind: u8, address: Address, p
 
 pub fn put_fact(plan: &mut [u8], place: Place, kind: u8, address: Address)
     requires { ⌜ place .at ≤ 2 * reach ⌝ }
-    ensures { λ _. ⌜ now (plan .exit) ≡ written place (kind ∷ Plan.u16 (address .0)) (now (plan .entry)) ⌝ }
+    ensures { λ _. ⌜ now (plan .exit) ≡ writtenAt place (kind ∷ Plan.u16 (address .0)) (now (plan .entry)) ⌝ }
 {
     if !place.write {
         return;

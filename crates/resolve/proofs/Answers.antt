@@ -15,12 +15,12 @@ use Rattle.rules.specs.File.{Tables, Node, Alternative, Hoisted, typeAt, nodeAt
 use Rattle.rules.specs.Constant.{alternativeOf}
 use Rattle.rules.specs.Lookup.{fieldOf, slotAt, fetchedRegister, hoistedSlot}
 use Rattle.rules.specs.Events.{Code}
-use Rattle.rules.specs.Resolve as Rules
+use Rattle.rules.specs.Resolve as ResolveRules
 use Rattle.rules.specs.Resolve.{Resolver, follow, _>>=_, give, declined, fetchedRow, dereference, fieldOfRow, fieldSlot, valueSlot, selected, selectSlot, resolveNode, resolve}
 use Rattle.state.specs.State.{Level, Target, State, newLevel, measuring}
 use Rattle.state.specs.Ops as Ops
 use Rattle.state.specs.Ops.{ops}
-use Rattle.slots.specs.Slots.{maybe, slotWith, slotOf, fieldSlot as slotOfField, justSlot, noSlot, tidied, IsSlot, Roomy}
+use Rattle.slots.specs.Slots.{maybe, slotWith, slotOf, fieldSlot as slotOfField, justSlot, noSlot, tidied, IsSlot, SlotRoom}
 use Rattle.slots.specs.declared.MaybeSlot.{MaybeSlot}
 use Rattle.slots.proofs.Tidy.{no-slot, field-is, slot-as}
 use Rattle.slots.specs.declared.Slot.{Slot}
@@ -37,7 +37,7 @@ use Rattle.tables.specs.declared.Run.{Run}
 use Rattle.fields.proofs.Slots.{counts}
 use Rattle.lists.specs.Lists.{stateWith}
 use Rattle.lists.specs.declared.Lists.{Lists}
-use Rattle.resolve.specs.Resolved.{given, found, answerWith, answerOf, Answers, Follows, Rooms, baseOf, readSlot, readPast, leafSlot, leafAt}
+use Rattle.resolve.specs.Resolved.{given, found, answerWith, answerOf, Answers, Follows, GivenSlotRoom, baseOf, readSlot, readPast, leafSlot, leafAt}
 use Rattle.resolve.specs.declared.Answer.{Answer}
 use Rattle.resolve.specs.declared.Read.{Read}
 use Rattle.resolve.specs.declared.Base.{Base}
@@ -169,7 +169,7 @@ module _ {l : Lists} {w : List ℕ} {r : Answer} {w′ : List ℕ} where
   -- one read after another
   pub next-is : {g : Resolver State} {h : File.Slot → Resolver State} (a : Answer) {v : List ℕ} → Answers g l w a v → Follows h a v r w′ → Answers (g >>= h) l w r w′
   unfolding _>>=_
-  next-is {g} {h} a e k = record { is = λ level target plan. k .is level target plan ∙ ap (λ (a : Rules.Answer State). follow a h) (e .is level target plan); tidy = k .tidy }
+  next-is {g} {h} a e k = record { is = λ level target plan. k .is level target plan ∙ ap (λ (a : ResolveRules.Answer State). follow a h) (e .is level target plan); tidy = k .tidy }
 
 -- a node that reads of no other
 pub leaf-is : {l : Lists} {w : List ℕ} {r : Answer} (T : Tables) (n : ℕ) (node : Node) {f : MaybeSlot} → ((level : Level) (target : Target) (plan : List ℕ) → IsSlot (leafSlot T (ops T .lookup (stateWith l level target w plan)) n node) f) → r ≡ answerWith f l
@@ -202,7 +202,7 @@ module _ {g : File.Slot → Resolver State} {a : Answer} {w : List ℕ} where
       }
 
 -- what an answer gave fits
-pub rooms-of : (T : Tables) (a : Answer) → a .some ≡ true → Rooms T (given a) → Roomy T (slotOf (a .slot))
+pub rooms-of : (T : Tables) (a : Answer) → a .some ≡ true → GivenSlotRoom T (given a) → SlotRoom T (slotOf (a .slot))
 rooms-of T a e h = h (slotOf (a .slot)) (ap (λ (b : Bool). maybe b (slotOf (a .slot))) e)
 
 -- a node by what it reads of
@@ -264,8 +264,8 @@ pub read-at : (T : Tables) (n : ℕ) (s : File.Slot) {x y : Read} {l : Lists} {w
 read-at T n s {x} {y} {l} {w} {r} {w′} e h = subst (λ (x : Read). Answers (readSlot T n x s) l w r w′) (sym e) h
 
 -- what is shown of every slot that the rules give is shown of an answer's
-pub rooms-from : (T : Tables) {g : Resolver State} {l : Lists} {w : List ℕ} {r : Answer} {w′ : List ℕ} → Answers g l w r w′ → ((s : State) → Rooms T (g s .slot)) → Rooms T (given r)
-rooms-from T {g} {l} {w} {r} {w′} h k s e = k (stateWith l newLevel measuring w []) s (sym (ap (λ (a : Rules.Answer State). a .slot) (h .is newLevel measuring [])) ∙ e)
+pub rooms-from : (T : Tables) {g : Resolver State} {l : Lists} {w : List ℕ} {r : Answer} {w′ : List ℕ} → Answers g l w r w′ → ((s : State) → GivenSlotRoom T (g s .slot)) → GivenSlotRoom T (given r)
+rooms-from T {g} {l} {w} {r} {w′} h k s e = k (stateWith l newLevel measuring w []) s (sym (ap (λ (a : ResolveRules.Answer State). a .slot) (h .is newLevel measuring [])) ∙ e)
 
 pub no-base : {read : Read} {b : ℕ} → Bs.Of read b ≡ Bs.Nothing → ⊥
 no-base e = let z : _≡_ {A = ℕ} 0 1 = cc in omega arith
@@ -305,7 +305,7 @@ answers-as {g} {h} {l} {w} k a = record { is = λ level target plan. a .is level
 
 -- a leaf by its constancy
 module _ (T : Tables) (n : ℕ) where
-  leafBy : Bool → State → Rules.Answer State
+  leafBy : Bool → State → ResolveRules.Answer State
   leafBy b s = record { slot = elim b [ true ↦ some (File.Slot.Const n) | false ↦ leafSlot T (ops T .lookup s) n (nodeAt T n) ]; walk = s }
 
   pub constant-leaf : isConstant T n ≡ true → (s : State) → leafAt T n s ≡ give (some (File.Slot.Const n)) s

@@ -9,7 +9,7 @@ use native.Mathlib.Numerals.{add-one}
 use lib.ListN.{length, getD, set, take, length-set, List·getD-eq-default}
 use lib.Seq.{sets, sets-eq, length-sets, take-suc, take-append-seam}
 use Rattle.rules.specs.File.{Tables, Node, nodeAt, isConstant}
-use Rattle.rules.specs.Resolve as Rules
+use Rattle.rules.specs.Resolve as ResolveRules
 use Rattle.rules.specs.Resolve.{_>>=_, give, resolve}
 use Rattle.rules.proofs.Cases.{by-test, some≢none}
 use Rattle.rules.proofs.Sound.{Sound}
@@ -21,7 +21,7 @@ use Rattle.lists.specs.declared.Lists.{Lists}
 use Rattle.slots.specs.Slots.{noSlot, tidied}
 use Rattle.slots.specs.declared.MaybeSlot.{MaybeSlot}
 use Rattle.slots.proofs.Tidy.{no-slot}
-use Rattle.resolve.specs.Resolved.{given, found, answerWith, answerOf, Answers, Follows, Climbs, Rooms, baseOf, readPast, leafAt}
+use Rattle.resolve.specs.Resolved.{given, found, answerWith, answerOf, Answers, Follows, Climbs, GivenSlotRoom, baseOf, readPast, leafAt}
 use Rattle.resolve.specs.Chains.{readOf, passing, chain, ending, bottom, readBy, readUp, climb}
 use Rattle.resolve.specs.declared.Answer.{Answer}
 use Rattle.resolve.specs.declared.Chain.{Chain}
@@ -168,30 +168,30 @@ module _ (T : Tables) where
       ap (take (length c)) (e ∙ sets-eq c before 0 (omega arith)) ∙ take-append-seam c _
 
   -- the way up
-  climb-last : (ns : List ℕ) (n : ℕ) (a : Rules.Answer State) → climb T (ns ++ (n ∷ [])) a ≡ climb T ns (readUp T n a)
+  climb-last : (ns : List ℕ) (n : ℕ) (a : ResolveRules.Answer State) → climb T (ns ++ (n ∷ [])) a ≡ climb T ns (readUp T n a)
   unfolding climb
   climb-last [] n a = refl
   climb-last (m ∷ ms) n a = ap (readUp T m) (climb-last ms n a)
 
-  climb-more : (trail : List ℕ) (k j : ℕ) (a : Rules.Answer State) → k ≡ j + 1 → j < length trail → climb T (take k trail) a ≡ climb T (take j trail) (readUp T (getD trail j 0) a)
+  climb-more : (trail : List ℕ) (k j : ℕ) (a : ResolveRules.Answer State) → k ≡ j + 1 → j < length trail → climb T (take k trail) a ≡ climb T (take j trail) (readUp T (getD trail j 0) a)
   climb-more trail k j a e h = ap (λ (ns : List ℕ). climb T ns a) (ap (λ (k : ℕ). take k trail) (e ∙ add-one j) ∙ take-suc trail j 0 h) ∙ climb-last (take j trail) (getD trail j 0) a
 
-  up-rooms : (S : Sound T) (n : ℕ) (a : Rules.Answer State) → Rooms T (a .slot) → Rooms T (readUp T n a .slot)
+  up-rooms : (S : Sound T) (n : ℕ) (a : ResolveRules.Answer State) → GivenSlotRoom T (a .slot) → GivenSlotRoom T (readUp T n a .slot)
   unfolding readUp
   up-rooms S n a = go (baseOf (nodeAt T n))
     where
-      go : (x : Base) → Rooms T (a .slot) → Rooms T (readBy T n x a .slot)
+      go : (x : Base) → GivenSlotRoom T (a .slot) → GivenSlotRoom T (readBy T n x a .slot)
       go Bs.Nothing h = λ s e. absurd (some≢none s (sym e))
       go (Bs.Of read b) h = read-room S n read a h
 
   -- with k nodes left: the whole climb is the climb that is left
   pub record Up (trail : List ℕ) (passed : ℕ) (end : Answer) (w : List ℕ) (below : Answer) (w′ : List ℕ) (k : ℕ) : Type 0 where
     pub is : (level : Level) (target : Target) (plan : List ℕ) → climb T (take passed trail) (answerOf end level target w plan) ≡ climb T (take k trail) (answerOf below level target w′ plan)
-    pub rooms : Rooms T (given below)
+    pub rooms : GivenSlotRoom T (given below)
     pub tidy : found below ≡ tidied (found below)
     pub within : k ≤ passed
 
-  pub up-first : (trail : List ℕ) (passed : ℕ) (end : Answer) (w : List ℕ) → Rooms T (given end) → found end ≡ tidied (found end) → Up trail passed end w end w passed
+  pub up-first : (trail : List ℕ) (passed : ℕ) (end : Answer) (w : List ℕ) → GivenSlotRoom T (given end) → found end ≡ tidied (found end) → Up trail passed end w end w passed
   up-first trail passed end w h t = record { is = λ level target plan. refl; rooms = h; tidy = t; within = omega arith }
 
   module _ {trail : List ℕ} {passed : ℕ} {end : Answer} {w : List ℕ} {below : Answer} {w′ : List ℕ} {k : ℕ} (u : Up trail passed end w below w′ k) where
@@ -201,7 +201,7 @@ module _ (T : Tables) where
           is = λ level target plan.
               u .is level target plan ∙ climb-more trail k j _ e h ∙ ap (λ (n : ℕ). climb T (take j trail) (readUp T n (answerOf below level target w′ plan))) (sym g)
               ∙ ap (climb T (take j trail)) (sym (c .is level target plan));
-          rooms = subst (Rooms T) (sym (ap (λ (a : Rules.Answer State). a .slot) (c .is newLevel measuring []))) (up-rooms S n _ (u .rooms));
+          rooms = subst (GivenSlotRoom T) (sym (ap (λ (a : ResolveRules.Answer State). a .slot) (c .is newLevel measuring []))) (up-rooms S n _ (u .rooms));
           tidy = c .tidy;
           within = omega (arith, u .within);
         }
@@ -282,7 +282,7 @@ module _ (T : Tables) where
           }
 
       -- the end's slot has room, and the trail holds the way
-      pub end-rooms : (S : Sound T) {l : Lists} {w : List ℕ} {r : Answer} {w′ : List ℕ} → Answers (leafAt T (c .node)) l w r w′ → Rooms T (given r)
+      pub end-rooms : (S : Sound T) {l : Lists} {w : List ℕ} {r : Answer} {w′ : List ℕ} → Answers (leafAt T (c .node)) l w r w′ → GivenSlotRoom T (given r)
       end-rooms S a = rooms-from T (end-is a) (λ s. resolved-room S (c .node) s)
 
       pub passed-within : c .passed ≤ length trail

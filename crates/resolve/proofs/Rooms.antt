@@ -22,13 +22,13 @@ use Rattle.rules.proofs.Keeps.{field-child, union-children}
 use Rattle.file.proofs.Readers.{lt-or-le}
 use Rattle.state.specs.State.{State}
 use Rattle.state.specs.Ops as State
-use Rattle.slots.specs.Slots.{Room, Roomy}
+use Rattle.slots.specs.Slots.{PathRoom, SlotRoom}
 use Rattle.resolve.specs.Resolved.{readSlot, readPast}
 use Rattle.resolve.specs.declared.Read.{Read}
 use Rattle.resolve.specs.declared.Read.the-variants.{Key, Value, Select}
 
 -- a slot that was tested
-tested-room : (T : Tables) (s : Slot) → State.roomy T s ≡ true → Roomy T s
+tested-room : (T : Tables) (s : Slot) → State.roomy T s ≡ true → SlotRoom T s
 unfolding State.roomy isType
 tested-room T (Slot.Row a p) h = tt
 tested-room T (Slot.Key a t) h = tt
@@ -37,11 +37,11 @@ tested-room T (Slot.Field a p t) h = record { known = ltb-lt _ _ (both-left (isT
 tested-room T (Slot.Value a t) h = tt
 tested-room T (Slot.Const n) h = tt
 
-pub fitting-room : (T : Tables) (o : Option Slot) (s : Slot) → State.fitting T o ≡ some s → Roomy T s
-unfolding State.fitting
+pub fitting-room : (T : Tables) (o : Option Slot) (s : Slot) → State.checkedSlot T o ≡ some s → SlotRoom T s
+unfolding State.checkedSlot
 fitting-room T none s e = absurd (some≢none s (sym e))
 fitting-room T (some slot) s e =
-    by-test (λ (r : Option Slot). r ≡ some s → Roomy T s) (State.roomy T slot) (λ q r. subst (Roomy T) (some-injective slot s r) (tested-room T slot q)) (λ q r. absurd (some≢none s (sym r))) e
+    by-test (λ (r : Option Slot). r ≡ some s → SlotRoom T s) (State.roomy T slot) (λ q r. subst (SlotRoom T) (some-injective slot s r) (tested-room T slot q)) (λ q r. absurd (some≢none s (sym r))) e
 
 module _ {T : Tables} (W : Sound T) where
   -- a type past the last has neither fields nor alternatives
@@ -53,11 +53,11 @@ module _ {T : Tables} (W : Sound T) where
   field-of : (t x : ℕ) (f : FieldAt) → fieldOf (typeAt T t) x ≡ some f → Child T t (f .type)
   field-of t x f e = field-child (Child T t) (typeAt T t) x f (W .children t (has-fields t x f e)) e
 
-  room-field : (i t c : ℕ) → Child T t c → Room T (fieldPath i) c
+  room-field : (i t c : ℕ) → Child T t c → PathRoom T (fieldPath i) c
   unfolding fieldPath
   room-field i t c h = record { known = h .in-types; short = omega (arith, W .shallow c (h .in-types)) }
 
-  room-then : (p : FieldPath) (i t c : ℕ) → Room T p t → Child T t c → Room T (then p i) c
+  room-then : (p : FieldPath) (i t c : ℕ) → PathRoom T p t → Child T t c → PathRoom T (then p i) c
   unfolding then
   room-then p i t c r h = record { known = h .in-types; short = omega (arith, length-append (p .steps) (i ∷ []), r .short, h .less-deep) }
 
@@ -66,23 +66,23 @@ module _ {T : Tables} (W : Sound T) where
   alternative-child t x alts alt h e g = each-first _ (union-children (Child T t) (typeAt T t) alts (W .children t h) e) alt g
 
   -- a union with an alternative is at least two deep, so its path has room for a step
-  pub union-room : (p : FieldPath) (t x : ℕ) (alts : List Alternative) (alt : Alternative) → Room T p t → unionTy (typeAt T t) ≡ some alts → alternativeOf alts x ≡ some alt → length (p .steps) < stepLimit
+  pub union-room : (p : FieldPath) (t x : ℕ) (alts : List Alternative) (alt : Alternative) → PathRoom T p t → unionTy (typeAt T t) ≡ some alts → alternativeOf alts x ≡ some alt → length (p .steps) < stepLimit
   union-room p t x alts alt r e g = let c = alternative-child t x alts alt (r .known) e g in omega (arith, r .short, c .less-deep, W .positive (alt .type) (c .in-types))
 
   abbrev Given : Option Slot → Type 0
-  Given o = (s : Slot) → o ≡ some s → Roomy T s
+  Given o = (s : Slot) → o ≡ some s → SlotRoom T s
 
   given-none : Given none
   given-none s e = absurd (some≢none s (sym e))
 
-  given-some : (s : Slot) → Roomy T s → Given (some s)
-  given-some s r s′ e = subst (Roomy T) (some-injective s s′ e) r
+  given-some : (s : Slot) → SlotRoom T s → Given (some s)
+  given-some s r s′ e = subst (SlotRoom T) (some-injective s s′ e) r
 
-  given-field : (a : ℕ) (place : ℕ → FieldPath) (t x : ℕ) → ((f : FieldAt) → Child T t (f .type) → Room T (place (f .index)) (f .type)) → Given (slotAt a place (fieldOf (typeAt T t) x))
+  given-field : (a : ℕ) (place : ℕ → FieldPath) (t x : ℕ) → ((f : FieldAt) → Child T t (f .type) → PathRoom T (place (f .index)) (f .type)) → Given (slotAt a place (fieldOf (typeAt T t) x))
   unfolding slotAt
   given-field a place t x g s e =
       let r = bind-some (fieldOf (typeAt T t) x) _ s e in
-      subst (Roomy T) (some-injective _ s (r .2)) (g (r .0) (field-of t x (r .0) (r .1)))
+      subst (SlotRoom T) (some-injective _ s (r .2)) (g (r .0) (field-of t x (r .0) (r .1)))
 
   given-row : (a : ℕ) (p : Option ℕ) (x : ℕ) → Given (rowField T a p x)
   unfolding rowField
@@ -95,11 +95,11 @@ module _ {T : Tables} (W : Sound T) where
   given-value a p s e =
       let r = bind-some p _ s e in
       let q = bind-some (predicateAt T (r .0) .value) _ s (r .2) in
-      subst (Roomy T) (some-injective _ s (q .2)) tt
+      subst (SlotRoom T) (some-injective _ s (q .2)) tt
 
   given-folded : (n x : ℕ) → Given (foldedSlot T n x)
   unfolding foldedSlot
-  given-folded n x s e = let r = bind-some (foldedField T n x) _ s e in subst (Roomy T) (some-injective _ s (r .2)) tt
+  given-folded n x s e = let r = bind-some (foldedField T n x) _ s e in subst (SlotRoom T) (some-injective _ s (r .2)) tt
 
   module _ {S : Type 0} (o : Ops S) where
     abbrev pub Gives : Answer S → Type 0
@@ -113,7 +113,7 @@ module _ {T : Tables} (W : Sound T) where
     unfolding declined
     refuses n c w = given-none
 
-    follows : (a : Answer S) (f : Slot → Resolver S) → Gives a → ((s : Slot) (w : S) → Roomy T s → Gives (f s w)) → Gives (follow a f)
+    follows : (a : Answer S) (f : Slot → Resolver S) → Gives a → ((s : Slot) (w : S) → SlotRoom T s → Gives (f s w)) → Gives (follow a f)
     unfolding follow
     follows a f h k = by-option (λ (b : Answer S). Gives b) (a .slot) (λ e. given-none) (λ s e. k s (a .walk) (h s e))
 
@@ -122,7 +122,7 @@ module _ {T : Tables} (W : Sound T) where
     fetched-row n p none w = refuses n Code.NyiFactField w
     fetched-row n p (some r) w = gives _ w (given-some (Slot.Row r (some p)) tt)
 
-    pub dereference-room : (n : ℕ) (s : Slot) (w : S) → Roomy T s → Gives (dereference o T n s w)
+    pub dereference-room : (n : ℕ) (s : Slot) (w : S) → SlotRoom T s → Gives (dereference o T n s w)
     unfolding dereference
     dereference-room n (Slot.Row a p) w ok = gives _ w (given-some (Slot.Row a p) ok)
     dereference-room n (Slot.Key a t) w ok = gives _ w (given-some (Slot.Key a t) ok)
@@ -142,7 +142,7 @@ module _ {T : Tables} (W : Sound T) where
     row-room x (Slot.Value a t) w = gives _ w given-none
     row-room x (Slot.Const c) w = gives _ w given-none
 
-    pub field-room : (n : ℕ) (s : Slot) (x : ℕ) (w : S) → Roomy T s → Gives (fieldSlot o T n s x w)
+    pub field-room : (n : ℕ) (s : Slot) (x : ℕ) (w : S) → SlotRoom T s → Gives (fieldSlot o T n s x w)
     unfolding fieldSlot _>>=_
     field-room n (Slot.Row a p) x w ok = gives _ w (given-row a p x)
     field-room n (Slot.Key a t) x w ok = gives _ w (given-field a fieldPath t x (λ f c. room-field (f .index) t (f .type) c))
@@ -163,12 +163,12 @@ module _ {T : Tables} (W : Sound T) where
     value-room (Slot.Value a t) w = gives _ w given-none
     value-room (Slot.Const c) w = gives _ w given-none
 
-    selected-room : (a : ℕ) (path : FieldPath) (t : ℕ) (alt : Option Alternative) (w : S) → Room T path t → ((x : Alternative) → alt ≡ some x → Child T t (x .type)) → Gives (selected o T a path alt w)
+    selected-room : (a : ℕ) (path : FieldPath) (t : ℕ) (alt : Option Alternative) (w : S) → PathRoom T path t → ((x : Alternative) → alt ≡ some x → Child T t (x .type)) → Gives (selected o T a path alt w)
     unfolding selected payload
     selected-room a path t none w r c = gives _ w given-none
     selected-room a path t (some alt) w r c = given-some _ (room-then path (alt .disc) t (alt .type) r (c alt refl))
 
-    select-room : (n : ℕ) (s : Slot) (x : ℕ) (w : S) → Roomy T s → Gives (selectSlot o T n s x w)
+    select-room : (n : ℕ) (s : Slot) (x : ℕ) (w : S) → SlotRoom T s → Gives (selectSlot o T n s x w)
     unfolding selectSlot
     select-room n (Slot.Row a p) x w ok = refuses n Code.NyiFactField w
     select-room n (Slot.Key a t) x w ok = refuses n Code.NyiFactField w
@@ -219,7 +219,7 @@ module _ {T : Tables} (W : Sound T) where
   resolved-room n w = resolve-room (State.ops T) (λ w x s e. fitting-room T _ s e) n w
 
   -- a read past a reference keeps the room
-  past-room : (n : ℕ) (read : Read) (s : Slot) (w : State) → Roomy T s → Gives (State.ops T) (readSlot T n read s w)
+  past-room : (n : ℕ) (read : Read) (s : Slot) (w : State) → SlotRoom T s → Gives (State.ops T) (readSlot T n read s w)
   past-room n (Key x) s w h = field-room (State.ops T) n s x w h
   past-room n Value s w h = value-room (State.ops T) s w
   past-room n (Select x) s w h = select-room (State.ops T) n s x w h

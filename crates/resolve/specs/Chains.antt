@@ -4,7 +4,7 @@ use mathlib.Core.Bool.{true, false}
 use mathlib.Core.List.{List, [], _∷_}
 use mathlib.Core.Option.{none}
 use Rattle.rules.specs.File.{Tables, nodeAt, isConstant}
-use Rattle.rules.specs.Resolve as Rules
+use Rattle.rules.specs.Resolve as ResolveRules
 use Rattle.rules.specs.Resolve.{follow}
 use Rattle.state.specs.State.{State}
 use Rattle.resolve.specs.Resolved.{baseOf, readPast}
@@ -33,15 +33,15 @@ unfoldable pub bottom : Tables → ℕ → ℕ → ℕ
 bottom T zero n = n
 bottom T (suc most) n = ending n (bottom T most) (readOf T n)
 
-abbrev pub readBy : Tables → ℕ → Base → Rules.Answer State → Rules.Answer State
+abbrev pub readBy : Tables → ℕ → Base → ResolveRules.Answer State → ResolveRules.Answer State
 readBy T n Nothing below = record { slot = none; walk = below .walk }
 readBy T n (Of read base) below = follow below (readPast T n read)
 
 -- what a node reads, of the answer of the node below it
-unfoldable pub readUp : Tables → ℕ → Rules.Answer State → Rules.Answer State
+unfoldable pub readUp : Tables → ℕ → ResolveRules.Answer State → ResolveRules.Answer State
 readUp T n below = readBy T n (baseOf (nodeAt T n)) below
 
 -- what the nodes passed read, one of the other, from the answer at the end
-unfoldable pub climb : Tables → List ℕ → Rules.Answer State → Rules.Answer State
+unfoldable pub climb : Tables → List ℕ → ResolveRules.Answer State → ResolveRules.Answer State
 climb T [] end = end
 climb T (n ∷ ns) end = readUp T n (climb T ns end)

@@ -7,11 +7,11 @@ use mathlib.Core.Option.{Option, none, some}
 use Rattle.rules.specs.File as File
 use Rattle.rules.specs.File.{Tables, Node, nodeAt, isConstant}
 use Rattle.rules.specs.Lookup.{hoistedSlot}
-use Rattle.rules.specs.Resolve as Rules
+use Rattle.rules.specs.Resolve as ResolveRules
 use Rattle.rules.specs.Resolve.{Resolver, follow, _>>=_}
 use Rattle.state.specs.State.{Level, Target, State}
 use Rattle.state.specs.Ops.{ops}
-use Rattle.slots.specs.Slots.{maybe, slotOf, tidied, Roomy}
+use Rattle.slots.specs.Slots.{maybe, slotOf, tidied, SlotRoom}
 use Rattle.slots.specs.declared.MaybeSlot.{MaybeSlot}
 use Rattle.lists.specs.Lists.{stateWith}
 use Rattle.lists.specs.declared.Lists.{Lists}
@@ -32,7 +32,7 @@ abbrev pub answerWith : MaybeSlot → Lists → Answer
 answerWith f lists = record { some = f .some; slot = f .slot; lists = lists }
 
 -- an answer, with the work area as the read left it
-abbrev pub answerOf : Answer → Level → Target → List ℕ → List ℕ → Rules.Answer State
+abbrev pub answerOf : Answer → Level → Target → List ℕ → List ℕ → ResolveRules.Answer State
 answerOf r level target work plan = record { slot = given r; walk = stateWith (r .lists) level target work plan }
 
 -- r, with w′ in the work area, is what g gives of the lists l with w there, and its slot is tidy
@@ -46,13 +46,13 @@ pub record Follows (g : File.Slot → Resolver State) (a : Answer) (w : List ℕ
   pub tidy : found r ≡ tidied (found r)
 
 -- the same of what f makes of the answer a
-pub record Climbs (f : Rules.Answer State → Rules.Answer State) (a : Answer) (w : List ℕ) (r : Answer) (w′ : List ℕ) : Type 0 where
+pub record Climbs (f : ResolveRules.Answer State → ResolveRules.Answer State) (a : Answer) (w : List ℕ) (r : Answer) (w′ : List ℕ) : Type 0 where
   pub is : (level : Level) (target : Target) (plan : List ℕ) → answerOf r level target w′ plan ≡ f (answerOf a level target w plan)
   pub tidy : found r ≡ tidied (found r)
 
 -- a slot that was given has room for the steps below its type
-abbrev pub Rooms : Tables → Option File.Slot → Type 0
-Rooms T o = (s : File.Slot) → o ≡ some s → Roomy T s
+abbrev pub GivenSlotRoom : Tables → Option File.Slot → Type 0
+GivenSlotRoom T o = (s : File.Slot) → o ≡ some s → SlotRoom T s
 
 -- what a node reads of which node below it
 unfoldable pub baseOf : Node → Base
@@ -75,13 +75,13 @@ baseOf Node.Arith = Nothing
 baseOf Node.Error = Nothing
 
 abbrev pub readSlot : Tables → ℕ → Read → File.Slot → Resolver State
-readSlot T n (Key x) s = Rules.fieldSlot (ops T) T n s x
-readSlot T n Value s = Rules.valueSlot (ops T) T s
-readSlot T n (Select x) s = Rules.selectSlot (ops T) T n s x
+readSlot T n (Key x) s = ResolveRules.fieldSlot (ops T) T n s x
+readSlot T n Value s = ResolveRules.valueSlot (ops T) T s
+readSlot T n (Select x) s = ResolveRules.selectSlot (ops T) T n s x
 
 -- the read, past a reference
 abbrev pub readPast : Tables → ℕ → Read → File.Slot → Resolver State
-readPast T n read s = Rules.dereference (ops T) T n s >>= readSlot T n read
+readPast T n read s = ResolveRules.dereference (ops T) T n s >>= readSlot T n read
 
 -- what a node gives that reads of no other
 unfoldable pub leafSlot : Tables → (ℕ → Option File.Slot) → ℕ → Node → Option File.Slot

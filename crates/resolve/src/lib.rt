@@ -9,17 +9,17 @@ ghost use Rattle.rules.specs.Limits.{stepLimit};
 ghost use Rattle.rules.specs.File as File;
 ghost use Rattle.rules.specs.File.{Tables, nodeAt, isConstant};
 ghost use Rattle.rules.specs.Lookup.{hoistedSlot};
-ghost use Rattle.rules.specs.Resolve as Rules;
+ghost use Rattle.rules.specs.Resolve as ResolveRules;
 ghost use Rattle.file.specs.Tables.{Indexed, tablesOf};
 ghost use Rattle.paths.specs.Paths.{pathOf};
 ghost use Rattle.state.specs.State.{Level, Target};
 ghost use Rattle.state.specs.Ops.{ops};
-ghost use Rattle.ready.specs.Ready.{Ready};
-ghost use Rattle.slots.specs.Slots.{slotOf, tidied, IsSlot, Room, Roomy};
+ghost use Rattle.accepted_file.specs.AcceptedFile.{AcceptedFile};
+ghost use Rattle.slots.specs.Slots.{slotOf, tidied, IsSlot, PathRoom, SlotRoom};
 ghost use Rattle.lists.specs.Lists.{codeOf, stateWith};
 ghost use Rattle.fields.specs.Found.{addressOption};
 ghost use Rattle.tables.specs.Tables.{alternativeOption};
-ghost use Rattle.resolve.specs.Resolved.{given, found, answerWith, Answers, Follows, Climbs, Rooms};
+ghost use Rattle.resolve.specs.Resolved.{given, found, answerWith, Answers, Follows, Climbs, GivenSlotRoom};
 ghost use Rattle.resolve.specs.Resolved.{baseOf, readSlot, readPast, leafSlot, leafAt};
 ghost use Rattle.resolve.specs.Chains.{readOf, chain, bottom, readUp, climb};
 use entries::node_of;
@@ -100,7 +100,7 @@ pub fn declined(work: &mut [u8], node: usize, code: Code, lists: Lists) -> Answe
     ensures { λ r. ⌜ (
         let before = now (work .entry) in
         let after = now (work .exit) in
-        ((T : Tables) → Answers (Rules.declined (ops T) T node (codeOf code)) lists before r after)
+        ((T : Tables) → Answers (ResolveRules.declined (ops T) T node (codeOf code)) lists before r after)
         ) ⌝ }
 {
     let l = report(work, lists, node, code);
@@ -118,7 +118,7 @@ fn fetched_row(
     ensures { λ r. ⌜ (
         let before = now (work .entry) in
         let after = now (work .exit) in
-        ((T : Tables) → Answers (Rules.fetchedRow (ops T) T node (predicate .0) (addressOption register)) lists before r after)
+        ((T : Tables) → Answers (ResolveRules.fetchedRow (ops T) T node (predicate .0) (addressOption register)) lists before r after)
         ) ⌝ }
 {
     match register {
@@ -145,7 +145,7 @@ fn dereference_field(
         let T = tablesOf (now (file .entry)) in
         let before = now (work .entry) in
         let after = now (work .exit) in
-        Answers (Rules.dereference (ops T) T node (File.Slot.Field (address .0) (pathOf path) ty)) lists before r after
+        Answers (ResolveRules.dereference (ops T) T node (File.Slot.Field (address .0) (pathOf path) ty)) lists before r after
         ) ⌝ }
 {
     match fact_ty(file, index, ty) {
@@ -174,7 +174,7 @@ fn dereference_value(
         let T = tablesOf (now (file .entry)) in
         let before = now (work .entry) in
         let after = now (work .exit) in
-        Answers (Rules.dereference (ops T) T node (File.Slot.Value (address .0) ty)) lists before r after
+        Answers (ResolveRules.dereference (ops T) T node (File.Slot.Value (address .0) ty)) lists before r after
         ) ⌝ }
 {
     match fact_ty(file, index, ty) {
@@ -197,7 +197,7 @@ pub fn dereference(
         let T = tablesOf (now (file .entry)) in
         let before = now (work .entry) in
         let after = now (work .exit) in
-        Answers (Rules.dereference (ops T) T node (slotOf slot)) lists before r after
+        Answers (ResolveRules.dereference (ops T) T node (slotOf slot)) lists before r after
         ) ⌝ }
 {
     let kind = slot.kind;
@@ -216,7 +216,7 @@ fn field_of_row(file: &[u8], index: &[u16], name: usize, row: Answer) -> Answer
     requires { ⌜ Indexed (now file) (now index) ⌝ }
     ensures { λ r. ⌜ (
         let T = tablesOf (now (file .entry)) in
-        ((w : List ℕ) → Follows (Rules.fieldOfRow (ops T) T name) row w r w)
+        ((w : List ℕ) → Follows (ResolveRules.fieldOfRow (ops T) T name) row w r w)
         ) ⌝ }
 {
     let lists = row.lists;
@@ -246,13 +246,13 @@ fn field_below(
     name: usize,
     lists: Lists,
 ) -> Answer
-    requires { ⌜ Ready (now file) (now index) ⌝ }
-    requires { ⌜ Room (tablesOf (now file)) (pathOf path) ty ⌝ }
+    requires { ⌜ AcceptedFile (now file) (now index) ⌝ }
+    requires { ⌜ PathRoom (tablesOf (now file)) (pathOf path) ty ⌝ }
     ensures { λ r. ⌜ (
         let T = tablesOf (now (file .entry)) in
         let before = now (work .entry) in
         let after = now (work .exit) in
-        Answers (Rules.fieldSlot (ops T) T node (File.Slot.Field (address .0) (pathOf path) ty) name) lists before r after
+        Answers (ResolveRules.fieldSlot (ops T) T node (File.Slot.Field (address .0) (pathOf path) ty) name) lists before r after
         ) ⌝ }
 {
     match fact_ty(file, index, ty) {
@@ -276,13 +276,13 @@ pub fn field_slot(
     name: usize,
     lists: Lists,
 ) -> Answer
-    requires { ⌜ Ready (now file) (now index) ⌝ }
-    requires { ⌜ Roomy (tablesOf (now file)) (slotOf slot) ⌝ }
+    requires { ⌜ AcceptedFile (now file) (now index) ⌝ }
+    requires { ⌜ SlotRoom (tablesOf (now file)) (slotOf slot) ⌝ }
     ensures { λ r. ⌜ (
         let T = tablesOf (now (file .entry)) in
         let before = now (work .entry) in
         let after = now (work .exit) in
-        Answers (Rules.fieldSlot (ops T) T node (slotOf slot) name) lists before r after
+        Answers (ResolveRules.fieldSlot (ops T) T node (slotOf slot) name) lists before r after
         ) ⌝ }
 {
     let kind = slot.kind;
@@ -301,7 +301,7 @@ pub fn value_slot(file: &[u8], index: &[u16], slot: Slot, lists: Lists) -> Answe
     requires { ⌜ Indexed (now file) (now index) ⌝ }
     ensures { λ r. ⌜ (
         let T = tablesOf (now (file .entry)) in
-        ((w : List ℕ) → Answers (Rules.valueSlot (ops T) T (slotOf slot)) lists w r w)
+        ((w : List ℕ) → Answers (ResolveRules.valueSlot (ops T) T (slotOf slot)) lists w r w)
         ) ⌝ }
 {
     let kind = slot.kind;
@@ -327,7 +327,7 @@ fn selected(
     ensures { λ r. ⌜ (
         let before = now (work .entry) in
         let after = now (work .exit) in
-        ((T : Tables) → Answers (Rules.selected (ops T) T (address .0) (pathOf path) (alternativeOption found)) lists before r after)
+        ((T : Tables) → Answers (ResolveRules.selected (ops T) T (address .0) (pathOf path) (alternativeOption found)) lists before r after)
         ) ⌝ }
 {
     match found {
@@ -351,13 +351,13 @@ fn select_field(
     name: usize,
     lists: Lists,
 ) -> Answer
-    requires { ⌜ Ready (now file) (now index) ⌝ }
-    requires { ⌜ Room (tablesOf (now file)) (pathOf path) ty ⌝ }
+    requires { ⌜ AcceptedFile (now file) (now index) ⌝ }
+    requires { ⌜ PathRoom (tablesOf (now file)) (pathOf path) ty ⌝ }
     ensures { λ r. ⌜ (
         let T = tablesOf (now (file .entry)) in
         let before = now (work .entry) in
         let after = now (work .exit) in
-        Answers (Rules.selectSlot (ops T) T node (File.Slot.Field (address .0) (pathOf path) ty) name) lists before r after
+        Answers (ResolveRules.selectSlot (ops T) T node (File.Slot.Field (address .0) (pathOf path) ty) name) lists before r after
         ) ⌝ }
 {
     match union_ty(file, index, ty) {
@@ -382,13 +382,13 @@ pub fn select_slot(
     name: usize,
     lists: Lists,
 ) -> Answer
-    requires { ⌜ Ready (now file) (now index) ⌝ }
-    requires { ⌜ Roomy (tablesOf (now file)) (slotOf slot) ⌝ }
+    requires { ⌜ AcceptedFile (now file) (now index) ⌝ }
+    requires { ⌜ SlotRoom (tablesOf (now file)) (slotOf slot) ⌝ }
     ensures { λ r. ⌜ (
         let T = tablesOf (now (file .entry)) in
         let before = now (work .entry) in
         let after = now (work .exit) in
-        Answers (Rules.selectSlot (ops T) T node (slotOf slot) name) lists before r after
+        Answers (ResolveRules.selectSlot (ops T) T node (slotOf slot) name) lists before r after
         ) ⌝ }
 {
     let kind = slot.kind;
@@ -414,7 +414,7 @@ pub fn select_slot(
 
 // The slot of the row that a node was hoisted to.
 pub fn hoisted_slot(file: &[u8], index: &[u16], work: &[u8], node: usize, lists: Lists) -> MaybeSlot
-    requires { ⌜ Ready (now file) (now index) ⌝ }
+    requires { ⌜ AcceptedFile (now file) (now index) ⌝ }
     ensures { λ r. ⌜ ((lv : Level) (tg : Target) (p : List ℕ) → (
         let T = tablesOf (now (file .entry)) in
         let before = stateWith lists lv tg (now (work .entry)) p in
@@ -429,7 +429,7 @@ pub fn hoisted_slot(file: &[u8], index: &[u16], work: &[u8], node: usize, lists:
 
 // A node's slot, if it reads of no other node.
 fn leaf(file: &[u8], index: &[u16], work: &[u8], node: usize, lists: Lists) -> MaybeSlot
-    requires { ⌜ Ready (now file) (now index) ⌝ }
+    requires { ⌜ AcceptedFile (now file) (now index) ⌝ }
     ensures { λ r. ⌜ ((lv : Level) (tg : Target) (p : List ℕ) → (
         let T = tablesOf (now (file .entry)) in
         let before = stateWith lists lv tg (now (work .entry)) p in
@@ -491,8 +491,8 @@ fn read_slot(
     read: Read,
     place: Answer,
 ) -> Answer
-    requires { ⌜ Ready (now file) (now index) ⌝ }
-    requires { ⌜ Rooms (tablesOf (now file)) (given place) ⌝ }
+    requires { ⌜ AcceptedFile (now file) (now index) ⌝ }
+    requires { ⌜ GivenSlotRoom (tablesOf (now file)) (given place) ⌝ }
     ensures { λ r. ⌜ Follows (readSlot (tablesOf (now (file .entry))) node read) place (now (work .entry)) r (now (work .exit)) ⌝ }
 {
     if !place.some {
@@ -516,8 +516,8 @@ fn read_past(
     read: Read,
     base: Answer,
 ) -> Answer
-    requires { ⌜ Ready (now file) (now index) ⌝ }
-    requires { ⌜ Rooms (tablesOf (now file)) (given base) ⌝ }
+    requires { ⌜ AcceptedFile (now file) (now index) ⌝ }
+    requires { ⌜ GivenSlotRoom (tablesOf (now file)) (given base) ⌝ }
     ensures { λ r. ⌜ Follows (readPast (tablesOf (now (file .entry))) node read) base (now (work .entry)) r (now (work .exit)) ⌝ }
 {
     if !base.some {
@@ -530,7 +530,7 @@ fn read_past(
 }
 
 fn constant_node(file: &[u8], index: &[u16], node: usize) -> bool
-    requires { ⌜ Ready (now file) (now index) ⌝ }
+    requires { ⌜ AcceptedFile (now file) (now index) ⌝ }
     ensures { λ r. ⌜ r ≡ isConstant (tablesOf (now (file .entry))) node ⌝ }
 {
     if node < count_of(file, index, NODES) {
@@ -542,7 +542,7 @@ fn constant_node(file: &[u8], index: &[u16], node: usize) -> bool
 
 // A node that reads of no other. A constant is a location like any other, the node itself, and is asked for first.
 fn leaf_answer(file: &[u8], index: &[u16], work: &mut [u8], node: usize, lists: Lists) -> Answer
-    requires { ⌜ Ready (now file) (now index) ⌝ }
+    requires { ⌜ AcceptedFile (now file) (now index) ⌝ }
     ensures { λ r. ⌜ Answers (leafAt (tablesOf (now (file .entry))) node) lists (now (work .entry)) r (now (work .exit)) ⌝ }
 {
     if constant_node(file, index, node) {
@@ -554,7 +554,7 @@ fn leaf_answer(file: &[u8], index: &[u16], work: &mut [u8], node: usize, lists: 
 
 // What a node reads of which node below it: a constant is its own location, and reads of none.
 fn read_of(file: &[u8], index: &[u16], node: usize) -> Base
-    requires { ⌜ Ready (now file) (now index) ⌝ }
+    requires { ⌜ AcceptedFile (now file) (now index) ⌝ }
     ensures { λ r. ⌜ r ≡ readOf (tablesOf (now (file .entry))) node ⌝ }
 {
     if constant_node(file, index, node) {
@@ -566,7 +566,7 @@ fn read_of(file: &[u8], index: &[u16], node: usize) -> Base
 // Goes down a chain of reads, from each node to the one that it reads of, and writes the nodes that it passes to the trail: until one
 // reads of no other, or the trail is full.
 fn descend(file: &[u8], index: &[u16], node: usize, trail: &mut [u16]) -> Chain
-    requires { ⌜ Ready (now file) (now index) ⌝ }
+    requires { ⌜ AcceptedFile (now file) (now index) ⌝ }
     ensures passes { λ r. ⌜ (
         let T = tablesOf (now (file .entry)) in
         let most = length (now (trail .entry)) in
@@ -593,8 +593,8 @@ fn descend(file: &[u8], index: &[u16], node: usize, trail: &mut [u16]) -> Chain
 
 // What a node reads, of the answer of the node below it.
 fn read_up(file: &[u8], index: &[u16], work: &mut [u8], node: usize, below: Answer) -> Answer
-    requires { ⌜ Ready (now file) (now index) ⌝ }
-    requires { ⌜ Rooms (tablesOf (now file)) (given below) ⌝ }
+    requires { ⌜ AcceptedFile (now file) (now index) ⌝ }
+    requires { ⌜ GivenSlotRoom (tablesOf (now file)) (given below) ⌝ }
     ensures { λ r. ⌜ (
         let T = tablesOf (now (file .entry)) in
         Climbs (readUp T node) below (now (work .entry)) r (now (work .exit))
@@ -615,8 +615,8 @@ fn ascend(
     passed: usize,
     end: Answer,
 ) -> Answer
-    requires { ⌜ Ready (now file) (now index) ⌝ }
-    requires { ⌜ Rooms (tablesOf (now file)) (given end) ⌝ }
+    requires { ⌜ AcceptedFile (now file) (now index) ⌝ }
+    requires { ⌜ GivenSlotRoom (tablesOf (now file)) (given end) ⌝ }
     requires { ⌜ found end ≡ tidied (found end) ⌝ }
     requires { ⌜ passed ≤ length (now trail) ⌝ }
     ensures { λ r. ⌜ (
@@ -635,10 +635,10 @@ fn ascend(
 
 // A chain of any length: a file has no more nodes than the trail has places.
 fn resolve_long(file: &[u8], index: &[u16], work: &mut [u8], node: usize, lists: Lists) -> Answer
-    requires { ⌜ Ready (now file) (now index) ⌝ }
+    requires { ⌜ AcceptedFile (now file) (now index) ⌝ }
     ensures { λ r. ⌜ (
         let T = tablesOf (now (file .entry)) in
-        Answers (Rules.resolve (ops T) T node) lists (now (work .entry)) r (now (work .exit))
+        Answers (ResolveRules.resolve (ops T) T node) lists (now (work .entry)) r (now (work .exit))
         ) ⌝ }
 {
     let mut trail = [0u16; 2048];
@@ -650,10 +650,10 @@ fn resolve_long(file: &[u8], index: &[u16], work: &mut [u8], node: usize, lists:
 // Where a pattern's value lives. A chain of reads may be as long as a file has nodes, so it is walked by loops, down and up again;
 // nearly every chain is short, and is done with a short trail.
 pub fn resolve(file: &[u8], index: &[u16], work: &mut [u8], node: usize, lists: Lists) -> Answer
-    requires { ⌜ Ready (now file) (now index) ⌝ }
+    requires { ⌜ AcceptedFile (now file) (now index) ⌝ }
     ensures { λ r. ⌜ (
         let T = tablesOf (now (file .entry)) in
-        Answers (Rules.resolve (ops T) T node) lists (now (work .entry)) r (now (work .exit))
+        Answers (ResolveRules.resolve (ops T) T node) lists (now (work .entry)) r (now (work .exit))
         ) ⌝ }
 {
     let mut trail = [0u16; 8];

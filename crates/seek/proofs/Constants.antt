@@ -8,15 +8,15 @@ use lib.ListN.{length}
 use Rattle.rules.specs.Base.{_>>=_}
 use Rattle.rules.specs.File as File
 use Rattle.rules.specs.File.{Tables, nameAt}
-use Rattle.rules.specs.Constant as Rules
+use Rattle.rules.specs.Constant as ConstantRules
 use Rattle.rules.specs.Constant.{bytesOnly, encodePrefix}
 use Rattle.rules.specs.Events.{Narrowing}
 use Rattle.rules.specs.Walk.{narrowing, narrowBy}
 use Rattle.state.specs.State.{State}
 use Rattle.state.specs.Ops.{narrow}
 use Rattle.file.specs.Tables.{tablesOf}
-use Rattle.ready.specs.Ready.{Ready}
-use Rattle.ready.proofs.Given.{passed, few-nodes}
+use Rattle.accepted_file.specs.AcceptedFile.{AcceptedFile}
+use Rattle.accepted_file.proofs.Given.{passed, few-nodes}
 use Rattle.views.specs.Views.{anchorOf}
 use Rattle.views.specs.declared.Anchor.{Anchor}
 use Rattle.seek.specs.Seek.{constantBytes}
@@ -32,15 +32,15 @@ pub record AtPlace (T : Tables) (n t l : ℕ) : Type 0 where
   pub in-types : t < length (T .types)
   pub is : constView T n t ≡ Co.Bytes n t l
 
-same-place : (T : Tables) (m u n t l : ℕ) (o : Option Rules.Const) → viewOf T m u o ≡ Co.Bytes n t l → (m ≡ n) × (u ≡ t)
+same-place : (T : Tables) (m u n t l : ℕ) (o : Option ConstantRules.Const) → viewOf T m u o ≡ Co.Bytes n t l → (m ≡ n) × (u ≡ t)
 same-place T m u n t l none e = absurd (let z : _≡_ {A = ℕ} 0 1 = cc in omega arith)
-same-place T m u n t l (some (Rules.Const.Bytes bytes)) e = (cc, cc)
-same-place T m u n t l (some (Rules.Const.Prefix bytes)) e = absurd (let z : _≡_ {A = ℕ} 0 1 = cc in omega arith)
-same-place T m u n t l (some (Rules.Const.Fuzzy x d a)) e = absurd (let z : _≡_ {A = ℕ} 0 1 = cc in omega arith)
+same-place T m u n t l (some (ConstantRules.Const.Bytes bytes)) e = (cc, cc)
+same-place T m u n t l (some (ConstantRules.Const.Prefix bytes)) e = absurd (let z : _≡_ {A = ℕ} 0 1 = cc in omega arith)
+same-place T m u n t l (some (ConstantRules.Const.Fuzzy x d a)) e = absurd (let z : _≡_ {A = ℕ} 0 1 = cc in omega arith)
 
 view-place : (T : Tables) (m u n t l : ℕ) → constView T m u ≡ Co.Bytes n t l → (m ≡ n) × (u ≡ t)
 unfolding constView
-view-place T m u n t l e = same-place T m u n t l (Rules.constant T m u) e
+view-place T m u n t l e = same-place T m u n t l (ConstantRules.constant T m u) e
 
 module _ (T : Tables) (c : Const) (k : IsConstant T c) where
   pub at-place : (n t l : ℕ) → c ≡ Co.Bytes n t l → AtPlace T n t l
@@ -54,22 +54,22 @@ module _ (T : Tables) (c : Const) (k : IsConstant T c) where
       }
 
 -- the name of a prefix is the file's
-pub in-names : (f ix : List ℕ) → Ready f ix → (c : Const) (k : IsConstant (tablesOf f) c) (x : ℕ) → c ≡ Co.Prefix x → x < length (tablesOf f .names)
+pub in-names : (f ix : List ℕ) → AcceptedFile f ix → (c : Const) (k : IsConstant (tablesOf f) c) (x : ℕ) → c ≡ Co.Prefix x → x < length (tablesOf f .names)
 in-names f ix r c k x e = known-prefix (tablesOf f) (passed f ix r) (few-nodes f ix (r .indexed)) (k .node) (k .type) (k .in-nodes) (k .in-types) x (sym (k .is) ∙ e) .in-names
 
 -- what the code carries is the rules' constant
-pub const-is : (f ix : List ℕ) → Ready f ix → (n t : ℕ) → n < length (tablesOf f .nodes) → t < length (tablesOf f .types) → (c : Const) → c ≡ constView (tablesOf f) n t → constOf (tablesOf f) c ≡ Rules.constant (tablesOf f) n t
+pub const-is : (f ix : List ℕ) → AcceptedFile f ix → (n t : ℕ) → n < length (tablesOf f .nodes) → t < length (tablesOf f .types) → (c : Const) → c ≡ constView (tablesOf f) n t → constOf (tablesOf f) c ≡ ConstantRules.constant (tablesOf f) n t
 unfolding constOf
 const-is f ix r n t h g Co.Nothing e = sym (known-nothing (tablesOf f) n t (sym e))
 const-is f ix r n t h g (Co.Bytes m u l) e =
     let p = view-place (tablesOf f) n t m u l (sym e) in
-    ap (λ (k : ℕ). Rules.constant (tablesOf f) k u) (sym (p .0)) ∙ ap (Rules.constant (tablesOf f) n) (sym (p .1))
+    ap (λ (k : ℕ). ConstantRules.constant (tablesOf f) k u) (sym (p .0)) ∙ ap (ConstantRules.constant (tablesOf f) n) (sym (p .1))
 const-is f ix r n t h g (Co.Prefix x) e = sym (known-prefix (tablesOf f) (passed f ix r) (few-nodes f ix (r .indexed)) n t h g x (sym e) .is)
 const-is f ix r n t h g (Co.Fuzzy x d a) e = sym (known-fuzzy (tablesOf f) n t x d a (sym e))
 
 module _ (T : Tables) (path : File.FieldPath) (c : Const) (s s₀ : State) where
-  by-rules : (o : Option Rules.Const) → constOf T c ≡ o → s ≡ narrowedBy T o path s₀ → s ≡ narrowedBy T (constOf T c) path s₀
-  by-rules o e q = q ∙ sym (ap (λ (o : Option Rules.Const). narrowedBy T o path s₀) e)
+  by-rules : (o : Option ConstantRules.Const) → constOf T c ≡ o → s ≡ narrowedBy T o path s₀ → s ≡ narrowedBy T (constOf T c) path s₀
+  by-rules o e q = q ∙ sym (ap (λ (o : Option ConstantRules.Const). narrowedBy T o path s₀) e)
 
   pub by-nothing : c ≡ Co.Nothing → s ≡ s₀ → s ≡ narrowedBy T (constOf T c) path s₀
   unfolding constOf narrowedBy
@@ -79,13 +79,13 @@ module _ (T : Tables) (path : File.FieldPath) (c : Const) (s s₀ : State) where
   unfolding constOf narrowedBy narrowBy narrowing constantBytes _>>=_ bytesOnly
   by-bytes n t l e v q =
       let k = known-bytes T n t n t l v in
-      by-rules (some (Rules.Const.Bytes (k .bytes))) (ap (constOf T) e ∙ k .is)
-      (q ∙ ap (λ (o : Option Rules.Const). narrow path (Narrowing.Bytes (Option·getD (o >>= bytesOnly) [])) s₀) (k .is))
+      by-rules (some (ConstantRules.Const.Bytes (k .bytes))) (ap (constOf T) e ∙ k .is)
+      (q ∙ ap (λ (o : Option ConstantRules.Const). narrow path (Narrowing.Bytes (Option·getD (o >>= bytesOnly) [])) s₀) (k .is))
 
   pub by-prefix : (x : ℕ) → c ≡ Co.Prefix x → s ≡ narrow path (Narrowing.Prefix (encodePrefix (nameAt T x))) s₀ → s ≡ narrowedBy T (constOf T c) path s₀
   unfolding constOf narrowedBy narrowBy narrowing
-  by-prefix x e q = by-rules (some (Rules.Const.Prefix (encodePrefix (nameAt T x)))) (ap (constOf T) e) q
+  by-prefix x e q = by-rules (some (ConstantRules.Const.Prefix (encodePrefix (nameAt T x)))) (ap (constOf T) e) q
 
   pub by-fuzzy : (x d : ℕ) (a : Anchor) → c ≡ Co.Fuzzy x d a → s ≡ narrow path (Narrowing.Fuzzy x d (anchorOf a)) s₀ → s ≡ narrowedBy T (constOf T c) path s₀
   unfolding constOf narrowedBy narrowBy narrowing
-  by-fuzzy x d a e q = by-rules (some (Rules.Const.Fuzzy x d (anchorOf a))) (ap (constOf T) e) q
+  by-fuzzy x d a e q = by-rules (some (ConstantRules.Const.Fuzzy x d (anchorOf a))) (ap (constOf T) e) q

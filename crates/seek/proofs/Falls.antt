@@ -19,7 +19,7 @@ use Rattle.paths.specs.Paths.{pathOf}
 use Rattle.paths.specs.declared.FieldPath.{FieldPath}
 use Rattle.views.specs.Views.{anchorOf}
 use Rattle.views.specs.declared.Anchor.{Anchor}
-use Rattle.seek.specs.Seek.{sumsOf, summed, counted, overrun, countsOf, setIn, guideOf, rangeOf, edgesOf, levelOf, targetOf, stateOf, fitting, narrowSums, kept, fell}
+use Rattle.seek.specs.Seek.{sumsOf, summed, counted, overrun, countsOf, setIn, guideOf, rangeOf, edgesOf, levelOf, targetOf, stateOf, countsFit, narrowSums, kept, fell}
 use Rattle.seek.specs.declared.Counts.{Counts}
 use Rattle.seek.specs.declared.Sums.{Sums}
 use Rattle.seek.specs.declared.SeekBuilder.{SeekBuilder}
@@ -27,7 +27,7 @@ use Rattle.seek.proofs.Grows.{grow-yes, grow-no, overruns}
 use Rattle.seek.proofs.Narrows.{goes}
 
 -- a level that grows by nothing written
-grow-bare : (l : Level) (s : State) → fitting (l .plain) (l .counts) ≡ true → state (s .over) (s .ends) l (s .target) (s .work) (s .plan) ≡ grow l 0 [] s
+grow-bare : (l : Level) (s : State) → countsFit (l .plain) (l .counts) ≡ true → state (s .over) (s .ends) l (s .target) (s .work) (s .plan) ≡ grow l 0 [] s
 grow-bare l s h = sym (grow-yes l 0 [] s h ∙ ap (state (s .over) (s .ends) l (s .target) (s .work)) (nothing (s .target .writing)))
   where
     nothing : (t : Bool) → (elim t [ true ↦ sets (s .plan) 0 [] | false ↦ s .plan ]) ≡ s .plan
@@ -173,7 +173,7 @@ module _ (b l : SeekBuilder) (s s0 : Sums) (T : Tables) (e : Ends) (w p : List �
   unfolding countsOf
   counts-are k ek = ap countsOf ek ∙ counts-narrowed
 
-  pub guides : (k : Counts) (path : FieldPath) (name distance : ℕ) (anchor : Anchor) → k ≡ counted s → fitting (b .plain) (sumsOf s) ≡ true → attachable (levelOf T b) (pathOf path) ≡ true
+  pub guides : (k : Counts) (path : FieldPath) (name distance : ℕ) (anchor : Anchor) → k ≡ counted s → countsFit (b .plain) (sumsOf s) ≡ true → attachable (levelOf T b) (pathOf path) ≡ true
       → stateOf T (guidedAt l k path name distance anchor) e w p
       ≡ grow (withGuide (record { path = pathOf path; term = name; distance = distance; anchor = anchorOf anchor }) (levelOf T b)) 0 [] (stateOf T b e w p)
   unfolding stateOf levelOf guideOf rangeOf edgesOf fell setIn withGuide attachable
@@ -184,9 +184,9 @@ module _ (b l : SeekBuilder) (s s0 : Sums) (T : Tables) (e : Ends) (w p : List �
       ap (λ x. stateOf T (guidedAt x k path name distance anchor) e w p) el
       ∙ ap (λ c. made c (rangeOf T (guidedAt (fell b) k path name distance anchor))) (counts-are k ek)
       ∙ ap (made (narrowed (countsOf (b .counts)))) (range-stays (b .building) (b .guide .set) (b .range .set) _ (pathOf path) (pathOf (b .path)) (encodePrefix (nameAt T (b .range .name))) a)
-      ∙ grow-bare (withGuide g (levelOf T b)) (stateOf T b e w p) (ap (fitting (b .plain)) (sym counts-narrowed) ∙ h)
+      ∙ grow-bare (withGuide g (levelOf T b)) (stateOf T b e w p) (ap (countsFit (b .plain)) (sym counts-narrowed) ∙ h)
 
-  pub ranges : (k : Counts) (path : FieldPath) (name : ℕ) → k ≡ counted s → fitting (b .plain) (sumsOf s) ≡ true → b .building ≡ true
+  pub ranges : (k : Counts) (path : FieldPath) (name : ℕ) → k ≡ counted s → countsFit (b .plain) (sumsOf s) ≡ true → b .building ≡ true
       → stateOf T (rangedAt l k path name) e w p ≡ grow (withRange (pathOf path) (encodePrefix (nameAt T name)) (levelOf T b)) 0 [] (stateOf T b e w p)
   unfolding stateOf levelOf guideOf rangeOf edgesOf fell setIn withRange
   ranges k path name ek h on =
@@ -196,9 +196,9 @@ module _ (b l : SeekBuilder) (s s0 : Sums) (T : Tables) (e : Ends) (w p : List �
       ap (λ x. stateOf T (rangedAt x k path name) e w p) el
       ∙ ap (λ c. made c (guideOf (rangedAt (fell b) k path name))) (counts-are k ek)
       ∙ ap (made (narrowed (countsOf (b .counts)))) (not-kept (b .building) (b .guide .set) (b .guide .set) _ _ on)
-      ∙ grow-bare (withRange (pathOf path) (encodePrefix (nameAt T name)) (levelOf T b)) (stateOf T b e w p) (ap (fitting (b .plain)) (sym counts-narrowed) ∙ h)
+      ∙ grow-bare (withRange (pathOf path) (encodePrefix (nameAt T name)) (levelOf T b)) (stateOf T b e w p) (ap (countsFit (b .plain)) (sym counts-narrowed) ∙ h)
 
   -- what does not fit stops the level, whatever it was to become
-  pub stops : (l′ : Level) (r : SeekBuilder) → l′ .plain ≡ b .plain → l′ .counts ≡ narrowed (countsOf (b .counts)) → r ≡ overrun b → fitting (b .plain) (sumsOf s) ≡ false → stateOf T r e w p ≡ grow l′ 0 [] (stateOf T b e w p)
+  pub stops : (l′ : Level) (r : SeekBuilder) → l′ .plain ≡ b .plain → l′ .counts ≡ narrowed (countsOf (b .counts)) → r ≡ overrun b → countsFit (b .plain) (sumsOf s) ≡ false → stateOf T r e w p ≡ grow l′ 0 [] (stateOf T b e w p)
   stops l′ r ep ec er h =
-      ap (λ x. stateOf T x e w p) er ∙ overruns b T e w p ∙ sym (grow-no l′ 0 [] (stateOf T b e w p) (ap (λ t. fitting t (l′ .counts)) ep ∙ ap (fitting (b .plain)) (ec ∙ sym counts-narrowed) ∙ h))
+      ap (λ x. stateOf T x e w p) er ∙ overruns b T e w p ∙ sym (grow-no l′ 0 [] (stateOf T b e w p) (ap (λ t. countsFit t (l′ .counts)) ep ∙ ap (countsFit (b .plain)) (ec ∙ sym counts-narrowed) ∙ h))

@@ -9,7 +9,7 @@ use lib.ListN.{length, drop, drop-of-length-le}
 use lib.Seq.{drop-cons}
 use Rattle.rules.specs.Base.{both, _>>=_}
 use Rattle.rules.specs.File.{Tables, CompareOp, Comparison}
-use Rattle.rules.specs.Constant as Rules
+use Rattle.rules.specs.Constant as ConstantRules
 use Rattle.rules.specs.Constant.{bytesOnly}
 use Rattle.rules.specs.Checks.{isNode, comparisonIn}
 use Rattle.rules.specs.Placement.{Edges, Compared, Sided, isVar, flipped, compared, sided, takeEdge, foldFrom}
@@ -19,9 +19,9 @@ use Rattle.state.specs.State.{Ends, State, state}
 use Rattle.state.specs.Ops.{relevel, withEdges, boundLevel, bound}
 use Rattle.file.specs.Tables.{tablesOf}
 use Rattle.views.specs.Views.{comparisonAt}
-use Rattle.ready.specs.Ready.{Ready}
-use Rattle.ready.proofs.Ranges.{numbers-in}
-use Rattle.ready.proofs.Given.{passed}
+use Rattle.accepted_file.specs.AcceptedFile.{AcceptedFile}
+use Rattle.accepted_file.proofs.Ranges.{numbers-in}
+use Rattle.accepted_file.proofs.Given.{passed}
 use Rattle.seek.specs.Seek.{constantBytes, levelOf, stateOf}
 use Rattle.seek.specs.declared.SeekBuilder.{SeekBuilder}
 use Rattle.seek.proofs.Grows.{pick-true, pick-false}
@@ -45,7 +45,7 @@ edges-stay f s e = ap (λ x. state (s .over) (s .ends) (withEdges x (s .level)) 
 
 -- one edge, by whether the constant is bytes
 module _ (T : Tables) (i : ℕ) (op : CompareOp) (n t : ℕ) (e : Edges) where
-  pub edge-none : (Rules.constant T n t >>= bytesOnly) ≡ none → edgeBy T i op n t e ≡ e
+  pub edge-none : (ConstantRules.constant T n t >>= bytesOnly) ≡ none → edgeBy T i op n t e ≡ e
   unfolding edgeBy
   edge-none h = ap (λ o. elim o [ none ↦ e | some value ↦ takeEdge i op value e ]) h
 
@@ -58,19 +58,19 @@ module _ (T : Tables) (x t i : ℕ) (c : Comparison) (e : Edges) where
   abbrev taken : Option Sided → Edges
   taken o = elim o [ none ↦ e | some s ↦ takeEdge i (s .op) (s .value) e ]
 
-  one-side : (op : CompareOp) (n : ℕ) (o : Option Rules.Const) → Rules.constant T n t ≡ o
+  one-side : (op : CompareOp) (n : ℕ) (o : Option ConstantRules.Const) → ConstantRules.constant T n t ≡ o
       → taken (o >>= λ k. bytesOnly k >>= λ value. some (record { op = op; value = value })) ≡ (elim (o >>= bytesOnly) [ none ↦ e | some value ↦ takeEdge i op value e ])
   unfolding _>>=_ bytesOnly
   one-side op n none h = refl
-  one-side op n (some (Rules.Const.Bytes bs)) h = refl
-  one-side op n (some (Rules.Const.Prefix bs)) h = refl
-  one-side op n (some (Rules.Const.Fuzzy y d a)) h = refl
+  one-side op n (some (ConstantRules.Const.Bytes bs)) h = refl
+  one-side op n (some (ConstantRules.Const.Prefix bs)) h = refl
+  one-side op n (some (ConstantRules.Const.Fuzzy y d a)) h = refl
 
   told : (op : CompareOp) (n : ℕ) → compared T x c ≡ some (record { op = op; node = n }) → edgeBy T i op n t e ≡ foldOne T x t i c e
   unfolding edgeBy foldOne sided _>>=_
   told op n h =
-      sym (ap (λ (o : Option Compared). taken (o >>= λ other. Rules.constant T (other .node) t >>= λ k. bytesOnly k >>= λ value. some (record { op = other .op; value = value }))) h
-      ∙ one-side op n (Rules.constant T n t) refl)
+      sym (ap (λ (o : Option Compared). taken (o >>= λ other. ConstantRules.constant T (other .node) t >>= λ k. bytesOnly k >>= λ value. some (record { op = other .op; value = value }))) h
+      ∙ one-side op n (ConstantRules.constant T n t) refl)
 
   pub fold-left : isVar T x (c .left) ≡ true → edgeBy T i (c .op) (c .right) t e ≡ foldOne T x t i c e
   unfolding compared
@@ -83,11 +83,11 @@ module _ (T : Tables) (x t i : ℕ) (c : Comparison) (e : Edges) where
   pub fold-none : isVar T x (c .left) ≡ false → isVar T x (c .right) ≡ false → foldOne T x t i c e ≡ e
   unfolding foldOne sided compared _>>=_
   fold-none h g =
-      ap (λ (o : Option Compared). taken (o >>= λ other. Rules.constant T (other .node) t >>= λ k. bytesOnly k >>= λ value. some (record { op = other .op; value = value })))
+      ap (λ (o : Option Compared). taken (o >>= λ other. ConstantRules.constant T (other .node) t >>= λ k. bytesOnly k >>= λ value. some (record { op = other .op; value = value })))
       (pick-false (isVar T x (c .left)) _ _ h ∙ pick-false (isVar T x (c .right)) _ _ g)
 
 -- both sides are nodes
-module _ (f ix : List ℕ) (r : Ready f ix) (k : ℕ) (h : k < length (tablesOf f .comparisons)) where
+module _ (f ix : List ℕ) (r : AcceptedFile f ix) (k : ℕ) (h : k < length (tablesOf f .comparisons)) where
   compares : comparisonIn (tablesOf f) (comparisonAt (tablesOf f) k) ≡ true
   unfolding comparisonAt
   compares = each-at (numbers-in (tablesOf f) (passed f ix r) .comparisons) k _ h

@@ -9,8 +9,8 @@ use Rattle.rules.proofs.Cases.{true≢false}
 use Rattle.state.specs.State as Kept
 use Rattle.state.specs.State.{Ends, Level, State, state, stop, unless, fits}
 use Rattle.state.specs.Ops.{grow, narrowed, closed}
-use Rattle.records.specs.Records.{put, written}
-use Rattle.seek.specs.Seek.{sumsOf, counted, countsOf, guideOf, rangeOf, edgesOf, levelOf, stateOf, fitting, overrun, recounted, grownBy}
+use Rattle.records.specs.Records.{put, writtenAt}
+use Rattle.seek.specs.Seek.{sumsOf, counted, countsOf, guideOf, rangeOf, edgesOf, levelOf, stateOf, countsFit, overrun, recounted, grownBy}
 use Rattle.seek.specs.declared.Counts.{Counts}
 use Rattle.seek.specs.declared.Sums.{Sums}
 use Rattle.seek.specs.declared.SeekBuilder.{SeekBuilder}
@@ -33,8 +33,8 @@ unfolding unless
 unless-not f s e = sym (pick-false (s .over) s (f s) e)
 
 -- Equal sizes, or both too long for a plan: a constant's length is known up to a cap alone.
-abbrev pub Alike : ℕ → ℕ → Type 0
-Alike m n = min 16385 m ≡ min 16385 n
+abbrev pub SameUpToLimit : ℕ → ℕ → Type 0
+SameUpToLimit m n = min 16385 m ≡ min 16385 n
 
 -- the level with other counts
 unfoldable pub resummed : Bool → Sums → Level → Level
@@ -47,12 +47,12 @@ counting true c = closed c
 counting false c = narrowed c
 
 module _ (l : Level) (at : ℕ) (bytes : List ℕ) (s : State) where
-  pub grow-yes : fitting (l .plain) (l .counts) ≡ true
+  pub grow-yes : countsFit (l .plain) (l .counts) ≡ true
       → grow l at bytes s ≡ state (s .over) (s .ends) l (s .target) (s .work) (elim (s .target .writing) [ true ↦ sets (s .plan) at bytes | false ↦ s .plan ])
   unfolding grow
   grow-yes e = pick-true (fits l) _ _ (fits-counts l ∙ e)
 
-  pub grow-no : fitting (l .plain) (l .counts) ≡ false → grow l at bytes s ≡ stop s
+  pub grow-no : countsFit (l .plain) (l .counts) ≡ false → grow l at bytes s ≡ stop s
   unfolding grow
   grow-no e = pick-false (fits l) _ _ (fits-counts l ∙ e)
 
@@ -67,27 +67,27 @@ module _ (b : SeekBuilder) (plain : Bool) (s : Sums) (at : ℕ) where
   abbrev no : Placed
   no = record { level = overrun b; place = record { write = false; joined = b .target .joining; at = at } }
 
-  grown-yes : fitting plain (sumsOf s) ≡ true → grownBy plain s at b ≡ yes
+  grown-yes : countsFit plain (sumsOf s) ≡ true → grownBy plain s at b ≡ yes
   unfolding grownBy
-  grown-yes h = pick-true (fitting plain (sumsOf s)) yes no h
+  grown-yes h = pick-true (countsFit plain (sumsOf s)) yes no h
 
-  grown-no : fitting plain (sumsOf s) ≡ false → grownBy plain s at b ≡ no
+  grown-no : countsFit plain (sumsOf s) ≡ false → grownBy plain s at b ≡ no
   unfolding grownBy
-  grown-no h = pick-false (fitting plain (sumsOf s)) yes no h
+  grown-no h = pick-false (countsFit plain (sumsOf s)) yes no h
 
-  pub grown-fit : (k : Counts) → k ≡ counted s → fitting plain (sumsOf s) ≡ true
+  pub grown-fit : (k : Counts) → k ≡ counted s → countsFit plain (sumsOf s) ≡ true
       → record { level = recounted plain k b; place = record { write = b .target .writing; joined = b .target .joining; at = at } } ≡ grownBy plain s at b
   grown-fit k e h = ap (λ (x : Counts). record { level = recounted plain x b; place = yes .place }) e ∙ sym (grown-yes h)
 
-  pub grown-over : (l : SeekBuilder) → l ≡ overrun b → fitting plain (sumsOf s) ≡ false
+  pub grown-over : (l : SeekBuilder) → l ≡ overrun b → countsFit plain (sumsOf s) ≡ false
       → record { level = l; place = record { write = false; joined = b .target .joining; at = at } } ≡ grownBy plain s at b
   grown-over l e h = ap (λ (x : SeekBuilder). record { level = x; place = no .place }) e ∙ sym (grown-no h)
 
   -- what follows where it fits and where it does not
-  grown-by : (P : Placed → Type 0) → (fitting plain (sumsOf s) ≡ true → P yes) → (fitting plain (sumsOf s) ≡ false → P no) → P (grownBy plain s at b)
-  grown-by P f g = go (fitting plain (sumsOf s)) refl
+  grown-by : (P : Placed → Type 0) → (countsFit plain (sumsOf s) ≡ true → P yes) → (countsFit plain (sumsOf s) ≡ false → P no) → P (grownBy plain s at b)
+  grown-by P f g = go (countsFit plain (sumsOf s)) refl
     where
-      go : (t : Bool) → fitting plain (sumsOf s) ≡ t → P (grownBy plain s at b)
+      go : (t : Bool) → countsFit plain (sumsOf s) ≡ t → P (grownBy plain s at b)
       go true h = transport (ap P (sym (grown-yes h))) (f h)
       go false h = transport (ap P (sym (grown-no h))) (g h)
 
@@ -97,18 +97,18 @@ module _ (b : SeekBuilder) (plain : Bool) (s : Sums) (at : ℕ) where
   pub grown-at : grownBy plain s at b .place .at ≡ at
   grown-at = grown-by (λ x. x .place .at ≡ at) (λ h. refl) (λ h. refl)
 
-  -- what is written fits
-  pub grown-fits : grownBy plain s at b .place .write ≡ true → fitting plain (sumsOf s) ≡ true
-  grown-fits = grown-by (λ x. x .place .write ≡ true → fitting plain (sumsOf s) ≡ true) (λ h w. h) (λ h w. absurd (true≢false (sym w)))
+  -- what is writtenAt fits
+  pub grown-fits : grownBy plain s at b .place .write ≡ true → countsFit plain (sumsOf s) ≡ true
+  grown-fits = grown-by (λ x. x .place .write ≡ true → countsFit plain (sumsOf s) ≡ true) (λ h w. h) (λ h w. absurd (true≢false (sym w)))
 
   module _ (T : Tables) (e : Ends) (w p bytes : List ℕ) where
-    grows-yes : fitting plain (sumsOf s) ≡ true → stateOf T (yes .level) e w (written (yes .place) bytes p) ≡ grow (resummed plain s (levelOf T b)) at bytes (stateOf T b e w p)
-    unfolding recounted stateOf levelOf countsOf guideOf rangeOf edgesOf resummed written put
+    grows-yes : countsFit plain (sumsOf s) ≡ true → stateOf T (yes .level) e w (writtenAt (yes .place) bytes p) ≡ grow (resummed plain s (levelOf T b)) at bytes (stateOf T b e w p)
+    unfolding recounted stateOf levelOf countsOf guideOf rangeOf edgesOf resummed writtenAt put
     grows-yes h = sym (grow-yes (resummed plain s (levelOf T b)) at bytes (stateOf T b e w p) h)
 
-    grows-no : fitting plain (sumsOf s) ≡ false → stateOf T (no .level) e w (written (no .place) bytes p) ≡ grow (resummed plain s (levelOf T b)) at bytes (stateOf T b e w p)
-    unfolding resummed written
+    grows-no : countsFit plain (sumsOf s) ≡ false → stateOf T (no .level) e w (writtenAt (no .place) bytes p) ≡ grow (resummed plain s (levelOf T b)) at bytes (stateOf T b e w p)
+    unfolding resummed writtenAt
     grows-no h = overruns b T e w p ∙ sym (grow-no (resummed plain s (levelOf T b)) at bytes (stateOf T b e w p) h)
 
-    pub grown-is : stateOf T (grownBy plain s at b .level) e w (written (grownBy plain s at b .place) bytes p) ≡ grow (resummed plain s (levelOf T b)) at bytes (stateOf T b e w p)
-    grown-is = grown-by (λ x. stateOf T (x .level) e w (written (x .place) bytes p) ≡ grow (resummed plain s (levelOf T b)) at bytes (stateOf T b e w p)) grows-yes grows-no
+    pub grown-is : stateOf T (grownBy plain s at b .level) e w (writtenAt (grownBy plain s at b .place) bytes p) ≡ grow (resummed plain s (levelOf T b)) at bytes (stateOf T b e w p)
+    grown-is = grown-by (λ x. stateOf T (x .level) e w (writtenAt (x .place) bytes p) ≡ grow (resummed plain s (levelOf T b)) at bytes (stateOf T b e w p)) grows-yes grows-no

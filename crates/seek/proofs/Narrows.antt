@@ -13,12 +13,12 @@ use Rattle.rules.specs.Placement.{SeekKeyPart}
 use Rattle.rules.specs.Plan as Plan
 use Rattle.state.specs.State.{Ends, State, unless}
 use Rattle.state.specs.Ops.{grow, narrowed, closed, putPart, putResidual, narrowPart, withRange, narrowPrefix, attachable, withGuide, narrowFuzzy, narrowing, narrow, close, closer}
-use Rattle.records.specs.Records.{written, behind}
+use Rattle.records.specs.Records.{writtenAt, behind}
 use Rattle.records.specs.declared.Place.{Place}
 use Rattle.records.proofs.Places.{follows, text-written, behind-writes}
 use Rattle.seek.specs.Seek.{countsOf, levelOf, stateOf}
 use Rattle.seek.specs.declared.SeekBuilder.{SeekBuilder}
-use Rattle.seek.proofs.Grows.{pick-true, pick-false, unless-over, unless-not, Alike}
+use Rattle.seek.proofs.Grows.{pick-true, pick-false, unless-over, unless-not, SameUpToLimit}
 
 module _ (b : SeekBuilder) (T : Tables) (e : Ends) (w p : List ℕ) where
   pub stays : (f : State → State) → b .over ≡ true → stateOf T b e w p ≡ unless f (stateOf T b e w p)
@@ -48,17 +48,17 @@ unfolding Plan.residual
 residual-size path op m n e f = length-append (Plan.path path) (Plan.op op) ∙ (let g : length (Plan.path path) + length (Plan.op op) ≡ m + n = omega arith in g)
 
 pub residual-put : (path : FieldPath) (op : Narrowing) (place at : Place) (p0 p1 q : List ℕ)
-    → p1 ≡ written place (Plan.path path) p0 → at ≡ behind (length (Plan.path path)) place → q ≡ written at (Plan.op op) p1 → q ≡ written place (Plan.residual (record { path = path; op = op })) p0
+    → p1 ≡ writtenAt place (Plan.path path) p0 → at ≡ behind (length (Plan.path path)) place → q ≡ writtenAt at (Plan.op op) p1 → q ≡ writtenAt place (Plan.residual (record { path = path; op = op })) p0
 unfolding Plan.residual
 residual-put path op place at p0 p1 q e1 ea e2 = follows place at (Plan.path path) (Plan.op op) p0 p1 q e1 ea e2
 
 -- the op is a kind and a text
 pub residual-text : (path : FieldPath) (op : Narrowing) (kind len : ℕ) (bytes : List ℕ) (place at₁ at₂ : Place) (p0 p1 p2 q : List ℕ) → Plan.op op ≡ kind ∷ Plan.text bytes
-    → p1 ≡ written place (Plan.path path) p0 → at₁ ≡ behind (length (Plan.path path)) place → p2 ≡ written at₁ (kind ∷ Plan.u16 len) p1 → at₂ ≡ behind 3 at₁ → q ≡ written at₂ bytes p2
-    → (place .write ≡ true → length bytes ≡ len) → q ≡ written place (Plan.residual (record { path = path; op = op })) p0
+    → p1 ≡ writtenAt place (Plan.path path) p0 → at₁ ≡ behind (length (Plan.path path)) place → p2 ≡ writtenAt at₁ (kind ∷ Plan.u16 len) p1 → at₂ ≡ behind 3 at₁ → q ≡ writtenAt at₂ bytes p2
+    → (place .write ≡ true → length bytes ≡ len) → q ≡ writtenAt place (Plan.residual (record { path = path; op = op })) p0
 residual-text path op kind len bytes place at₁ at₂ p0 p1 p2 q eo e1 a1 e2 a2 e3 l =
     residual-put path op place at₁ p0 p1 q e1 a1
-    (text-written at₁ at₂ kind len bytes p1 p2 q e2 a2 e3 (λ on. l (sym (behind-writes place at₁ _ a1) ∙ on)) ∙ ap (λ (x : List ℕ). written at₁ x p1) (sym eo))
+    (text-written at₁ at₂ kind len bytes p1 p2 q e2 a2 e3 (λ on. l (sym (behind-writes place at₁ _ a1) ∙ on)) ∙ ap (λ (x : List ℕ). writtenAt at₁ x p1) (sym eo))
 
 pub register-size : (a : ℕ) (at : FieldPath) (n : ℕ) → n ≡ length (Plan.path at) → length (Plan.part (SeekKeyPart.RegisterField a at)) ≡ 0 + (3 + n)
 unfolding Plan.part Plan.u16
@@ -72,12 +72,12 @@ pub text-size : (bytes : List ℕ) → length (Plan.part (SeekKeyPart.Bytes byte
 unfolding Plan.part Plan.text Plan.u16
 text-size bytes = omega arith
 
--- a text's length counts only where it is written
-pub exact : (m n : ℕ) → Alike m n → n ≤ 16384 → m ≡ n
+-- a text's length counts only where it is writtenAt
+pub exact : (m n : ℕ) → SameUpToLimit m n → n ≤ 16384 → m ≡ n
 exact m n e h = omega arith
 
-pub text-residual : (path : FieldPath) (op : Narrowing) (bytes : List ℕ) (kind len m : ℕ) → Plan.op op ≡ kind ∷ Plan.text bytes → m ≡ length (Plan.path path) → Alike (length bytes) len
-    → Alike (length (Plan.residual (record { path = path; op = op }))) (m + 3 + len)
+pub text-residual : (path : FieldPath) (op : Narrowing) (bytes : List ℕ) (kind len m : ℕ) → Plan.op op ≡ kind ∷ Plan.text bytes → m ≡ length (Plan.path path) → SameUpToLimit (length bytes) len
+    → SameUpToLimit (length (Plan.residual (record { path = path; op = op }))) (m + 3 + len)
 unfolding Plan.residual Plan.text Plan.u16
 text-residual path op bytes kind len m eo em e =
     let g : length (Plan.op op) ≡ 3 + length bytes = ap length eo ∙ (let f : length (kind ∷ Plan.text bytes) ≡ 3 + length bytes = omega arith in f) in

@@ -1,4 +1,4 @@
--- One part or one residual more, and where it is written.
+-- One part or one residual more, and where it is writtenAt.
 use mathlib.Core.Path.{_≡_, refl, sym, ap, _∙_}
 use mathlib.Core.Bool.{Bool, true, false}
 use mathlib.Core.List.{List}
@@ -16,14 +16,14 @@ use Rattle.rules.specs.Plan as Plan
 use Rattle.state.specs.State as Kept
 use Rattle.state.specs.State.{Ends, Level, State, counts}
 use Rattle.state.specs.Ops.{grow, narrowed, closed, recount, isBytes, partText, withPart, partAt, partForm, putPart, putResidual}
-use Rattle.records.specs.Records.{written, formOf}
-use Rattle.seek.specs.Seek.{partsSize, fitting, sumsOf, summed, countsOf, levelOf, stateOf, partSums, restSums, grownBy, partPlace, restPlace, partBy, residualBy}
+use Rattle.records.specs.Records.{writtenAt, formOf}
+use Rattle.seek.specs.Seek.{partsSize, countsFit, sumsOf, summed, countsOf, levelOf, stateOf, partSums, restSums, grownBy, partPlace, restPlace, partBy, residualBy}
 use Rattle.seek.specs.declared.Counts.{Counts}
 use Rattle.seek.specs.declared.Sums.{Sums}
 use Rattle.seek.specs.declared.SeekBuilder.{SeekBuilder}
 use Rattle.seek.specs.declared.Placed.{Placed}
 use Rattle.seek.proofs.Fits.{too-long}
-use Rattle.seek.proofs.Grows.{pick-true, pick-false, grow-no, grown-joined, grown-at, grown-fits, grown-is, Alike, resummed, counting}
+use Rattle.seek.proofs.Grows.{pick-true, pick-false, grow-no, grown-joined, grown-at, grown-fits, grown-is, SameUpToLimit, resummed, counting}
 
 pub sums-same : (c : Counts) (n l o r j f x : ℕ) → n ≡ c .narrowings → l ≡ c .closers → o ≡ c .others → r ≡ c .residuals → j ≡ c .joined → f ≡ c .framed → x ≡ c .rest
     → record { narrowings = n; closers = l; others = o; residuals = r; joined = j; framed = f; rest = x } ≡ summed c
@@ -39,7 +39,7 @@ pub sums-other : (closer : Bool) (text frame : ℕ) (s : Sums) → closer ≡ fa
 unfolding partSums
 sums-other closer text frame s e = ap (λ t. partSums t text frame s) (sym e)
 
--- the counts of the written state
+-- the counts of the writtenAt state
 more-counts : (closer : Bool) (c : Counts) (text frame : ℕ) (k : Kept.Counts) → k ≡ counting closer (countsOf c)
     → sumsOf (partSums closer text frame (summed c)) ≡ counts (k .narrowings) (k .closers) (k .parts + 1) (k .residuals) (k .joined + text) (k .parted + (text + frame)) (k .rest)
 unfolding sumsOf partSums countsOf narrowed closed
@@ -77,7 +77,7 @@ under n f = go (leb n 16384) refl
     go false h = absurd (f (leb-false n 16384 h))
 
 -- what is longer than a plan does not fit one
-big-part : (plain closer : Bool) (n frame : ℕ) (s : Sums) → 16384 < n → false ≡ fitting plain (sumsOf (partSums closer n frame s))
+big-part : (plain closer : Bool) (n frame : ℕ) (s : Sums) → 16384 < n → false ≡ countsFit plain (sumsOf (partSums closer n frame s))
 unfolding partSums partsSize
 big-part plain closer n frame s h = too-long plain (partSums closer n frame s) _ refl (long plain closer)
   where
@@ -87,20 +87,20 @@ big-part plain closer n frame s h = too-long plain (partSums closer n frame s) _
     long false true = omega arith
     long false false = omega arith
 
-big-residual : (plain : Bool) (n : ℕ) (s : Sums) → 16384 < n → false ≡ fitting plain (sumsOf (restSums n s))
+big-residual : (plain : Bool) (n : ℕ) (s : Sums) → 16384 < n → false ≡ countsFit plain (sumsOf (restSums n s))
 unfolding restSums
 big-residual plain n s h = too-long plain (restSums n s) _ refl (omega arith)
 
 module _ (plain : Bool) (s : Sums) where
-  part-fits : (closer : Bool) (n frame : ℕ) (s0 : Sums) → s ≡ partSums closer n frame s0 → fitting plain (sumsOf s) ≡ true → n ≤ 16384
+  part-fits : (closer : Bool) (n frame : ℕ) (s0 : Sums) → s ≡ partSums closer n frame s0 → countsFit plain (sumsOf s) ≡ true → n ≤ 16384
   part-fits closer n frame s0 e h =
-      under n (λ g. true≢false (sym h ∙ ap (λ x. fitting plain (sumsOf x)) e ∙ sym (big-part plain closer n frame s0 g)))
+      under n (λ g. true≢false (sym h ∙ ap (λ x. countsFit plain (sumsOf x)) e ∙ sym (big-part plain closer n frame s0 g)))
 
-  residual-fits : (n : ℕ) (s0 : Sums) → s ≡ restSums n s0 → fitting plain (sumsOf s) ≡ true → n ≤ 16384
-  residual-fits n s0 e h = under n (λ g. true≢false (sym h ∙ ap (λ x. fitting plain (sumsOf x)) e ∙ sym (big-residual plain n s0 g)))
+  residual-fits : (n : ℕ) (s0 : Sums) → s ≡ restSums n s0 → countsFit plain (sumsOf s) ≡ true → n ≤ 16384
+  residual-fits n s0 e h = under n (λ g. true≢false (sym h ∙ ap (λ x. countsFit plain (sumsOf x)) e ∙ sym (big-residual plain n s0 g)))
 
 -- a level by a size: where two sizes are alike it grows alike
-alike-grow : (l : ℕ → Level) (at : ℕ) (bytes : List ℕ) (s : State) (m n : ℕ) → ((k : ℕ) → 16384 < k → fitting (l k .plain) (l k .counts) ≡ false) → Alike m n → grow (l m) at bytes s ≡ grow (l n) at bytes s
+alike-grow : (l : ℕ → Level) (at : ℕ) (bytes : List ℕ) (s : State) (m n : ℕ) → ((k : ℕ) → 16384 < k → countsFit (l k .plain) (l k .counts) ≡ false) → SameUpToLimit m n → grow (l m) at bytes s ≡ grow (l n) at bytes s
 alike-grow l at bytes s m n big e = go (leb m 16384) refl
   where
     go : (t : Bool) → leb m 16384 ≡ t → grow (l m) at bytes s ≡ grow (l n) at bytes s
@@ -146,7 +146,7 @@ module _ (b : SeekBuilder) where
   pub grown-place : (plain : Bool) (s : Sums) (at : ℕ) (r : Placed) → r ≡ grownBy plain s at b → r .place .at ≡ at
   grown-place plain s at r e = ap (λ (x : Placed). x .place .at) e ∙ grown-at b plain s at
 
-  -- what is written is no longer than a plan
+  -- what is writtenAt is no longer than a plan
   pub part-room : (closer bytes : Bool) (text frame : ℕ) (r : Placed) → r ≡ partBy closer bytes text frame b → r .place .write ≡ true → text ≤ 16384
   unfolding partBy
   part-room closer bytes text frame r e on =
@@ -164,7 +164,7 @@ module _ (b : SeekBuilder) where
     unfolding partPlace partAt stateOf levelOf countsOf sumsOf
     part-at = refl
 
-    part-state : (closer bytes : Bool) (text frame : ℕ) (part : SeekKeyPart) → isBytes part ≡ bytes → Alike (length (partText part)) text → length (Plan.part part) ≡ length (partText part) + frame
+    part-state : (closer bytes : Bool) (text frame : ℕ) (part : SeekKeyPart) → isBytes part ≡ bytes → SameUpToLimit (length (partText part)) text → length (Plan.part part) ≡ length (partText part) + frame
         → grow (resummed (both (b .plain) bytes) (partSums closer text frame (summed (b .counts))) (levelOf T b)) (partPlace b) (formOf (b .target .joining) part) (stateOf T b e w p)
         ≡ putPart part (counting closer (countsOf (b .counts))) (stateOf T b e w p)
     unfolding putPart stateOf levelOf partForm formOf resummed
@@ -178,10 +178,10 @@ module _ (b : SeekBuilder) where
         ∙ ap (λ (i : ℕ). grow (resummed plain (partSums closer n frame c) (levelOf T b)) i form st) part-at
         ∙ ap (λ l. grow l (partAt st) (partForm st part) st) (more-level closer bytes (b .counts) n frame part (levelOf T b) eb refl ef)
 
-    -- a level with one part more, and the part written, is the compiler's
+    -- a level with one part more, and the part writtenAt, is the compiler's
     pub part-is : (closer bytes : Bool) (text frame : ℕ) (part : SeekKeyPart) (r : Placed) (q : List ℕ) → r ≡ partBy closer bytes text frame b
-        → isBytes part ≡ bytes → Alike (length (partText part)) text → length (Plan.part part) ≡ length (partText part) + frame
-        → q ≡ written (r .place) (formOf (r .place .joined) part) p
+        → isBytes part ≡ bytes → SameUpToLimit (length (partText part)) text → length (Plan.part part) ≡ length (partText part) + frame
+        → q ≡ writtenAt (r .place) (formOf (r .place .joined) part) p
         → stateOf T (r .level) e w q ≡ putPart part (counting closer (countsOf (b .counts))) (stateOf T b e w p)
     unfolding partBy
     part-is closer bytes text frame part r q er eb et ef eq =
@@ -189,12 +189,12 @@ module _ (b : SeekBuilder) where
         let s : Sums = partSums closer text frame (summed (b .counts)) in
         let g : Placed = grownBy plain s (partPlace b) b in
         ap (stateOf T (r .level) e w) eq
-        ∙ ap (λ (x : Placed). stateOf T (x .level) e w (written (x .place) (formOf (x .place .joined) part) p)) er
-        ∙ ap (λ t. stateOf T (g .level) e w (written (g .place) (formOf t part) p)) (grown-joined b plain s (partPlace b))
+        ∙ ap (λ (x : Placed). stateOf T (x .level) e w (writtenAt (x .place) (formOf (x .place .joined) part) p)) er
+        ∙ ap (λ t. stateOf T (g .level) e w (writtenAt (g .place) (formOf t part) p)) (grown-joined b plain s (partPlace b))
         ∙ grown-is b plain s (partPlace b) T e w p (formOf (b .target .joining) part)
         ∙ part-state closer bytes text frame part eb et ef
 
-    residual-state : (size : ℕ) (path : FieldPath) (op : Narrowing) → Alike (length (Plan.residual (record { path = path; op = op }))) size
+    residual-state : (size : ℕ) (path : FieldPath) (op : Narrowing) → SameUpToLimit (length (Plan.residual (record { path = path; op = op }))) size
         → grow (resummed (b .plain) (restSums size (summed (b .counts))) (levelOf T b)) (restPlace b) (Plan.residual (record { path = path; op = op })) (stateOf T b e w p)
         ≡ putResidual path op (stateOf T b e w p)
     unfolding putResidual restPlace stateOf levelOf recount resummed restSums countsOf sumsOf
@@ -205,13 +205,13 @@ module _ (b : SeekBuilder) where
         alike-grow (λ k. resummed (b .plain) (restSums k c) (levelOf T b)) (restPlace b) form st size (length form) (λ k g. sym (big-residual (b .plain) k c g)) (sym el)
 
     pub residual-is : (size : ℕ) (path : FieldPath) (op : Narrowing) (r : Placed) (q : List ℕ) → r ≡ residualBy size b
-        → Alike (length (Plan.residual (record { path = path; op = op }))) size → q ≡ written (r .place) (Plan.residual (record { path = path; op = op })) p
+        → SameUpToLimit (length (Plan.residual (record { path = path; op = op }))) size → q ≡ writtenAt (r .place) (Plan.residual (record { path = path; op = op })) p
         → stateOf T (r .level) e w q ≡ putResidual path op (stateOf T b e w p)
     unfolding residualBy
     residual-is size path op r q er el eq =
         let s : Sums = restSums size (summed (b .counts)) in
         let form : List ℕ = Plan.residual (record { path = path; op = op }) in
         ap (stateOf T (r .level) e w) eq
-        ∙ ap (λ (x : Placed). stateOf T (x .level) e w (written (x .place) form p)) er
+        ∙ ap (λ (x : Placed). stateOf T (x .level) e w (writtenAt (x .place) form p)) er
         ∙ grown-is b (b .plain) s (restPlace b) T e w p form
         ∙ residual-state size path op el

@@ -5,7 +5,7 @@ use mathlib.Core.Option.{Option, none, some}
 use lib.ListN.{length}
 use Rattle.rules.specs.File as File
 use Rattle.rules.specs.File.{Tables, nameAt}
-use Rattle.rules.specs.Constant as Rules
+use Rattle.rules.specs.Constant as ConstantRules
 use Rattle.rules.specs.Constant.{encodePrefix}
 use Rattle.rules.specs.Walk as Walk
 use Rattle.state.specs.State.{State}
@@ -16,14 +16,14 @@ use Rattle.constant.specs.declared.Const.{Const}
 use Rattle.constant.specs.declared.Const.the-variants as Co
 
 -- the rules' constant for the code's
-unfoldable pub constOf : Tables → Const → Option Rules.Const
+unfoldable pub constOf : Tables → Const → Option ConstantRules.Const
 constOf T Co.Nothing = none
-constOf T (Co.Bytes n t len) = Rules.constant T n t
-constOf T (Co.Prefix x) = some (Rules.Const.Prefix (encodePrefix (nameAt T x)))
-constOf T (Co.Fuzzy x d a) = some (Rules.Const.Fuzzy x d (anchorOf a))
+constOf T (Co.Bytes n t len) = ConstantRules.constant T n t
+constOf T (Co.Prefix x) = some (ConstantRules.Const.Prefix (encodePrefix (nameAt T x)))
+constOf T (Co.Fuzzy x d a) = some (ConstantRules.Const.Fuzzy x d (anchorOf a))
 
 -- Rust `narrow_by`; without a constant nothing changes
-unfoldable pub narrowedBy : Tables → Option Rules.Const → File.FieldPath → State → State
+unfoldable pub narrowedBy : Tables → Option ConstantRules.Const → File.FieldPath → State → State
 narrowedBy T o path s = elim o [ some c ↦ Walk.narrowBy (ops T) T c path s | none ↦ s ]
 
 -- what `constant` gives for some node and type of the file

@@ -128,8 +128,8 @@ unfoldable pub partsSize : Bool → Sums → ℕ
 partsSize plain c = elim plain [ true ↦ c .joined | false ↦ c .joined + c .framed ]
 
 -- whether a level with these counts fits a plan
-unfoldable pub fitting : Bool → Kept.Counts → Bool
-fitting plain c =
+unfoldable pub countsFit : Bool → Kept.Counts → Bool
+countsFit plain c =
     let edges : Edges = record { lo = none; hi = none; folded = [] } in
     fits (record { building = true; plain = plain; counts = c; guide = none; range = none; edges = edges })
 
@@ -247,7 +247,7 @@ recounted plain c b =
 unfoldable pub grownBy : Bool → Sums → ℕ → SeekBuilder → Placed
 grownBy plain s at b =
     let t = b .target in
-    elim (fitting plain (sumsOf s)) [
+    elim (countsFit plain (sumsOf s)) [
       | true ↦ record { level = recounted plain (counted s) b; place = record { write = t .writing; joined = t .joining; at = at } }
       | false ↦ record { level = overrun b; place = record { write = false; joined = t .joining; at = at } }
     ]

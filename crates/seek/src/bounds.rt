@@ -9,7 +9,7 @@ ghost use Rattle.state.specs.State.{Ends};
 ghost use Rattle.state.specs.Ops as Ops;
 ghost use Rattle.file.specs.Tables.{tablesOf};
 ghost use Rattle.views.specs.Views.{opOf, comparisonAt};
-ghost use Rattle.ready.specs.Ready.{Ready};
+ghost use Rattle.accepted_file.specs.AcceptedFile.{AcceptedFile};
 ghost use Rattle.seek.specs.Bounds.{edgeBy, foldOne};
 ghost use Rattle.seek.specs.Seek.{foldedThen, constantBytes, stateOf};
 use crate::Edge;
@@ -25,7 +25,7 @@ use views::count_of;
 
 // Whether a node is the variable of that name.
 fn is_var(file: &[u8], index: &[u16], node: usize, name: usize) -> bool
-    requires { ⌜ Ready (now file) (now index) ⌝ }
+    requires { ⌜ AcceptedFile (now file) (now index) ⌝ }
     requires { ⌜ node < length (tablesOf (now file) .nodes) ⌝ }
     ensures { λ r. ⌜ r ≡ isVar (tablesOf (now (file .entry))) name node ⌝ }
 {
@@ -145,7 +145,7 @@ impl SeekBuilder {
         node: usize,
         ty: usize,
     ) -> SeekBuilder
-        requires { ⌜ Ready (now file) (now index) ⌝ }
+        requires { ⌜ AcceptedFile (now file) (now index) ⌝ }
         requires { ⌜ k < length (tablesOf (now file) .comparisons) ⌝ }
         requires { ⌜ node < length (tablesOf (now file) .nodes) ⌝ }
         requires { ⌜ ty < length (tablesOf (now file) .types) ⌝ }
@@ -166,7 +166,7 @@ impl SeekBuilder {
 
     // Comparison k, read from the variable's side.
     fn compared(self, file: &[u8], index: &[u16], k: usize, name: usize, ty: usize) -> SeekBuilder
-        requires { ⌜ Ready (now file) (now index) ⌝ }
+        requires { ⌜ AcceptedFile (now file) (now index) ⌝ }
         requires { ⌜ k < length (tablesOf (now file) .comparisons) ⌝ }
         requires { ⌜ ty < length (tablesOf (now file) .types) ⌝ }
         ensures { λ r. ⌜ ((e : Ends) (w p : List ℕ) →
@@ -191,7 +191,7 @@ impl SeekBuilder {
 
     // The comparisons with a variable bound a level that builds.
     pub fn bound(self, file: &[u8], index: &[u16], name: usize, ty: usize) -> SeekBuilder
-        requires { ⌜ Ready (now file) (now index) ⌝ }
+        requires { ⌜ AcceptedFile (now file) (now index) ⌝ }
         requires { ⌜ ty < length (tablesOf (now file) .types) ⌝ }
         ensures { λ r. ⌜ ((e : Ends) (w p : List ℕ) →
             let T = tablesOf (now (file .entry)) in

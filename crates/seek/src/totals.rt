@@ -2,7 +2,7 @@
 ghost use mathlib.Core.Path.{_≡_};
 ghost use Prim.Native.Nat.{ℕ, _+_, _*_, _<_};
 ghost use Rattle.records.specs.Records.{reach};
-ghost use Rattle.seek.specs.Seek.{Below, sumsOf, summed, counted, noCounts, fitting, partsSize, partSums, restSums, narrowSums};
+ghost use Rattle.seek.specs.Seek.{Below, sumsOf, summed, counted, noCounts, countsFit, partsSize, partSums, restSums, narrowSums};
 use crate::Counts;
 use crate::Sums;
 use records::wide32;
@@ -55,7 +55,7 @@ impl Sums {
     // Whether a level with these counts fits a plan.
     pub fn fits(self, plain: bool) -> bool
         requires { ⌜ Below reach self ⌝ }
-        ensures { λ r. ⌜ r ≡ fitting plain (sumsOf self) ⌝ }
+        ensures { λ r. ⌜ r ≡ countsFit plain (sumsOf self) ⌝ }
     {
         if self.bytes(plain) + self.rest > 16384 {
             return false;

@@ -12,10 +12,10 @@ ghost use Rattle.state.specs.State.{Ends};
 ghost use Rattle.state.specs.Ops as Ops;
 ghost use Rattle.paths.specs.Paths.{pathOf};
 ghost use Rattle.file.specs.Tables.{Indexed, tablesOf};
-ghost use Rattle.records.specs.Records.{reach, written};
-ghost use Rattle.ready.specs.Ready.{Ready};
+ghost use Rattle.records.specs.Records.{reach, writtenAt};
+ghost use Rattle.accepted_file.specs.AcceptedFile.{AcceptedFile};
 ghost use Rattle.constant.specs.Sizes.{constView};
-ghost use Rattle.encode.specs.Written.{orEmpty, bytesOf, Here};
+ghost use Rattle.encode.specs.Written.{orEmpty, bytesOf, RoomForBytes};
 ghost use Rattle.seek.specs.Narrow.{IsConstant, constOf, narrowedBy};
 ghost use Rattle.seek.specs.Seek.{countsOf, constantBytes, stateOf};
 use crate::SeekBuilder;
@@ -30,7 +30,7 @@ use records::put_head;
 use records::put_path_at;
 use records::put_text_at;
 
-// A constant's bytes at a place, if they are to be written.
+// A constant's bytes at a place, if they are to be writtenAt.
 fn put_constant_at(
     file: &[u8],
     index: &[u16],
@@ -39,13 +39,13 @@ fn put_constant_at(
     node: usize,
     ty: usize,
 )
-    requires { ⌜ Ready (now file) (now index) ⌝ }
+    requires { ⌜ AcceptedFile (now file) (now index) ⌝ }
     requires { ⌜ node < length (tablesOf (now file) .nodes) ⌝ }
     requires { ⌜ ty < length (tablesOf (now file) .types) ⌝ }
-    requires { ⌜ (place .write ≡ true → Here (bytesOf (tablesOf (now file)) node ty) (place .at)) ⌝ }
+    requires { ⌜ (place .write ≡ true → RoomForBytes (bytesOf (tablesOf (now file)) node ty) (place .at)) ⌝ }
     ensures { λ _. ⌜ (
         let T = tablesOf (now (file .entry)) in
-        now (plan .exit) ≡ written place (orEmpty (bytesOf T node ty)) (now (plan .entry))
+        now (plan .exit) ≡ writtenAt place (orEmpty (bytesOf T node ty)) (now (plan .entry))
         ) ⌝ }
 {
     if !place.write {
@@ -54,13 +54,13 @@ fn put_constant_at(
     put_constant(file, index, plan, place.at, node, ty);
 }
 
-// A prefix's bytes at a place, if they are to be written.
+// A prefix's bytes at a place, if they are to be writtenAt.
 fn put_prefix_at(file: &[u8], index: &[u16], plan: &mut [u8], place: Place, name: usize)
     requires { ⌜ Indexed (now file) (now index) ⌝ }
     requires { ⌜ (name < length (tablesOf (now file) .names)) × (place .at ≤ reach) ⌝ }
     ensures { λ _. ⌜ (
         let T = tablesOf (now (file .entry)) in
-        now (plan .exit) ≡ written place (encodePrefix (nameAt T name)) (now (plan .entry))
+        now (plan .exit) ≡ writtenAt place (encodePrefix (nameAt T name)) (now (plan .entry))
         ) ⌝ }
 {
     if !place.write {
@@ -79,7 +79,7 @@ impl SeekBuilder {
         len: usize,
         plan: &mut [u8],
     ) -> SeekBuilder
-        requires { ⌜ Ready (now file) (now index) ⌝ }
+        requires { ⌜ AcceptedFile (now file) (now index) ⌝ }
         requires { ⌜ node < length (tablesOf (now file) .nodes) ⌝ }
         requires { ⌜ ty < length (tablesOf (now file) .types) ⌝ }
         requires { ⌜ constView (tablesOf (now file)) node ty ≡ Const.Bytes node ty len ⌝ }
@@ -107,7 +107,7 @@ impl SeekBuilder {
         len: usize,
         plan: &mut [u8],
     ) -> SeekBuilder
-        requires { ⌜ Ready (now file) (now index) ⌝ }
+        requires { ⌜ AcceptedFile (now file) (now index) ⌝ }
         requires { ⌜ node < length (tablesOf (now file) .nodes) ⌝ }
         requires { ⌜ ty < length (tablesOf (now file) .types) ⌝ }
         requires { ⌜ constView (tablesOf (now file)) node ty ≡ Const.Bytes node ty len ⌝ }
@@ -137,7 +137,7 @@ impl SeekBuilder {
         len: usize,
         plan: &mut [u8],
     ) -> SeekBuilder
-        requires { ⌜ Ready (now file) (now index) ⌝ }
+        requires { ⌜ AcceptedFile (now file) (now index) ⌝ }
         requires { ⌜ node < length (tablesOf (now file) .nodes) ⌝ }
         requires { ⌜ ty < length (tablesOf (now file) .types) ⌝ }
         requires { ⌜ constView (tablesOf (now file)) node ty ≡ Const.Bytes node ty len ⌝ }
@@ -166,7 +166,7 @@ impl SeekBuilder {
         name: usize,
         plan: &mut [u8],
     ) -> SeekBuilder
-        requires { ⌜ Ready (now file) (now index) ⌝ }
+        requires { ⌜ AcceptedFile (now file) (now index) ⌝ }
         requires { ⌜ name < length (tablesOf (now file) .names) ⌝ }
         ensures { λ r. ⌜ ((e : Ends) (w : List ℕ) →
             let T = tablesOf (now (file .entry)) in
@@ -193,7 +193,7 @@ impl SeekBuilder {
         name: usize,
         plan: &mut [u8],
     ) -> SeekBuilder
-        requires { ⌜ Ready (now file) (now index) ⌝ }
+        requires { ⌜ AcceptedFile (now file) (now index) ⌝ }
         requires { ⌜ name < length (tablesOf (now file) .names) ⌝ }
         ensures { λ r. ⌜ ((e : Ends) (w : List ℕ) →
             let T = tablesOf (now (file .entry)) in
@@ -221,7 +221,7 @@ impl SeekBuilder {
         path: FieldPath,
         plan: &mut [u8],
     ) -> SeekBuilder
-        requires { ⌜ Ready (now file) (now index) × IsConstant (tablesOf (now file)) constant ⌝ }
+        requires { ⌜ AcceptedFile (now file) (now index) × IsConstant (tablesOf (now file)) constant ⌝ }
         ensures { λ r. ⌜ ((e : Ends) (w : List ℕ) →
             let T = tablesOf (now (file .entry)) in
             let before = stateOf T self e w (now (plan .entry)) in

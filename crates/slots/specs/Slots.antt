@@ -81,14 +81,14 @@ pub record IsSlot (x : Option File.Slot) (r : MaybeSlot) : Type 0 where
   pub tidy : r ≡ tidied r
 
 -- a Field's path has room for every step below its type
-pub record Room (T : Tables) (p : File.FieldPath) (t : ℕ) : Type 0 where
+pub record PathRoom (T : Tables) (p : File.FieldPath) (t : ℕ) : Type 0 where
   pub known : t < length (T .types)
   pub short : length (p .steps) + depth T t ≤ depthLimit
 
-abbrev pub Roomy : Tables → File.Slot → Type 0
-Roomy T (File.Slot.Row a p) = Unit {0}
-Roomy T (File.Slot.Key a t) = Unit {0}
-Roomy T (File.Slot.Derived a) = Unit {0}
-Roomy T (File.Slot.Field a p t) = Room T p t
-Roomy T (File.Slot.Value a t) = Unit {0}
-Roomy T (File.Slot.Const n) = Unit {0}
+abbrev pub SlotRoom : Tables → File.Slot → Type 0
+SlotRoom T (File.Slot.Row a p) = Unit {0}
+SlotRoom T (File.Slot.Key a t) = Unit {0}
+SlotRoom T (File.Slot.Derived a) = Unit {0}
+SlotRoom T (File.Slot.Field a p t) = PathRoom T p t
+SlotRoom T (File.Slot.Value a t) = Unit {0}
+SlotRoom T (File.Slot.Const n) = Unit {0}

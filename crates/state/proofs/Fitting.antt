@@ -12,7 +12,7 @@ use Rattle.rules.specs.Constant.{lookup}
 use Rattle.rules.specs.Checks.{isType, isPredicate, noneOr}
 use Rattle.rules.proofs.Sound.{Sound, SlotOk, BindingOk}
 use Rattle.rules.proofs.Keeps.{lookup-ok}
-use Rattle.state.specs.Ops.{roomy, fitting}
+use Rattle.state.specs.Ops.{roomy, checkedSlot}
 
 passes-true : (b : Bool) → Passes b → b ≡ true
 passes-true true h = refl
@@ -36,10 +36,10 @@ slot-roomy T (Slot.Field a p t) h = both-true (ltb t (length (T .types))) _ (pas
 slot-roomy T (Slot.Value a t) h = refl
 slot-roomy T (Slot.Const n) h = refl
 
-fitting-kept : (T : Tables) (o : Option Slot) → ((s : Slot) → o ≡ some s → SlotOk T s) → fitting T o ≡ o
-unfolding fitting
+fitting-kept : (T : Tables) (o : Option Slot) → ((s : Slot) → o ≡ some s → SlotOk T s) → checkedSlot T o ≡ o
+unfolding checkedSlot
 fitting-kept T none h = refl
 fitting-kept T (some s) h = ap (λ (b : Bool). elim b as (λ _. Option Slot) [ true ↦ some s | false ↦ none ]) (slot-roomy T s (h s refl))
 
-pub all-fitting : (T : Tables) → Sound T → (bs : List Binding) → Each (BindingOk T) bs → (x : ℕ) → fitting T (lookup bs x) ≡ lookup bs x
+pub all-fitting : (T : Tables) → Sound T → (bs : List Binding) → Each (BindingOk T) bs → (x : ℕ) → checkedSlot T (lookup bs x) ≡ lookup bs x
 all-fitting T S bs f x = fitting-kept T (lookup bs x) (λ s e. lookup-ok T S bs x s f e)

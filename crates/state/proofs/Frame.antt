@@ -13,7 +13,7 @@ use Rattle.rules.specs.Plan as Plan
 use Rattle.rules.proofs.Cases.{by-test, true≢false}
 use Rattle.state.specs.State.{Level, Target}
 use Rattle.state.specs.Ops.{partText, isBytes}
-use Rattle.state.specs.Levels.{seekNumber, seekOf, joins, joining, head, between, middle, tail, partsAt, middleAt, restAt, tailAt, levelEnd, frame}
+use Rattle.state.specs.Levels.{seekNumber, seekOf, joins, joining, head, rangeOrEdges, middle, tail, partsAt, middleAt, restAt, tailAt, levelEnd, frame}
 use Rattle.state.proofs.Seqs.{sets-append}
 use Rattle.state.proofs.Sizes.{summary, partSize, weight, parts-longer}
 use Rattle.state.proofs.Rel.{formAs, planAs, form-size}
@@ -64,8 +64,8 @@ joined-none (SeekKeyPart.RegisterFactId address ∷ parts) e = refl
 
 -- a seek's number and text length, its parts, and what stands after them
 seek-form : (parts : List SeekKeyPart) (plain : Bool) → all isBytes parts ≡ plain → (range : Option Range) (lo hi : Option RangeEdge)
-    → Plan.seek (seek parts range lo hi) ≡ (seekNumber plain range lo hi ∷ (elim (joins plain range lo hi) [ true ↦ Plan.u16 (length (concatMap partText parts)) | false ↦ [] ])) ++ concatMap (formAs (joins plain range lo hi)) parts ++ between range lo hi
-unfolding seek Plan.seek Plan.text seekNumber joins formAs between unranged
+    → Plan.seek (seek parts range lo hi) ≡ (seekNumber plain range lo hi ∷ (elim (joins plain range lo hi) [ true ↦ Plan.u16 (length (concatMap partText parts)) | false ↦ [] ])) ++ concatMap (formAs (joins plain range lo hi)) parts ++ rangeOrEdges range lo hi
+unfolding seek Plan.seek Plan.text seekNumber joins formAs rangeOrEdges unranged
 seek-form parts plain e range (some lo) hi = ap (λ (l : List ℕ). 3 ∷ l) (append-assoc (concatMap Plan.part parts) (Plan.edge (some lo)) (Plan.edge hi))
 seek-form parts plain e range none (some hi) = ap (λ (l : List ℕ). 3 ∷ l) (append-assoc (concatMap Plan.part parts) (Plan.edge none) (Plan.edge (some hi)))
 seek-form parts plain e (some range) none none = ap (λ (l : List ℕ). 2 ∷ l) (append-assoc (concatMap Plan.part parts) (Plan.text (range .prefix)) (Plan.path (range .path)))
@@ -94,7 +94,7 @@ unfolding Plan.levelBytes Plan.counted head middle tail seekOf joining summary s
 level-bytes n b =
     regroup (Plan.u16 n ++ Plan.u16 (b .closers) ++ Plan.u16 (length (b .parts)))
     (seekOf (summary n b) ∷ (elim (joining (summary n b)) [ true ↦ Plan.u16 (length (concatMap partText (b .parts))) | false ↦ [] ]))
-    (partsIn n b) (between (b .range) (b .edges .lo) (b .edges .hi)) (Plan.guide (b .guide)) (Plan.u16 (length (b .residuals))) (restIn b) (tail (summary n b))
+    (partsIn n b) (rangeOrEdges (b .range) (b .edges .lo) (b .edges .hi)) (Plan.guide (b .guide)) (Plan.u16 (length (b .residuals))) (restIn b) (tail (summary n b))
     ∙ ap (λ (s : List ℕ). Plan.u16 n ++ Plan.u16 (b .closers) ++ Plan.u16 (length (b .parts)) ++ s ++ Plan.guide (b .guide) ++ (Plan.u16 (length (b .residuals)) ++ restIn b) ++ tail (summary n b))
     (sym (seek-form (b .parts) (all isBytes (b .parts)) refl (b .range) (b .edges .lo) (b .edges .hi)))
 

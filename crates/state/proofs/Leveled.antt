@@ -1,4 +1,4 @@
--- One level in the memory, measured and then written: it stands in the plan as the written rules have it, or the rules' plan is really too long.
+-- One level in the memory, measured and then writtenTo: it stands in the plan as the writtenTo rules have it, or the rules' plan is really too long.
 use mathlib.Core.Bool.{true, false}
 use mathlib.Core.List.{List, [], _∷_, _++_}
 use mathlib.Core.Path.{_≡_, refl, sym, ap, _∙_, subst}
@@ -15,7 +15,7 @@ use Rattle.rules.specs.File.{Tables, LevelEntry, predicateAt}
 use Rattle.rules.specs.Events.{Lists, Walk}
 use Rattle.rules.specs.Walk.{walkLevel}
 use Rattle.rules.specs.Placement.{SeekBuilder, new, placeAll}
-use Rattle.rules.specs.Levels as Rules
+use Rattle.rules.specs.Levels as LevelsRules
 use Rattle.rules.specs.Plan as Plan
 use Rattle.rules.specs.Demand3.{Adds, number}
 use Rattle.rules.proofs.Cases.{by-test, true≢false, both-left, both-right}
@@ -26,7 +26,7 @@ use Rattle.rules.proofs.Runs.{goes-key}
 use Rattle.rules.proofs.Sound.{BindingOk, Sound}
 use Rattle.state.specs.State.{Ends, Target, State, newLevel, measuring, stop}
 use Rattle.state.specs.Ops.{ops}
-use Rattle.state.specs.Levels.{levelEnd, frame, bare, framed, Written, written, begin, walked, rewritten, measured, level}
+use Rattle.state.specs.Levels.{levelEnd, frame, bare, framed, Written, writtenTo, begin, walked, rewritten, measured, level}
 use Rattle.state.proofs.Seqs.{sets-append}
 use Rattle.state.proofs.Mem.{Mem, mem-back}
 use Rattle.state.proofs.Sizes.{summary, weight, Sane}
@@ -57,7 +57,7 @@ abbrev fresh : Lists → Walk
 fresh l = record { lists = l; events = [] }
 
 rel-begin : (T : Tables) (t : Target) (l : Lists) (e : Ends) (s : State) → s .over ≡ false → Mem T l e (s .work) → Rel T t (s .plan) (fresh l) (begin e t s)
-unfolding begin placeAll Rules.narrowings
+unfolding begin placeAll LevelsRules.narrowings
 rel-begin T t l e s o m = of-good T t (s .plan) l 0 new (begin e t s) o sane-new (record { mem = m; level = level-new; target = refl; plan = plan-new t (s .plan) })
 
 -- what is only measured writes nothing
@@ -79,13 +79,13 @@ bare-plan t base n b e =
     (λ _. sym (λ i. sets (sets base (t .partsAt) (concatMap (formAs (t .joining)) (parts i))) (t .restAt) (concatMap Plan.residual (rest i))))
     (λ _. refl)
 
--- Between levels: the lists in the work area, and the plan written up to `front`.
+-- Between levels: the lists in the work area, and the plan writtenTo up to `front`.
 pub record Between (T : Tables) (base : List ℕ) (l : Lists) (front : List ℕ) (w : Written) : Type 0 where
   pub mem : Mem T l (w .state .ends) (w .state .work)
   pub at : w .at ≡ length front
   pub plan : w .state .plan ≡ sets base 0 front
 
--- After a level: so far written, or too long. `long` is what the plan would be at least.
+-- After a level: so far writtenTo, or too long. `long` is what the plan would be at least.
 pub record After (T : Tables) (base : List ℕ) (l : Lists) (front : List ℕ) (long : ℕ) (w : Written) : Type 0 where
   pub live : w .state .over ≡ false → Between T base l front w
   pub dead : w .state .over ≡ true → min planLimit (length base) < long
@@ -113,13 +113,13 @@ module _ (T : Tables) (S : Sound T) (bounded : Bounded T) where
     too-long : planLimit < listSize T (W .lists) + weight (built T W) → min planLimit (length base) < length front + length bytes + listSize T (W .lists)
     too-long h = omega (arith, h, level-weight (met W) (built T W))
 
-    ends-over : (at : ℕ) (c : State) → c .over ≡ true → min planLimit (length base) < length front + length bytes + listSize T (W .lists) → Ends′ (written at c)
+    ends-over : (at : ℕ) (c : State) → c .over ≡ true → min planLimit (length base) < length front + length bytes + listSize T (W .lists) → Ends′ (writtenTo at c)
     ends-over at c e h = record { live = λ q. absurd (true≢false (sym e ∙ q)); dead = λ q. h }
 
     adds : Adds l (W .lists)
     adds = walk-keeps T S AddsTo (adds-keeps T) entry (ok .predicate) l fit .0
 
-    -- measured, and then written
+    -- measured, and then writtenTo
     module _ (e : Ends) (at : ℕ) (work : List ℕ) (m : State) (eat : at ≡ length front) (mem : Mem T l e work) (o : m .over ≡ false) (g : Good T measuring (sets base 0 front) (W .lists) (met W) (built T W) m) where
       ends-at : levelEnd at (m .level) ≡ length (front ++ bytes)
       ends-at = omega (arith, eat, ap (levelEnd at) (g .level), level-end at (met W) (built T W), length-append front bytes)
@@ -132,7 +132,7 @@ module _ (T : Tables) (S : Sound T) (bounded : Bounded T) where
           ∙ sym (sets-append base 0 front bytes)
 
       -- a bare level: its frame is all of it, and the lists stand
-      ends-framed : bare (m .level) ≡ true → Ends′ (written (levelEnd at (m .level)) (framed at m))
+      ends-framed : bare (m .level) ≡ true → Ends′ (writtenTo (levelEnd at (m .level)) (framed at m))
       unfolding framed
       ends-framed q =
           record {
@@ -146,10 +146,10 @@ module _ (T : Tables) (S : Sound T) (bounded : Bounded T) where
           walk-related entry ok (writeAt at (m .level)) (frame at (m .level) (m .plan)) l fit (begin e (writeAt at (m .level)) (framed at m))
           (rel-begin T (writeAt at (m .level)) l e (framed at m) o (mem-back T l (W .lists) e (m .ends) work (m .work) mem (g .mem) adds))
 
-      ends-rewritten : Ends′ (written (levelEnd at (m .level)) (rewritten T entry e at m))
+      ends-rewritten : Ends′ (writtenTo (levelEnd at (m .level)) (rewritten T entry e at m))
       unfolding rewritten
       ends-rewritten =
-          by-test (λ (s : State). Ends′ (written (levelEnd at (m .level)) s)) (bare (m .level)) ends-framed
+          by-test (λ (s : State). Ends′ (writtenTo (levelEnd at (m .level)) s)) (bare (m .level)) ends-framed
           (λ _. record { live = λ q. record { mem = again .live q .mem; at = ends-at; plan = again .live q .plan ∙ whole-plan }; dead = λ q. too-long (again .dead q) })
 
     ends-measured : (e : Ends) (at : ℕ) (work : List ℕ) (m : State) → at ≡ length front → Mem T l e work → Rel T measuring (sets base 0 front) W m → Ends′ (measured T entry e at m)

@@ -189,7 +189,7 @@ module _ (T : Tables) (t : Target) (base : List ℕ) where
       record {
         idle = stopped T;
         stays = λ w w′ c e g r. rel-stays T t base w w′ c e (larger g) r;
-        lookups = λ w c f e r x. ap (Ops.fitting T) (mem-lookup T (w .lists) (c .ends) (c .work) (r .live e .mem) x) ∙ all-fitting T S (w .lists .bindings) f x;
+        lookups = λ w c f e r x. ap (Ops.checkedSlot T) (mem-lookup T (w .lists) (c .ends) (c .work) (r .live e .mem) x) ∙ all-fitting T S (w .lists .bindings) f x;
         reported = λ w w′ c c′ e e′ r r′. same-reported T (w .lists) (w′ .lists) (c .ends) (c′ .ends) (c .work) (c′ .work) (r .live e .mem) (r′ .live e′ .mem);
         constant-is = λ w c r n ty. refl;
         fields = λ x ty p w c e n s r. rel-bind x (Slot.Field address p ty) w c (record { name = n; slot = (h, path-numbers p ty s, omega (arith, bounded .few-types, s .fits .in-types)) }) r;

@@ -1,4 +1,4 @@
--- The memory computes what the written rules say: for every accepted file the same plan, and refusal 15 exactly where the rules' plan is too long.
+-- The memory computes what the writtenTo rules say: for every accepted file the same plan, and refusal 15 exactly where the rules' plan is too long.
 use mathlib.Core.Bool.{Bool, true, false}
 use mathlib.Core.List.{List, [], _∷_, _++_, map, append-nil, append-assoc}
 use mathlib.Core.Option.{none}
@@ -17,7 +17,7 @@ use Rattle.rules.specs.Read as Read
 use Rattle.rules.specs.Checks.{checks, fault}
 use Rattle.rules.specs.Events.{Lists}
 use Rattle.rules.specs.Walk.{walkLevel}
-use Rattle.rules.specs.Levels as Rules
+use Rattle.rules.specs.Levels as LevelsRules
 use Rattle.rules.specs.Plan as Plan
 use Rattle.rules.specs.Compile as Compile
 use Rattle.rules.specs.Compile.{Outcome}
@@ -30,7 +30,7 @@ use Rattle.rules.proofs.Lists.{AddsTo, adds-keeps, Onwards}
 use Rattle.rules.proofs.Numbers.{Bounded, bounded as read-bounded}
 use Rattle.rules.proofs.Sound.{BindingOk, Sound, Passed, passed-all, sound}
 use Rattle.state.specs.State.{State, state, stop, constrainedAt, diagnosticsAt}
-use Rattle.state.specs.Levels.{Written, written, level, levels, lists, finished, started, compiled, outcomeOf}
+use Rattle.state.specs.Levels.{Written, writtenTo, level, levels, lists, finished, started, compiled, writtenOutcome}
 use Rattle.state.proofs.Seqs.{sets-append, slice-sets-at, concatMap-append, length-stride, length-drop-append}
 use Rattle.state.proofs.Mem.{Mem, mem-none, diagnostic-length}
 use Rattle.state.proofs.Growth.{listSize}
@@ -44,10 +44,10 @@ listBytes T l =
 
 -- the levels' bytes, and the lists that they leave
 abbrev levelsBytes : Tables → Lists → List LevelEntry → List ℕ
-levelsBytes T l entries = concatMap Plan.levelBytes (map Plan.planLevel (Rules.levelsFrom T l entries))
+levelsBytes T l entries = concatMap Plan.levelBytes (map Plan.planLevel (LevelsRules.levelsFrom T l entries))
 
 abbrev left : Tables → Lists → List LevelEntry → Lists
-left T l entries = Rules.leftBy l (Rules.levelsFrom T l entries)
+left T l entries = LevelsRules.leftBy l (LevelsRules.levelsFrom T l entries)
 
 list-size : (T : Tables) (l : Lists) → listSize T l ≤ length (listBytes T l)
 unfolding listSize Plan.counted
@@ -130,7 +130,7 @@ module _ (T : Tables) (S : Sound T) (bounded : Bounded T) (base : List ℕ) wher
   next-fit entry ok l fit = walk-keeps T S AddsTo (adds-keeps T) entry (ok .predicate) l fit .1
 
   left-size : {entries : List LevelEntry} → Each (EntryOk T) entries → (l : Lists) → Each (BindingOk T) (l .bindings) → listSize T l ≤ listSize T (left T l entries)
-  unfolding Rules.levelsFrom Rules.leftBy Rules.level Rules.levelOf
+  unfolding LevelsRules.levelsFrom LevelsRules.leftBy LevelsRules.level LevelsRules.levelOf
   left-size done l fit = omega arith
   left-size (more {x = entry} ok oks) l fit =
       omega (arith, adds-size T l (walkLevel T entry l .lists) (walk-keeps T S AddsTo (adds-keeps T) entry (ok .predicate) l fit .0), left-size oks (walkLevel T entry l .lists) (next-fit entry ok l fit))
@@ -154,24 +154,24 @@ module _ (T : Tables) (S : Sound T) (bounded : Bounded T) (base : List ℕ) wher
 
   ends-levels : {entries : List LevelEntry} → Each (EntryOk T) entries → (l : Lists) → Each (BindingOk T) (l .bindings) → (front : List ℕ) (w : Written) → w .state .over ≡ false → Between T base l front w
       → After T base (left T l entries) (front ++ levelsBytes T l entries) (length front + length (levelsBytes T l entries) + listSize T (left T l entries)) (levels T entries w)
-  unfolding Rules.levelsFrom Rules.leftBy Rules.level Rules.levelOf Plan.planLevel concatMap levels
+  unfolding LevelsRules.levelsFrom LevelsRules.leftBy LevelsRules.level LevelsRules.levelOf Plan.planLevel concatMap levels
   ends-levels done l fit front w o b =
       record { live = λ q. subst (λ (f : List ℕ). Between T base l f w) (sym (append-nil front)) b; dead = λ q. absurd (true≢false (sym q ∙ o)) }
   ends-levels (more {x = entry} {xs = entries} ok oks) l fit front w o b =
       let l′ = walkLevel T entry l .lists in
       let fit′ = next-fit entry ok l fit in
       subst (After T base (left T l′ entries) (front ++ levelsBytes T l (entry ∷ entries)) (length front + length (levelsBytes T l (entry ∷ entries)) + listSize T (left T l′ entries))) (sym (levels-live T entry entries w o))
-      (after-next l′ (left T l′ entries) front (Plan.levelBytes (Plan.planLevel (Rules.level T entry l))) (levelsBytes T l′ entries) entries (level T entry w)
+      (after-next l′ (left T l′ entries) front (Plan.levelBytes (Plan.planLevel (LevelsRules.level T entry l))) (levelsBytes T l′ entries) entries (level T entry w)
       (ends-level T S bounded base entry ok l fit front w o b)
-      (λ e b′. ends-levels oks l′ fit′ (front ++ Plan.levelBytes (Plan.planLevel (Rules.level T entry l))) (level T entry w) e b′)
+      (λ e b′. ends-levels oks l′ fit′ (front ++ Plan.levelBytes (Plan.planLevel (LevelsRules.level T entry l))) (level T entry w) e b′)
       (left-size oks l′ fit′))
 
   -- The end: the lists after the levels, if there is room.
-  finish : (l : Lists) (front : List ℕ) (w : Written) → w .state .over ≡ false → Between T base l front w → outcomeOf (finished w) ≡ Compile.written (length base) (front ++ listBytes T l)
-  unfolding finished outcomeOf stop
+  finish : (l : Lists) (front : List ℕ) (w : Written) → w .state .over ≡ false → Between T base l front w → writtenOutcome (finished w) ≡ Compile.written (length base) (front ++ listBytes T l)
+  unfolding finished writtenOutcome stop
   finish l front w o b =
-      by-test (λ (r : Written). outcomeOf r ≡ Compile.written (length base) all) (w .state .over) (λ q. absurd (true≢false (sym q ∙ o)))
-      (λ _. by-test (λ (r : Written). outcomeOf r ≡ Compile.written (length base) all) (leb (w .at + length (lists (w .state))) (min planLimit (length (w .state .plan))))
+      by-test (λ (r : Written). writtenOutcome r ≡ Compile.written (length base) all) (w .state .over) (λ q. absurd (true≢false (sym q ∙ o)))
+      (λ _. by-test (λ (r : Written). writtenOutcome r ≡ Compile.written (length base) all) (leb (w .at + length (lists (w .state))) (min planLimit (length (w .state .plan))))
       (λ q. let fits = leb-true (w .at + length (lists (w .state))) (min planLimit (length (w .state .plan))) q in ap Outcome.planned (whole fits) ∙ sym (written-short (length base) all (omega (arith, fits, sizes, rooms))))
       (λ q. sym (written-long (length base) all (omega (arith, leb-false (w .at + length (lists (w .state))) (min planLimit (length (w .state .plan))) q, sizes, rooms)))))
     where
@@ -194,45 +194,45 @@ module _ (T : Tables) (S : Sound T) (bounded : Bounded T) (base : List ℕ) wher
           ∙ ap (λ (k : ℕ). take k (sets base 0 all)) (sym (zero-add (length all)))
           ∙ slice-sets-at 0 0 base all (omega arith) (omega (arith, h, sizes, rooms))
 
-  finish-over : (w : Written) (bytes : List ℕ) → w .state .over ≡ true → min planLimit (length base) < length bytes → outcomeOf (finished w) ≡ Compile.written (length base) bytes
-  unfolding finished outcomeOf
+  finish-over : (w : Written) (bytes : List ℕ) → w .state .over ≡ true → min planLimit (length base) < length bytes → writtenOutcome (finished w) ≡ Compile.written (length base) bytes
+  unfolding finished writtenOutcome
   finish-over w bytes e h =
-      by-test (λ (r : Written). outcomeOf r ≡ Compile.written (length base) bytes) (w .state .over)
+      by-test (λ (r : Written). writtenOutcome r ≡ Compile.written (length base) bytes) (w .state .over)
       (λ _. by-test (λ (r : Outcome). r ≡ Compile.written (length base) bytes) (w .state .over) (λ _. sym (written-long (length base) bytes h)) (λ q. absurd (true≢false (sym e ∙ q))))
       (λ q. absurd (true≢false (sym e ∙ q)))
 
 -- The rules' plan: its levels, then the lists that they leave.
-levels-length : (T : Tables) (l : Lists) (entries : List LevelEntry) → length (Rules.levelsFrom T l entries) ≡ length entries
-unfolding Rules.levelsFrom
+levels-length : (T : Tables) (l : Lists) (entries : List LevelEntry) → length (LevelsRules.levelsFrom T l entries) ≡ length entries
+unfolding LevelsRules.levelsFrom
 levels-length T l [] = refl
-levels-length T l (entry ∷ entries) = ap suc (levels-length T (Rules.level T entry l .left) entries)
+levels-length T l (entry ∷ entries) = ap suc (levels-length T (LevelsRules.level T entry l .left) entries)
 
 after-levels : (v b c s d : List ℕ) → v ++ b ++ c ++ s ++ d ≡ v ++ (b ++ c ++ s ++ d)
 after-levels v b c s d = simp append-assoc
 
-plan-is : (T : Tables) → Plan.planBytes (Plan.plan T) ≡ Plan.u16 (length (T .levels)) ++ levelsBytes T (Rules.starting T) (T .levels) ++ listBytes T (left T (Rules.starting T) (T .levels))
-unfolding Plan.planBytes Plan.plan Plan.planOf Plan.counted Rules.levels
+plan-is : (T : Tables) → Plan.planBytes (Plan.plan T) ≡ Plan.u16 (length (T .levels)) ++ levelsBytes T (LevelsRules.starting T) (T .levels) ++ listBytes T (left T (LevelsRules.starting T) (T .levels))
+unfolding Plan.planBytes Plan.plan Plan.planOf Plan.counted LevelsRules.levels
 plan-is T =
-    let ls = Rules.levelsFrom T (Rules.starting T) (T .levels) in
-    let l = left T (Rules.starting T) (T .levels) in
+    let ls = LevelsRules.levelsFrom T (LevelsRules.starting T) (T .levels) in
+    let l = left T (LevelsRules.starting T) (T .levels) in
     after-levels (Plan.counted Plan.levelBytes (map Plan.planLevel ls)) (Plan.counted Plan.binding (drop (length (T .bindings)) (l .bindings))) (Plan.counted Plan.u16 (l .constrained)) (Plan.counted Plan.select (l .selects)) (Plan.counted Plan.diagnostic (l .diagnostics))
-    ∙ ap (λ (k : ℕ). Plan.u16 k ++ levelsBytes T (Rules.starting T) (T .levels) ++ listBytes T l) (length-map ls Plan.planLevel ∙ levels-length T (Rules.starting T) (T .levels))
+    ∙ ap (λ (k : ℕ). Plan.u16 k ++ levelsBytes T (LevelsRules.starting T) (T .levels) ++ listBytes T l) (length-map ls Plan.planLevel ∙ levels-length T (LevelsRules.starting T) (T .levels))
 
 -- before the first level
-between-start : (T : Tables) (work plan : List ℕ) → 65536 ≤ length work → Between T plan (Rules.starting T) (Plan.u16 (length (T .levels))) (started T work plan)
-unfolding started Rules.starting Plan.u16
+between-start : (T : Tables) (work plan : List ℕ) → 65536 ≤ length work → Between T plan (LevelsRules.starting T) (Plan.u16 (length (T .levels))) (started T work plan)
+unfolding started LevelsRules.starting Plan.u16
 between-start T work plan h = record { mem = mem-none T work h; at = refl; plan = refl }
 
 live-start : (T : Tables) (work plan : List ℕ) → started T work plan .state .over ≡ false
 unfolding started
 live-start T work plan = refl
 
-fit-start : (T : Tables) → Sound T → Each (BindingOk T) (Rules.starting T .bindings)
-unfolding Rules.starting
+fit-start : (T : Tables) → Sound T → Each (BindingOk T) (LevelsRules.starting T .bindings)
+unfolding LevelsRules.starting
 fit-start T S = S .bindings
 
 -- For every accepted file, work area and plan buffer: the rules' plan, or refusal 15 exactly where it is longer than a plan may be or than the buffer.
-pub exact : (T : Tables) → Passed T → Bounded T → (work plan : List ℕ) → 65536 ≤ length work → outcomeOf (compiled T work plan) ≡ Compile.written (length plan) (Plan.planBytes (Plan.plan T))
+pub exact : (T : Tables) → Passed T → Bounded T → (work plan : List ℕ) → 65536 ≤ length work → writtenOutcome (compiled T work plan) ≡ Compile.written (length plan) (Plan.planBytes (Plan.plan T))
 unfolding compiled
 exact T passed bounded work plan room = go (ended .state .over) refl ∙ ap (Compile.written (length plan)) (sym (plan-is T))
   where
@@ -243,7 +243,7 @@ exact T passed bounded work plan room = go (ended .state .over) refl ∙ ap (Com
     entries = each-both (λ l p a. record { predicate = p; address = a }) (S .levels) (bounded .levels)
 
     start : Lists
-    start = Rules.starting T
+    start = LevelsRules.starting T
 
     front : List ℕ
     front = Plan.u16 (length (T .levels))
@@ -254,7 +254,7 @@ exact T passed bounded work plan room = go (ended .state .over) refl ∙ ap (Com
     after : After T plan (left T start (T .levels)) (front ++ levelsBytes T start (T .levels)) (length front + length (levelsBytes T start (T .levels)) + listSize T (left T start (T .levels))) ended
     after = ends-levels T S bounded plan entries start (fit-start T S) front (started T work plan) (live-start T work plan) (between-start T work plan room)
 
-    go : (o : Bool) → ended .state .over ≡ o → outcomeOf (finished ended) ≡ Compile.written (length plan) (front ++ levelsBytes T start (T .levels) ++ listBytes T (left T start (T .levels)))
+    go : (o : Bool) → ended .state .over ≡ o → writtenOutcome (finished ended) ≡ Compile.written (length plan) (front ++ levelsBytes T start (T .levels) ++ listBytes T (left T start (T .levels)))
     go true e =
         finish-over T S bounded plan ended _ e
         (omega (arith, after .dead e, list-size T (left T start (T .levels)), length-append front (levelsBytes T start (T .levels)), length-append (front ++ levelsBytes T start (T .levels)) (listBytes T (left T start (T .levels)))))
@@ -271,7 +271,7 @@ accepted-outcome bytes T rest reads accepted room area short large =
     (λ q. absurd (true≢false (sym (le-leb (length bytes) fileLimit short) ∙ q)))
 
 -- For every accepted file of bytes: the memory ends in the call's own outcome.
-pub exact-file : (bytes : List ℕ) → Each Byte bytes → (T : Tables) (rest : List ℕ) → Read.file bytes ≡ Read.got T rest → fault checks T ≡ none → (work plan : List ℕ) → length bytes ≤ fileLimit → workLimit ≤ length work → outcomeOf (compiled T work plan) ≡ Compile.outcome bytes (length plan) (length work)
+pub exact-file : (bytes : List ℕ) → Each Byte bytes → (T : Tables) (rest : List ℕ) → Read.file bytes ≡ Read.got T rest → fault checks T ≡ none → (work plan : List ℕ) → length bytes ≤ fileLimit → workLimit ≤ length work → writtenOutcome (compiled T work plan) ≡ Compile.outcome bytes (length plan) (length work)
 exact-file bytes b T rest reads accepted work plan short large =
     exact T (passed-all T accepted) (read-bounded bytes b T rest reads) work plan large
     ∙ sym (accepted-outcome bytes T rest reads accepted (length plan) (length work) short large)

@@ -1,4 +1,4 @@
--- A level measured, then written at its final place in the plan; the list of levels; the four lists after them.
+-- A level measured, then writtenTo at its final place in the plan; the list of levels; the four lists after them.
 use mathlib.Core.Bool.{Bool, true, false}
 use mathlib.Core.List.{List, [], _∷_, _++_}
 use mathlib.Core.Option.{Option, none, some}
@@ -38,21 +38,21 @@ joins plain none none none = plain
 unfoldable pub joining : Level → Bool
 joining l = joins (l .plain) (l .range) (l .edges .lo) (l .edges .hi)
 
--- What stands in the plan before a level's parts, between its parts and its residuals, and after its residuals.
+-- What stands in the plan before a level's parts, rangeOrEdges its parts and its residuals, and after its residuals.
 unfoldable pub head : Level → List ℕ
 head l =
     let c = l .counts in
     Plan.u16 (c .narrowings) ++ Plan.u16 (c .closers) ++ Plan.u16 (c .parts) ++
     (seekOf l ∷ (elim (joining l) [ true ↦ Plan.u16 (c .joined) | false ↦ [] ]))
 
-unfoldable pub between : Option Range → Option RangeEdge → Option RangeEdge → List ℕ
-between range (some lo) hi = Plan.edge (some lo) ++ Plan.edge hi
-between range none (some hi) = Plan.edge none ++ Plan.edge (some hi)
-between (some range) none none = Plan.text (range .prefix) ++ Plan.path (range .path)
-between none none none = []
+unfoldable pub rangeOrEdges : Option Range → Option RangeEdge → Option RangeEdge → List ℕ
+rangeOrEdges range (some lo) hi = Plan.edge (some lo) ++ Plan.edge hi
+rangeOrEdges range none (some hi) = Plan.edge none ++ Plan.edge (some hi)
+rangeOrEdges (some range) none none = Plan.text (range .prefix) ++ Plan.path (range .path)
+rangeOrEdges none none none = []
 
 unfoldable pub middle : Level → List ℕ
-middle l = between (l .range) (l .edges .lo) (l .edges .hi) ++ Plan.guide (l .guide) ++ Plan.u16 (l .counts .residuals)
+middle l = rangeOrEdges (l .range) (l .edges .lo) (l .edges .hi) ++ Plan.guide (l .guide) ++ Plan.u16 (l .counts .residuals)
 
 unfoldable pub tail : Level → List ℕ
 tail l = Plan.counted Plan.u16 (l .edges .folded)
@@ -73,13 +73,13 @@ tailAt at l = restAt at l + l .counts .rest
 unfoldable pub levelEnd : ℕ → Level → ℕ
 levelEnd at l = tailAt at l + length (tail l)
 
--- a plan that is written up to `at`
+-- a plan that is writtenTo up to `at`
 pub record Written : Type 0 where
   pub at : ℕ
   pub state : State
 
-abbrev pub written : ℕ → State → Written
-written at s = record { at = at; state = s }
+abbrev pub writtenTo : ℕ → State → Written
+writtenTo at s = record { at = at; state = s }
 
 -- a level's walk begins
 unfoldable pub begin : Ends → Target → State → State
@@ -100,7 +100,7 @@ bare l = both (eqb (l .counts .parts) 0) (eqb (l .counts .residuals) 0)
 unfoldable pub framed : ℕ → State → State
 framed at m = state (m .over) (m .ends) (m .level) (m .target) (m .work) (frame at (m .level) (m .plan))
 
--- Measured, it is walked once more from the lists as they were, and written. A bare one has nothing more to write, and its lists are made
+-- Measured, it is walked once more from the lists as they were, and writtenTo. A bare one has nothing more to write, and its lists are made
 -- already: it is not walked again.
 unfoldable pub rewritten : Tables → LevelEntry → Ends → ℕ → State → State
 rewritten T l e at m =
@@ -111,10 +111,10 @@ rewritten T l e at m =
 unfoldable pub measured : Tables → LevelEntry → Ends → ℕ → State → Written
 measured T l e at m =
     elim (m .over) [
-      | true ↦ written at m
+      | true ↦ writtenTo at m
       | false ↦ elim (leb (levelEnd at (m .level)) (min planLimit (length (m .plan)))) [
-        | true ↦ written (levelEnd at (m .level)) (rewritten T l e at m)
-        | false ↦ written at (stop m)
+        | true ↦ writtenTo (levelEnd at (m .level)) (rewritten T l e at m)
+        | false ↦ writtenTo at (stop m)
       ]
     ]
 
@@ -140,24 +140,24 @@ finished w =
     elim (w .state .over) [
       | true ↦ w
       | false ↦ elim (leb (w .at + length (lists (w .state))) (min planLimit (length (w .state .plan)))) [
-        | true ↦ written (w .at + length (lists (w .state)))
+        | true ↦ writtenTo (w .at + length (lists (w .state)))
             (state false (w .state .ends) (w .state .level) (w .state .target) (w .state .work)
             (sets (w .state .plan) (w .at) (lists (w .state))))
-        | false ↦ written (w .at) (stop (w .state))
+        | false ↦ writtenTo (w .at) (stop (w .state))
       ]
     ]
 
 -- a plan begins with the count of its levels
 unfoldable pub started : Tables → List ℕ → List ℕ → Written
-started T work plan = written 2 (state false noEnds newLevel measuring work (sets plan 0 (Plan.u16 (length (T .levels)))))
+started T work plan = writtenTo 2 (state false noEnds newLevel measuring work (sets plan 0 (Plan.u16 (length (T .levels)))))
 
 unfoldable pub compiled : Tables → List ℕ → List ℕ → Written
 compiled T work plan = finished (levels T (T .levels) (started T work plan))
 
-unfoldable pub outcomeOf : Written → Outcome
-outcomeOf w = elim (w .state .over) [ true ↦ Outcome.refused 15 | false ↦ Outcome.planned (take (w .at) (w .state .plan)) ]
+unfoldable pub writtenOutcome : Written → Outcome
+writtenOutcome w = elim (w .state .over) [ true ↦ Outcome.refused 15 | false ↦ Outcome.planned (take (w .at) (w .state .plan)) ]
 
 unfoldable pub openLevels : Unit {0}
-unfolding seekNumber seekOf joins joining head between middle tail partsAt middleAt restAt tailAt levelEnd begin walked frame bare framed
-    rewritten measured level levels lists finished started compiled outcomeOf
+unfolding seekNumber seekOf joins joining head rangeOrEdges middle tail partsAt middleAt restAt tailAt levelEnd begin walked frame bare framed
+    rewritten measured level levels lists finished started compiled writtenOutcome
 openLevels = tt

@@ -217,15 +217,15 @@ roomy T (Slot.Field a p t) = both (isType T t) (leb (length (p .steps) + depth T
 roomy T (Slot.Value a t) = true
 roomy T (Slot.Const n) = true
 
-unfoldable pub fitting : Tables → Option Slot → Option Slot
-fitting T none = none
-fitting T (some slot) = elim (roomy T slot) [ true ↦ some slot | false ↦ none ]
+unfoldable pub checkedSlot : Tables → Option Slot → Option Slot
+checkedSlot T none = none
+checkedSlot T (some slot) = elim (roomy T slot) [ true ↦ some slot | false ↦ none ]
 
 -- the file's own bindings, then those that the walks have made; `constant` needs the file's alone (rules, proofs/Consts.antt)
 abbrev pub ops : Tables → Ops State
 ops T =
     record {
-      lookup = λ s x. fitting T (lookup (T .bindings ++ made s) x);
+      lookup = λ s x. checkedSlot T (lookup (T .bindings ++ made s) x);
       constant = λ s n t. constant T n t;
       reported = λ s. s .ends .diagnostics;
       bind = bind;
@@ -241,5 +241,5 @@ ops T =
 unfoldable pub openOps : Unit {0}
 unfolding append appendCounted bind constrained select report recount fall narrowed grow partText isBytes withPart partAt partForm putPart
     putResidual narrowPart withRange narrowPrefix attachable withGuide narrowFuzzy narrowing narrow relevel skip closed close closer
-    withEdges boundLevel bound roomy fitting
+    withEdges boundLevel bound roomy checkedSlot
 openOps = tt

@@ -20,9 +20,9 @@ use Rattle.rules.proofs.Choices.{by-test₂}
 use Rattle.rules.proofs.Each.{each-imply}
 use Rattle.rules.proofs.Sound.{Passed}
 use Rattle.file.specs.Tables.{lastFrom, lastBinding}
-use Rattle.views.specs.Views.{run, alternativeAt, patternAt, alternativeOf, patternOf, slotOf, bindingAt, SeenBinding}
-use Rattle.ready.specs.Ready.{flag}
-use Rattle.ready.proofs.Ranges.{numbers-in}
+use Rattle.views.specs.Views.{run, alternativeAt, patternAt, alternativeOf, patternOf, slotViewed, bindingAt, SeenBinding}
+use Rattle.accepted_file.specs.AcceptedFile.{flag}
+use Rattle.accepted_file.proofs.Ranges.{numbers-in}
 use Rattle.tables.specs.Tables.{SeenSlot, constBound}
 use Rattle.tables.specs.declared.MaybeSlotView.{MaybeSlotView}
 use Rattle.tables.specs.declared.MaybeSlotView.the-variants as Ms
@@ -181,7 +181,7 @@ module _ (f : List ℕ) (o : Option Slot) (r : MaybeSlotView) (s : SeenSlot f o 
 
   pub const-is : (v : SlotView) → r ≡ Ms.Just v → (m : ℕ) → v ≡ Sv.Const m → some m ≡ (o >>= constNode)
   unfolding _>>=_ constNode
-  const-is v e m d = ap (λ (w : SlotView). constNode (slotOf f w)) (sym d) ∙ ap (λ (q : Option Slot). q >>= constNode) (subst (SeenSlot f o) e s .is)
+  const-is v e m d = ap (λ (w : SlotView). constNode (slotViewed f w)) (sym d) ∙ ap (λ (q : Option Slot). q >>= constNode) (subst (SeenSlot f o) e s .is)
 
   pub const-not : (v : SlotView) → r ≡ Ms.Just v → OneOf (0 ∷ 1 ∷ 2 ∷ 3 ∷ 4 ∷ []) (tagOf SlotViews.the-type v) → none ≡ (o >>= constNode)
   unfolding _>>=_

@@ -7,7 +7,7 @@ use types.Run.{OneOf, miss}
 use denote.Enum.Declared.{tagOf}
 use Rattle.rules.specs.File.{Ty, Node, varName, recordFields, recordTy, unionTy}
 use Rattle.rules.specs.Constant.{constNode}
-use Rattle.views.specs.Views.{nodeOf, typeOf, slotOf, fieldAt, alternativeAt, patternAt, SeenType, SeenNode}
+use Rattle.views.specs.Views.{nodeOf, typeOf, slotViewed, fieldAt, alternativeAt, patternAt, SeenType, SeenNode}
 use Rattle.tables.specs.Tables.{SeenRun}
 use Rattle.tables.specs.declared.Run.the-variants as Ru
 use Rattle.views.specs.declared.NodeView.{NodeView}
@@ -78,7 +78,7 @@ no-alternatives f (Tv.Fact p) w = refl
 no-alternatives f (Tv.Record n at) w = refl
 no-alternatives f (Tv.Union n at) w = absurd (miss (0 ∷ 1 ∷ 2 ∷ 3 ∷ 4 ∷ []) 5 tt w)
 
-pub no-const : (f : List ℕ) (v : SlotView) → OneOf (0 ∷ 1 ∷ 2 ∷ 3 ∷ 4 ∷ []) (tagOf SlotViews.the-type v) → constNode (slotOf f v) ≡ none
+pub no-const : (f : List ℕ) (v : SlotView) → OneOf (0 ∷ 1 ∷ 2 ∷ 3 ∷ 4 ∷ []) (tagOf SlotViews.the-type v) → constNode (slotViewed f v) ≡ none
 unfolding constNode
 no-const f (Sv.Row a p) w = refl
 no-const f (Sv.Key a t) w = refl

@@ -7,7 +7,7 @@ use lib.ListN.{length}
 use Rattle.rules.specs.Base.{_>>=_}
 use Rattle.rules.specs.File as File
 use Rattle.rules.specs.Constant.{lookup, constNode}
-use Rattle.views.specs.Views.{run, alternativeOf, slotOf, SlotInside}
+use Rattle.views.specs.Views.{run, alternativeOf, slotViewed, SlotInside}
 use Rattle.tables.specs.declared.Found.{Found}
 use Rattle.tables.specs.declared.Found.the-variants as Fo
 use Rattle.tables.specs.declared.Run.{Run}
@@ -31,7 +31,7 @@ alternativeOption (Ma.Just a) = some (alternativeOf a)
 
 abbrev pub slotOption : List ℕ → MaybeSlotView → Option File.Slot
 slotOption f Ms.Nothing = none
-slotOption f (Ms.Just s) = some (slotOf f s)
+slotOption f (Ms.Just s) = some (slotViewed f s)
 
 -- what an answer points at lies within the file
 abbrev pub RunInside : List ℕ → ℕ → Run → Type 0

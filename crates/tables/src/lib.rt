@@ -7,7 +7,7 @@ ghost use Rattle.rules.specs.Constant as Constant;
 ghost use Rattle.rules.specs.Constant.{fieldPattern, standsFor};
 ghost use Rattle.file.specs.Tables.{Indexed, tablesOf};
 ghost use Rattle.views.specs.Views.{run, fieldAt, alternativeAt, patternAt};
-ghost use Rattle.ready.specs.Ready.{Ready};
+ghost use Rattle.accepted_file.specs.AcceptedFile.{AcceptedFile};
 ghost use Rattle.tables.specs.Tables.{constBound, foundOption, alternativeOption, SeenRun, SeenSlot};
 use file::CONSTANTS;
 use file::LAST_BINDINGS;
@@ -49,7 +49,7 @@ pub enum MaybeSlotView {
 
 // Whether node n is constant: the checks left that in the index.
 pub fn is_constant(file: &[u8], index: &[u16], n: usize) -> bool
-    requires { ⌜ Ready (now file) (now index) ⌝ }
+    requires { ⌜ AcceptedFile (now file) (now index) ⌝ }
     requires { ⌜ n < length (tablesOf (now file) .nodes) ⌝ }
     ensures { λ r. ⌜ r ≡ isConstant (tablesOf (now (file .entry))) n ⌝ }
 {
@@ -138,7 +138,7 @@ pub fn alternative_of(file: &[u8], at: usize, n: usize, name: usize) -> MaybeAlt
 
 // The slot of a name's last entry among the file's own bindings: its number stands in the index.
 pub fn lookup(file: &[u8], index: &[u16], name: usize) -> MaybeSlotView
-    requires { ⌜ Ready (now file) (now index) ⌝ }
+    requires { ⌜ AcceptedFile (now file) (now index) ⌝ }
     ensures { λ r. ⌜ SeenSlot (now (file .entry)) (Constant.lookup (tablesOf (now (file .entry)) .bindings) name) r ⌝ }
 {
     if name >= count_of(file, index, NAMES) {
@@ -155,7 +155,7 @@ pub fn lookup(file: &[u8], index: &[u16], name: usize) -> MaybeSlotView
 
 // The Const that a name is bound to.
 fn const_of(file: &[u8], index: &[u16], name: usize) -> Found
-    requires { ⌜ Ready (now file) (now index) ⌝ }
+    requires { ⌜ AcceptedFile (now file) (now index) ⌝ }
     ensures { λ r. ⌜ foundOption r ≡ constBound (tablesOf (now (file .entry)) .bindings) name ⌝ }
 {
     let MaybeSlotView::Just(s) = lookup(file, index, name) else {
@@ -170,7 +170,7 @@ fn const_of(file: &[u8], index: &[u16], name: usize) -> Found
 
 // The node that a node stands for: a Var bound to Const stands for its node, any other node for itself.
 pub fn folded(file: &[u8], index: &[u16], node: usize) -> usize
-    requires { ⌜ Ready (now file) (now index) ⌝ }
+    requires { ⌜ AcceptedFile (now file) (now index) ⌝ }
     requires { ⌜ node < length (tablesOf (now file) .nodes) ⌝ }
     ensures { λ r. ⌜ r ≡ standsFor (tablesOf (now (file .entry))) node ⌝ }
 {

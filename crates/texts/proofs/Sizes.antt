@@ -10,7 +10,7 @@ use lib.Dec.{leb}
 use lib.ListN.{length, length-append, List·getD-eq-default}
 use Rattle.rules.specs.Base.{_>>=_}
 use Rattle.rules.specs.File.{Tables, nameAt}
-use Rattle.rules.specs.Constant as Rules
+use Rattle.rules.specs.Constant as ConstantRules
 use Rattle.rules.specs.Constant.{bytesOnly, encodePrefix, escape}
 use Rattle.rules.specs.Placement.{RangeEdge}
 use Rattle.rules.specs.Plan as Plan
@@ -22,7 +22,7 @@ use Rattle.constant.specs.declared.Const.the-variants as Co
 use Rattle.constant.specs.declared.Size.{Size}
 use Rattle.constant.specs.declared.Size.the-variants as Si
 use Rattle.constant.proofs.Measured.{only-const}
-use Rattle.encode.specs.Written.{bytesOf, orEmpty, Here, Wrote}
+use Rattle.encode.specs.Written.{bytesOf, orEmpty, RoomForBytes, Wrote}
 use Rattle.encode.proofs.Puts.{wrote-one, wrote-then, wrote-as}
 use Rattle.records.specs.Records.{put}
 use Rattle.seek.specs.Seek.{constantBytes, edgeOf}
@@ -70,11 +70,11 @@ empty (x ∷ l) e = absurd (omega arith)
 module _ (T : Tables) (n t : ℕ) where
   pub bytes-size : (c : Const) (k : ℕ) → c ≡ constView T n t → k ≡ carried c → k ≡ min cap (length (constantBytes T n t))
   unfolding constantBytes
-  bytes-size c k e q = q ∙ carried-size c ∙ ap number (only-const T n t c (sizeOf c) e refl) ∙ sized (Rules.constant T n t >>= bytesOnly)
+  bytes-size c k e q = q ∙ carried-size c ∙ ap number (only-const T n t c (sizeOf c) e refl) ∙ sized (ConstantRules.constant T n t >>= bytesOnly)
 
   same-bytes : orEmpty (bytesOf T n t) ≡ constantBytes T n t
   unfolding bytesOf constantBytes
-  same-bytes = or-empty (Rules.constant T n t >>= bytesOnly)
+  same-bytes = or-empty (ConstantRules.constant T n t >>= bytesOnly)
 
   module _ (k : ℕ) (ek : k ≡ min cap (length (constantBytes T n t))) where
     pub node-in : (k ≡ 0 → ⊥) → n < length (T .nodes)
@@ -83,11 +83,11 @@ module _ (T : Tables) (n t : ℕ) where
         (λ q. leb-false (length (T .nodes)) n q)
 
     module _ (at : ℕ) (h : length (constantBytes T n t) ≤ cap) where
-      pub here : (k ≡ 0 → ⊥) → at ≤ 1048576 → Here (bytesOf T n t) (at + 2)
+      pub here : (k ≡ 0 → ⊥) → at ≤ 1048576 → RoomForBytes (bytesOf T n t) (at + 2)
       unfolding bytesOf constantBytes
       here z b = record {
-        is = there (Rules.constant T n t >>= bytesOnly) (λ q. z (let e : k ≡ 0 = omega (arith, ek, q) in e));
-        room = omega (arith, b, h, ap length (or-empty (Rules.constant T n t >>= bytesOnly)));
+        is = there (ConstantRules.constant T n t >>= bytesOnly) (λ q. z (let e : k ≡ 0 = omega (arith, ek, q) in e));
+        room = omega (arith, b, h, ap length (or-empty (ConstantRules.constant T n t >>= bytesOnly)));
       }
 
       module _ (w w1 : List ℕ) (e1 : w1 ≡ put w at (u16 k)) where

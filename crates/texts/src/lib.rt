@@ -7,9 +7,9 @@ ghost use Rattle.rules.specs.File.{nameAt};
 ghost use Rattle.rules.specs.Constant.{encodePrefix};
 ghost use Rattle.rules.specs.Plan as Plan;
 ghost use Rattle.file.specs.Tables.{tablesOf};
-ghost use Rattle.ready.specs.Ready.{Ready};
+ghost use Rattle.accepted_file.specs.AcceptedFile.{AcceptedFile};
 ghost use Rattle.constant.specs.Sizes.{cap, constView};
-ghost use Rattle.encode.specs.Written.{bytesOf, orEmpty, Here, Wrote};
+ghost use Rattle.encode.specs.Written.{bytesOf, orEmpty, RoomForBytes, Wrote};
 ghost use Rattle.seek.specs.Seek.{constantBytes, edgeOf};
 use constant::Const;
 use constant::capped;
@@ -31,7 +31,7 @@ use views::node_at;
 
 // A constant at a type past the file's own, which is Int to the written rules.
 fn past_constant(file: &[u8], index: &[u16], node: usize, ty: usize) -> Const
-    requires { ⌜ Ready (now file) (now index) ⌝ }
+    requires { ⌜ AcceptedFile (now file) (now index) ⌝ }
     requires { ⌜ node < length (tablesOf (now file) .nodes) ⌝ }
     requires { ⌜ length (tablesOf (now file) .types) ≤ ty ⌝ }
     ensures { λ r. ⌜ r ≡ constView (tablesOf (now (file .entry))) node ty ⌝ }
@@ -48,10 +48,10 @@ fn past_constant(file: &[u8], index: &[u16], node: usize, ty: usize) -> Const
 }
 
 fn put_past(file: &[u8], index: &[u16], buf: &mut [u8], at: usize, node: usize, ty: usize) -> usize
-    requires { ⌜ Ready (now file) (now index) ⌝ }
+    requires { ⌜ AcceptedFile (now file) (now index) ⌝ }
     requires { ⌜ node < length (tablesOf (now file) .nodes) ⌝ }
     requires { ⌜ length (tablesOf (now file) .types) ≤ ty ⌝ }
-    requires { ⌜ Here (bytesOf (tablesOf (now file)) node ty) at ⌝ }
+    requires { ⌜ RoomForBytes (bytesOf (tablesOf (now file)) node ty) at ⌝ }
     ensures { λ r. ⌜ Wrote (orEmpty (bytesOf (tablesOf (now (file .entry))) node ty)) at (now (buf .entry)) r (now (buf .exit)) ⌝ }
 {
     let m = folded(file, index, node);
@@ -63,7 +63,7 @@ fn put_past(file: &[u8], index: &[u16], buf: &mut [u8], at: usize, node: usize, 
 }
 
 fn any_constant(file: &[u8], index: &[u16], node: usize, ty: usize) -> Const
-    requires { ⌜ Ready (now file) (now index) ⌝ }
+    requires { ⌜ AcceptedFile (now file) (now index) ⌝ }
     ensures { λ r. ⌜ r ≡ constView (tablesOf (now (file .entry))) node ty ⌝ }
 {
     if node >= count_of(file, index, NODES) {
@@ -78,7 +78,7 @@ fn any_constant(file: &[u8], index: &[u16], node: usize, ty: usize) -> Const
 
 // The length of a constant's bytes, up to the cap; 0 where it has none.
 fn bytes_len(file: &[u8], index: &[u16], node: usize, ty: usize) -> usize
-    requires { ⌜ Ready (now file) (now index) ⌝ }
+    requires { ⌜ AcceptedFile (now file) (now index) ⌝ }
     ensures { λ r. ⌜ r ≡ min cap (length (constantBytes (tablesOf (now (file .entry))) node ty)) ⌝ }
 {
     match any_constant(file, index, node, ty) {
@@ -91,7 +91,7 @@ fn bytes_len(file: &[u8], index: &[u16], node: usize, ty: usize) -> usize
 
 // A constant's bytes after their length.
 fn put_text(file: &[u8], index: &[u16], buf: &mut [u8], at: usize, node: usize, ty: usize) -> usize
-    requires { ⌜ Ready (now file) (now index) ⌝ }
+    requires { ⌜ AcceptedFile (now file) (now index) ⌝ }
     requires { ⌜ (at ≤ 1048576) × (length (constantBytes (tablesOf (now file)) node ty) ≤ cap) ⌝ }
     ensures { λ r. ⌜ Wrote (Plan.text (constantBytes (tablesOf (now (file .entry))) node ty)) at (now (buf .entry)) r (now (buf .exit)) ⌝ }
 {
@@ -109,7 +109,7 @@ fn put_text(file: &[u8], index: &[u16], buf: &mut [u8], at: usize, node: usize, 
 
 // An edge, up to the cap: 0 for none.
 pub fn edge_len(file: &[u8], index: &[u16], e: Edge) -> usize
-    requires { ⌜ Ready (now file) (now index) ⌝ }
+    requires { ⌜ AcceptedFile (now file) (now index) ⌝ }
     ensures { λ r. ⌜ r ≡ min cap (length (Plan.edge (edgeOf (tablesOf (now (file .entry))) e))) ⌝ }
 {
     if e.set {
@@ -126,7 +126,7 @@ fn inclusive(e: Edge) -> u8
 }
 
 pub fn put_edge(file: &[u8], index: &[u16], buf: &mut [u8], at: usize, e: Edge) -> usize
-    requires { ⌜ Ready (now file) (now index) ⌝ }
+    requires { ⌜ AcceptedFile (now file) (now index) ⌝ }
     requires { ⌜ (at ≤ 524288) × (length (Plan.edge (edgeOf (tablesOf (now file)) e)) ≤ cap) ⌝ }
     ensures { λ r. ⌜ Wrote (Plan.edge (edgeOf (tablesOf (now (file .entry))) e)) at (now (buf .entry)) r (now (buf .exit)) ⌝ }
 {
@@ -141,7 +141,7 @@ pub fn put_edge(file: &[u8], index: &[u16], buf: &mut [u8], at: usize, e: Edge) 
 
 // A name's prefix after its length.
 pub fn prefix_text_len(file: &[u8], index: &[u16], name: usize) -> usize
-    requires { ⌜ Ready (now file) (now index) ⌝ }
+    requires { ⌜ AcceptedFile (now file) (now index) ⌝ }
     ensures { λ r. ⌜ (r ≡ length (Plan.text (encodePrefix (nameAt (tablesOf (now (file .entry))) name)))) × (r ≤ 65539) ⌝ }
 {
     if name < count_of(file, index, NAMES) {
@@ -152,7 +152,7 @@ pub fn prefix_text_len(file: &[u8], index: &[u16], name: usize) -> usize
 }
 
 pub fn put_prefix_text(file: &[u8], index: &[u16], buf: &mut [u8], at: usize, name: usize) -> usize
-    requires { ⌜ Ready (now file) (now index) ⌝ }
+    requires { ⌜ AcceptedFile (now file) (now index) ⌝ }
     requires { ⌜ at ≤ 1048576 ⌝ }
     ensures { λ r. ⌜ (
         let form = Plan.text (encodePrefix (nameAt (tablesOf (now (file .entry))) name)) in

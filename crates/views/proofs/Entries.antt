@@ -18,7 +18,7 @@ use Rattle.file.specs.Tables.{Stands, Section, Indexed, tablesOf}
 use Rattle.file.proofs.Readers.{lt-or-le, refused-got, bind-inv, then-got, then-refused, kind-in, kind-out, needs-fixed, needs-first, fixed-bind, fixed-pure, fixed-u16}
 use Rattle.file.proofs.Leaves.{char-cut, char-bad, char-good, typeReaders, fixed-fieldTy, fixed-alternative, fixed-predicate, fixed-hoisted, fixed-constraint, fixed-level}
 use Rattle.file.proofs.Sections.{word-then}
-use Rattle.views.specs.Views.{sizeOf, startAt, run, byteAt, orNone, opKind, textView, typeViews, typeView, predicateMaybe, predicateOption, SeenType, SeenText, hoistedAt, constraintAt, comparisonAt, levelAt}
+use Rattle.views.specs.Views.{sizeOf, startAt, run, byteAt, orNone, opKind, textView, typeViews, typeView, predicateMaybe, predicateOption, SeenType, SeenText, hoistedAt, constraintAt, comparisonAt, levelEntryAt}
 use Rattle.views.specs.declared.Text.{Text}
 use Rattle.views.specs.declared.TypeView.{TypeView}
 use Rattle.views.specs.declared.TypeView.the-variants as Tv
@@ -142,8 +142,8 @@ module _ (f ix : List ℕ) (x : Indexed f ix) (t p : ℕ) where
       let m : p + 4 ≤ length f = needs-room f 4 p (omega arith) (needs-fixed 4 fixed-constraint) (y .reads) in
       (m, value-of (two-in f p _ m) (y .reads))
 
-  pub level-here : t < length (tablesOf f .levels) → p ≡ getD ix (baseOf 9 + 1 + t) 0 → (p + 6 ≤ length f) × (_≡_ {A = File.LevelEntry} (record { predicate = word f p; node = word f (p + 2); address = word f (p + 4) }) (levelAt (tablesOf f) t))
-  unfolding levelAt level
+  pub level-here : t < length (tablesOf f .levels) → p ≡ getD ix (baseOf 9 + 1 + t) 0 → (p + 6 ≤ length f) × (_≡_ {A = File.LevelEntry} (record { predicate = word f p; node = word f (p + 2); address = word f (p + 4) }) (levelEntryAt (tablesOf f) t))
+  unfolding levelEntryAt level
   level-here h e =
       let y = stands-at (x .levels) t p (record { predicate = 0; node = 0; address = 0 }) h e in
       let m : p + 6 ≤ length f = needs-room f 6 p (omega arith) (needs-fixed 6 fixed-level) (y .reads) in

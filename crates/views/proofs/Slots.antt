@@ -13,7 +13,7 @@ use Rattle.file.specs.Tables.{Indexed, tablesOf}
 use Rattle.file.proofs.Readers.{bind-inv, then-got, needs-fixed, needs-first, fixed-bind, fixed-pure, fixed-u16, fixed-optional}
 use Rattle.file.proofs.Leaves.{slotReaders}
 use Rattle.file.proofs.Sections.{word-then}
-use Rattle.views.specs.Views.{byteAt, pathAt, pastPath, orNone, slotViews, slotView, bindingView, fetchedView, slotOf, SlotInside, PathInside, SeenBinding, SeenFetched, bindingAt, fetchedAt}
+use Rattle.views.specs.Views.{byteAt, pathAt, pastPath, orNone, slotViews, slotView, bindingView, fetchedView, slotViewed, SlotInside, PathInside, SeenBinding, SeenFetched, bindingAt, fetchedAt}
 use Rattle.views.specs.declared.SlotView.{SlotView}
 use Rattle.views.specs.declared.SlotView.the-variants as Sv
 use Rattle.views.specs.declared.BindingView.{BindingView}
@@ -81,8 +81,8 @@ binding-here f ix x t p h e =
     record { room = m; value = v .value; rest = v .after; is = value-of refl (v .then); kinded = kind-found f slotReaders (p + 2) (v .value) (v .after) (v .first) }
 
 module _ (f : List ℕ) (p : ℕ) (b : File.Binding) (x : BindingRead f p b) where
-  pub seen-binding : (v : BindingView) → v .name ≡ word f p → slotOf f (v .slot) ≡ x .value → SlotInside f (v .slot) → SeenBinding f b v
-  seen-binding v n s i = record { is = ap (λ (j : ℕ). record { name = j; slot = slotOf f (v .slot) }) n ∙ ap (λ (s : Slot). record { name = word f p; slot = s }) s ∙ x .is; inside = i }
+  pub seen-binding : (v : BindingView) → v .name ≡ word f p → slotViewed f (v .slot) ≡ x .value → SlotInside f (v .slot) → SeenBinding f b v
+  seen-binding v n s i = record { is = ap (λ (j : ℕ). record { name = j; slot = slotViewed f (v .slot) }) n ∙ ap (λ (s : Slot). record { name = word f p; slot = s }) s ∙ x .is; inside = i }
 
   slot-is : (k : ℕ) → getD f (p + 2) 0 ≡ k → readAt f (getD slotReaders k (refuse 5)) (p + 2 + 1) ≡ got (x .value) (x .rest)
   slot-is k g = kind-is f slotReaders (p + 2) k (x .value) (x .rest) (x .kinded) g

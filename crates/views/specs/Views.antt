@@ -249,16 +249,16 @@ nodeOf f (Nv.Fact p n) = Node.Fact (p .0) n
 nodeOf f Nv.Arith = Node.Arith
 nodeOf f Nv.Error = Node.Error
 
-abbrev pub slotOf : List ℕ → SlotView → Slot
-slotOf f (Sv.Row a p) = Slot.Row (a .0) (predicateOption p)
-slotOf f (Sv.Key a t) = Slot.Key (a .0) t
-slotOf f (Sv.Derived a) = Slot.Derived (a .0)
-slotOf f (Sv.Field a at t) = Slot.Field (a .0) (pathAt f at) t
-slotOf f (Sv.Value a t) = Slot.Value (a .0) t
-slotOf f (Sv.Const n) = Slot.Const n
+abbrev pub slotViewed : List ℕ → SlotView → Slot
+slotViewed f (Sv.Row a p) = Slot.Row (a .0) (predicateOption p)
+slotViewed f (Sv.Key a t) = Slot.Key (a .0) t
+slotViewed f (Sv.Derived a) = Slot.Derived (a .0)
+slotViewed f (Sv.Field a at t) = Slot.Field (a .0) (pathAt f at) t
+slotViewed f (Sv.Value a t) = Slot.Value (a .0) t
+slotViewed f (Sv.Const n) = Slot.Const n
 
 abbrev pub bindingOf : List ℕ → BindingView → File.Binding
-bindingOf f v = record { name = v .name; slot = slotOf f (v .slot) }
+bindingOf f v = record { name = v .name; slot = slotViewed f (v .slot) }
 
 -- what a view points at lies within the file
 abbrev pub TypeInside : List ℕ → TypeView → Type 0
@@ -336,5 +336,5 @@ constraintAt T k = getD (T .constraints) k (record { name = 0; node = 0 })
 unfoldable pub comparisonAt : Tables → ℕ → File.Comparison
 comparisonAt T k = getD (T .comparisons) k (record { op = File.CompareOp.Lt; left = 0; right = 0 })
 
-unfoldable pub levelAt : Tables → ℕ → File.LevelEntry
-levelAt T k = getD (T .levels) k (record { predicate = 0; node = 0; address = 0 })
+unfoldable pub levelEntryAt : Tables → ℕ → File.LevelEntry
+levelEntryAt T k = getD (T .levels) k (record { predicate = 0; node = 0; address = 0 })

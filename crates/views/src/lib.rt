@@ -6,7 +6,7 @@ ghost use Rattle.rules.specs.File.{nameAt, typeAt, predicateAt, nodeAt};
 ghost use Rattle.file.specs.Sections as Sections;
 ghost use Rattle.file.specs.Steps.{word, sectionCount, limitOf, indexLength};
 ghost use Rattle.file.specs.Tables.{Indexed, tablesOf};
-ghost use Rattle.views.specs.Views.{sizeOf, startAt, pastPath, long, orNone, anchorAt, opKind, opOf, typeOption, predicateMaybe, textView, typeView, nodeView, bindingView, fetchedView, fieldAt, alternativeAt, patternAt, fieldOf, alternativeOf, patternOf, predicateOf, bindingAt, hoistedAt, fetchedAt, constraintAt, comparisonAt, levelAt, hoistedOf, constraintOf, comparisonOf, levelOf, PathInside, SeenType, SeenNode, SeenBinding, SeenFetched, SeenText};
+ghost use Rattle.views.specs.Views.{sizeOf, startAt, pastPath, long, orNone, anchorAt, opKind, opOf, typeOption, predicateMaybe, textView, typeView, nodeView, bindingView, fetchedView, fieldAt, alternativeAt, patternAt, fieldOf, alternativeOf, patternOf, predicateOf, bindingAt, hoistedAt, fetchedAt, constraintAt, comparisonAt, levelEntryAt, hoistedOf, constraintOf, comparisonOf, levelOf, PathInside, SeenType, SeenNode, SeenBinding, SeenFetched, SeenText};
 use file::BINDINGS;
 use file::COMPARISONS;
 use file::CONSTRAINTS;
@@ -462,7 +462,7 @@ pub fn comparison_at(file: &[u8], index: &[u16], k: usize) -> Comparison
 pub fn level_at(file: &[u8], index: &[u16], k: usize) -> LevelEntry
     requires { ⌜ Indexed (now file) (now index) ⌝ }
     requires { ⌜ k < length (tablesOf (now file) .levels) ⌝ }
-    ensures { λ r. ⌜ levelOf r ≡ levelAt (tablesOf (now (file .entry))) k ⌝ }
+    ensures { λ r. ⌜ levelOf r ≡ levelEntryAt (tablesOf (now (file .entry))) k ⌝ }
 {
     let p = start_of(index, LEVELS, k);
     let predicate = PredicateId(half_at(file, p));

@@ -1,2 +1,1 @@
--- What the cycle's members give.
-pub mod Walks
+pub mod Step

@@ -1,416 +1,189 @@
-// The walk of a pattern against a type. Each round of the four descends one type, whose number falls.
+// A level's walk by value: the lists' ends and the level, with the operations of the written walk.
 ghost use mathlib.Core.Path.{_≡_};
-ghost use Prim.Native.Nat.{_<_};
-ghost use lib.ListN.{length};
-ghost use Rattle.rules.specs.File.{nodeAt, fieldPath};
-ghost use Rattle.rules.specs.Walk as Rules;
-ghost use Rattle.state.specs.Ops.{ops, skip};
-ghost use Rattle.file.specs.Tables.{tablesOf};
+ghost use mathlib.Core.List.{List};
+ghost use Prim.Native.Nat.{ℕ};
+ghost use Rattle.rules.specs.File.{Tables};
+ghost use Rattle.rules.specs.Events.{Narrowing};
+ghost use Rattle.state.specs.State.{State};
+ghost use Rattle.state.specs.Ops as Ops;
 ghost use Rattle.paths.specs.Paths.{pathOf};
-ghost use Rattle.slots.specs.Slots.{slotOf, Roomy};
-ghost use Rattle.ready.specs.Ready.{Ready};
-ghost use Rattle.step.specs.Step.{walkState};
-ghost use Rattle.begin.specs.Pieces.{Fits, patternsOf, fieldsFor};
-ghost use Rattle.begin.specs.Begin.{injectAt};
-ghost use Rattle.walk.specs.Walks.{Walks, Gives, fieldsOf, wholeField};
-use begin::Choice;
-use begin::Next;
-use begin::begin;
-use begin::choose;
-use begin::meet;
-use begin::pairs_of;
-use begin::piece_at;
-use begin::pieces;
-use entries::node_of;
-use lists::lookup;
+ghost use Rattle.slots.specs.Slots.{slotOf};
+ghost use Rattle.lists.specs.Lists.{codeOf};
+ghost use Rattle.walk.specs.Step.{walkState, listsOf, withLists, diagnosed};
+use lists::Code;
+use lists::Ends;
+use lists::Lists;
+use lists::bind;
+use lists::constrained;
+use lists::report;
+use narrow::tagged;
 use paths::Address;
 use paths::FieldPath;
-use resolve::field_slot;
-use resolve::resolve;
+use seek::SeekBuilder;
 use slots::Slot;
-use slots::SlotKind;
-use step::Walk;
-use tables::Found;
-use tables::Run;
-use tables::record_ty;
-use views::FieldTy;
-use views::NodeView;
-use views::field_ty_at;
 
-// One key field: seek, splice, residual, or capture.
-pub fn field(
-    file: &[u8],
-    index: &[u16],
-    work: &mut [u8],
-    plan: &mut [u8],
-    node: usize,
-    ty: usize,
-    address: Address,
-    path: FieldPath,
-    w: Walk,
-) -> Walk
-    requires { ⌜ Ready (now file) (now index) ⌝ }
-    requires { ⌜ Fits (tablesOf (now file)) path ty ⌝ }
-    ensures { λ r. ⌜ (
-        let T = tablesOf (now (file .entry)) in
-        let before = walkState T w (now (work .entry)) (now (plan .entry)) in
-        let after = walkState T r (now (work .exit)) (now (plan .exit)) in
-        Walks T (address .0) node ty (pathOf path) before after
-        ) ⌝ }
-{
-    let b = begin(file, index, work, plan, node, ty, address, path, w);
-    let next = b.next;
-    match next {
-        Next::Done => b.walk,
-        Next::Matched => matched(
-            file,
-            index,
-            work,
-            plan,
-            node,
-            b.slot,
-            ty,
-            address,
-            path,
-            b.walk,
-        ),
-        Next::Partial => partial(file, index, work, plan, node, ty, address, path, b.walk),
-        Next::Inject => inject(file, index, work, plan, node, ty, address, path, b.walk),
-    }
+// Whether the plan is too long is the level's word; the lists beside it are where each of them ends.
+pub struct Walk {
+    pub ends: Ends,
+    pub level: SeekBuilder,
 }
 
-// A field matched against a slot. A constant that does not determine the field's bytes is matched piece by piece.
-pub fn matched(
-    file: &[u8],
-    index: &[u16],
-    work: &mut [u8],
-    plan: &mut [u8],
-    node: usize,
-    slot: Slot,
-    ty: usize,
-    address: Address,
-    path: FieldPath,
-    w: Walk,
-) -> Walk
-    requires { ⌜ Ready (now file) (now index) ⌝ }
-    requires { ⌜ Fits (tablesOf (now file)) path ty ⌝ }
-    ensures { λ r. ⌜ (
-        let T = tablesOf (now (file .entry)) in
-        let before = walkState T w (now (work .entry)) (now (plan .entry)) in
-        let after = walkState T r (now (work .exit)) (now (plan .exit)) in
-        Gives T (address .0) ty
-        (λ below. Rules.matched (ops T) T (address .0) below node (slotOf slot) ty (pathOf path) before)
-        after
-        ) ⌝ }
-{
-    let m = meet(file, index, work, plan, node, slot, ty, address, path, w);
-    let opens = m.opens;
-    let Found::At(n) = opens else {
-        return m.walk;
-    };
-    partial(file, index, work, plan, n, ty, address, path, m.walk)
-}
-
-// A record pattern that gives some of its fields: building falls, and each piece is matched one step deeper.
-pub fn partial(
-    file: &[u8],
-    index: &[u16],
-    work: &mut [u8],
-    plan: &mut [u8],
-    node: usize,
-    ty: usize,
-    address: Address,
-    path: FieldPath,
-    w: Walk,
-) -> Walk
-    requires { ⌜ Ready (now file) (now index) ⌝ }
-    requires { ⌜ Fits (tablesOf (now file)) path ty ⌝ }
-    ensures { λ r. ⌜ (
-        let T = tablesOf (now (file .entry)) in
-        let before = walkState T w (now (work .entry)) (now (plan .entry)) in
-        let after = walkState T r (now (work .exit)) (now (plan .exit)) in
-        Gives T (address .0) ty
-        (λ below. Rules.partial (ops T) T (address .0) below node ty (pathOf path) before)
-        after
-        ) ⌝ }
-{
-    let count = pieces(file, index, node, ty);
-    let mut l = w.skip();
-    let mut i: usize = 0;
-    while i < count {
-        let p = piece_at(file, index, node, ty, i);
-        let pattern = p.pattern;
-        let step = i as u32;
-        i += 1;
-        if let Found::At(n) = pattern {
-            let q = path.then(step);
-            l = field(file, index, work, plan, n, p.ty, address, q, l);
+impl Walk {
+    // The lists, for an append or a read.
+    pub fn lists(self) -> Lists
+        ensures { λ r. ⌜ r ≡ listsOf self ⌝ }
+    {
+        let level = self.level;
+        let ends = self.ends;
+        Lists {
+            over: level.over,
+            ends,
         }
     }
-    l
-}
 
-// A union value: tag, payload, closer, unless all of it is constant.
-pub fn inject(
-    file: &[u8],
-    index: &[u16],
-    work: &mut [u8],
-    plan: &mut [u8],
-    node: usize,
-    ty: usize,
-    address: Address,
-    path: FieldPath,
-    w: Walk,
-) -> Walk
-    requires { ⌜ Ready (now file) (now index) ⌝ }
-    requires { ⌜ Fits (tablesOf (now file)) path ty ⌝ }
-    ensures { λ r. ⌜ (
-        let T = tablesOf (now (file .entry)) in
-        let before = walkState T w (now (work .entry)) (now (plan .entry)) in
-        let after = walkState T r (now (work .exit)) (now (plan .exit)) in
-        Gives T (address .0) ty
-        (λ below. injectAt T (address .0) below node ty (pathOf path) before)
-        after
-        ) ⌝ }
-{
-    let c = choose(file, index, work, plan, node, ty, path, w);
-    let open = c.walk;
-    let choice = c.choice;
-    let Choice::Payload(disc, n, t) = choice else {
-        return open;
-    };
-    let level = open.level;
-    let q = path.payload(disc);
-    let tagged = open.tag(path, disc, plan);
-    let walked = field(file, index, work, plan, n, t, address, q, tagged);
-    walked.closer(level.building, plan)
-}
+    // The walk with the lists as an append or a read handed them back.
+    pub fn listed(self, lists: Lists) -> Walk
+        ensures { λ r. ⌜ r ≡ withLists self lists ⌝ }
+    {
+        let mut level = self.level;
+        level.over = lists.over;
+        let ends = lists.ends;
+        Walk { ends, level }
+    }
 
-// A Record against a Record type: a field that no pattern names closes the seek.
-fn record_key(
-    file: &[u8],
-    index: &[u16],
-    work: &mut [u8],
-    plan: &mut [u8],
-    node: usize,
-    ty: usize,
-    address: Address,
-    w: Walk,
-) -> Walk
-    requires { ⌜ Ready (now file) (now index) ⌝ }
-    requires { ⌜ ty < length (tablesOf (now file) .types) ⌝ }
-    ensures { λ r. ⌜ (
-        let T = tablesOf (now (file .entry)) in
-        let before = walkState T w (now (work .entry)) (now (plan .entry)) in
-        let after = walkState T r (now (work .exit)) (now (plan .exit)) in
-        let field = Rules.field (ops T) T (address .0) in
-        after ≡ Rules.eachField field skip fieldPath (patternsOf T node) 0 (fieldsFor T node ty) before
-        ) ⌝ }
-{
-    let count = pieces(file, index, node, ty);
-    let mut l = w;
-    let mut i: usize = 0;
-    while i < count {
-        let p = piece_at(file, index, node, ty, i);
-        let pattern = p.pattern;
-        let path = FieldPath::field(i as u16);
-        i += 1;
-        if let Found::At(n) = pattern {
-            l = field(file, index, work, plan, n, p.ty, address, path, l);
-        } else {
-            l = l.skip();
+    // The walk with the level as a placement handed it back.
+    pub fn placed(self, level: SeekBuilder) -> Walk
+        ensures { λ r. ⌜ r ≡ record { ends = self .ends; level = level } ⌝ }
+    {
+        let ends = self.ends;
+        Walk { ends, level }
+    }
+
+    // Building falls.
+    pub fn skip(self) -> Walk
+        ensures { λ r. ⌜ (
+            (T : Tables) (w p : List ℕ) →
+            let before = walkState T self w p in
+            let after = walkState T r w p in
+            after ≡ Ops.skip before
+            ) ⌝ }
+    {
+        let level = self.level;
+        self.placed(level.skip())
+    }
+
+    // A narrowing to a union's alternative.
+    pub fn tag(self, path: FieldPath, disc: u32, plan: &mut [u8]) -> Walk
+        ensures { λ r. ⌜ (
+            (T : Tables) (w : List ℕ) →
+            let before = walkState T self w (now (plan .entry)) in
+            let after = walkState T r w (now (plan .exit)) in
+            after ≡ Ops.narrow (pathOf path) (Narrowing.Tag disc) before
+            ) ⌝ }
+    {
+        let l = tagged(disc, path, self.level, plan);
+        self.placed(l)
+    }
+
+    // A narrowing to the field of a register.
+    pub fn register_field(
+        self,
+        path: FieldPath,
+        address: Address,
+        at: FieldPath,
+        plan: &mut [u8],
+    ) -> Walk
+        ensures { λ r. ⌜ (
+            (T : Tables) (w : List ℕ) →
+            let before = walkState T self w (now (plan .entry)) in
+            let after = walkState T r w (now (plan .exit)) in
+            after ≡ Ops.narrow (pathOf path) (Narrowing.RegisterField (address .0) (pathOf at)) before
+            ) ⌝ }
+    {
+        let level = self.level;
+        let l = level.register_field(path, address, at, plan);
+        self.placed(l)
+    }
+
+    // A narrowing to the fact of a register.
+    pub fn fact_id(self, path: FieldPath, address: Address, plan: &mut [u8]) -> Walk
+        ensures { λ r. ⌜ (
+            (T : Tables) (w : List ℕ) →
+            let before = walkState T self w (now (plan .entry)) in
+            let after = walkState T r w (now (plan .exit)) in
+            after ≡ Ops.narrow (pathOf path) (Narrowing.FactId (address .0)) before
+            ) ⌝ }
+    {
+        let level = self.level;
+        let l = level.fact_id(path, address, plan);
+        self.placed(l)
+    }
+
+    // The end of an alternative. `held` says whether the level built before the tag, where the state was `opening`.
+    pub fn closer(self, held: bool, plan: &mut [u8]) -> Walk
+        ensures { λ r. ⌜ (
+            (T : Tables) (w : List ℕ) (opening : State) → opening .level .building ≡ held →
+            let before = walkState T self w (now (plan .entry)) in
+            let after = walkState T r w (now (plan .exit)) in
+            after ≡ Ops.closer opening before
+            ) ⌝ }
+    {
+        let level = self.level;
+        let l = level.closer(held, plan);
+        self.placed(l)
+    }
+
+    // A name bound to a slot.
+    pub fn bind(self, work: &mut [u8], name: usize, slot: Slot) -> Walk
+        ensures { λ r. ⌜ (
+            (T : Tables) (p : List ℕ) →
+            let before = walkState T self (now (work .entry)) p in
+            let after = walkState T r (now (work .exit)) p in
+            after ≡ Ops.bind name (slotOf slot) before
+            ) ⌝ }
+    {
+        let lists = bind(work, self.lists(), name, slot);
+        self.listed(lists)
+    }
+
+    // A name that patterns constrain.
+    pub fn constrained(self, work: &mut [u8], name: usize) -> Walk
+        ensures { λ r. ⌜ (
+            (T : Tables) (p : List ℕ) →
+            let before = walkState T self (now (work .entry)) p in
+            let after = walkState T r (now (work .exit)) p in
+            after ≡ Ops.constrained name before
+            ) ⌝ }
+    {
+        let lists = constrained(work, self.lists(), name);
+        self.listed(lists)
+    }
+
+    // A diagnostic, with the level as it is.
+    pub fn report(self, work: &mut [u8], node: usize, code: Code) -> Walk
+        ensures { λ r. ⌜ (
+            (T : Tables) (p : List ℕ) →
+            let before = walkState T self (now (work .entry)) p in
+            let after = walkState T r (now (work .exit)) p in
+            after ≡ Ops.report node (codeOf code) before
+            ) ⌝ }
+    {
+        let lists = report(work, self.lists(), node, code);
+        self.listed(lists)
+    }
+
+    // A diagnostic. `falls` says whether building falls with it.
+    pub fn diagnose(self, work: &mut [u8], node: usize, code: Code, falls: bool) -> Walk
+        ensures { λ r. ⌜ (
+            (T : Tables) (p : List ℕ) →
+            let before = walkState T self (now (work .entry)) p in
+            let after = walkState T r (now (work .exit)) p in
+            after ≡ diagnosed node (codeOf code) falls before
+            ) ⌝ }
+    {
+        if falls {
+            return self.skip().report(work, node, code);
         }
+        self.report(work, node, code)
     }
-    l
-}
-
-// One field of a slot, matched against the key's field of its name.
-fn whole_field(
-    file: &[u8],
-    index: &[u16],
-    work: &mut [u8],
-    plan: &mut [u8],
-    node: usize,
-    slot: Slot,
-    field: FieldTy,
-    address: Address,
-    path: FieldPath,
-    w: Walk,
-) -> Walk
-    requires { ⌜ Ready (now file) (now index) ⌝ }
-    requires { ⌜ Roomy (tablesOf (now file)) (slotOf slot) ⌝ }
-    requires { ⌜ Fits (tablesOf (now file)) path (field .ty) ⌝ }
-    ensures { λ r. ⌜ (
-        let T = tablesOf (now (file .entry)) in
-        let before = walkState T w (now (work .entry)) (now (plan .entry)) in
-        let after = walkState T r (now (work .exit)) (now (plan .exit)) in
-        after ≡ wholeField T (address .0) node (slotOf slot) (field .name) (field .ty) (pathOf path) before
-        ) ⌝ }
-{
-    let a = field_slot(file, index, work, node, slot, field.name, w.lists());
-    let l = w.listed(a.lists);
-    if a.some {
-        return matched(
-            file,
-            index,
-            work,
-            plan,
-            node,
-            a.slot,
-            field.ty,
-            address,
-            path,
-            l,
-        );
-    }
-    l.skip()
-}
-
-fn whole_fields(
-    file: &[u8],
-    index: &[u16],
-    work: &mut [u8],
-    plan: &mut [u8],
-    node: usize,
-    slot: Slot,
-    ty: usize,
-    address: Address,
-    w: Walk,
-) -> Walk
-    requires { ⌜ Ready (now file) (now index) ⌝ }
-    requires { ⌜ ty < length (tablesOf (now file) .types) ⌝ }
-    requires { ⌜ Roomy (tablesOf (now file)) (slotOf slot) ⌝ }
-    ensures { λ r. ⌜ (
-        let T = tablesOf (now (file .entry)) in
-        let before = walkState T w (now (work .entry)) (now (plan .entry)) in
-        let after = walkState T r (now (work .exit)) (now (plan .exit)) in
-        after ≡ Rules.wholeFields (ops T) T (address .0) node (slotOf slot) 0 (fieldsOf T ty) before
-        ) ⌝ }
-{
-    let Run::Of(n, at) = record_ty(file, index, ty) else {
-        return w;
-    };
-    let mut l = w;
-    let mut i: usize = 0;
-    while i < n {
-        let f = field_ty_at(file, at, i);
-        let path = FieldPath::field(i as u16);
-        l = whole_field(file, index, work, plan, node, slot, f, address, path, l);
-        i += 1;
-    }
-    l
-}
-
-// A read: resolved once, then each of its fields in turn.
-fn whole_read(
-    file: &[u8],
-    index: &[u16],
-    work: &mut [u8],
-    plan: &mut [u8],
-    node: usize,
-    ty: usize,
-    address: Address,
-    w: Walk,
-) -> Walk
-    requires { ⌜ Ready (now file) (now index) ⌝ }
-    requires { ⌜ ty < length (tablesOf (now file) .types) ⌝ }
-    ensures { λ r. ⌜ (
-        let T = tablesOf (now (file .entry)) in
-        let before = walkState T w (now (work .entry)) (now (plan .entry)) in
-        let after = walkState T r (now (work .exit)) (now (plan .exit)) in
-        after ≡ Rules.wholeRead (ops T) T (address .0) node (fieldsOf T ty) before
-        ) ⌝ }
-{
-    let a = resolve(file, index, work, node, w.lists());
-    let l = w.listed(a.lists);
-    if a.some {
-        return whole_fields(file, index, work, plan, node, a.slot, ty, address, l);
-    }
-    l.skip()
-}
-
-// A new variable binds the whole key, which closes the seek as a bound field does.
-fn whole_variable(
-    file: &[u8],
-    index: &[u16],
-    work: &mut [u8],
-    plan: &mut [u8],
-    name: usize,
-    node: usize,
-    ty: usize,
-    address: Address,
-    w: Walk,
-) -> Walk
-    requires { ⌜ Ready (now file) (now index) ⌝ }
-    requires { ⌜ ty < length (tablesOf (now file) .types) ⌝ }
-    ensures { λ r. ⌜ (
-        let T = tablesOf (now (file .entry)) in
-        let before = walkState T w (now (work .entry)) (now (plan .entry)) in
-        let after = walkState T r (now (work .exit)) (now (plan .exit)) in
-        after ≡ Rules.wholeVariable (ops T) T (address .0) name node ty (fieldsOf T ty) before
-        ) ⌝ }
-{
-    let found = lookup(file, index, work, w.lists(), name);
-    if found.some {
-        return whole_read(file, index, work, plan, node, ty, address, w);
-    }
-    let slot = Slot::plain(SlotKind::Key(address, ty));
-    w.skip().bind(work, name, slot)
-}
-
-// A whole record key in one pattern.
-fn whole_key(
-    file: &[u8],
-    index: &[u16],
-    work: &mut [u8],
-    plan: &mut [u8],
-    node: usize,
-    ty: usize,
-    address: Address,
-    w: Walk,
-) -> Walk
-    requires { ⌜ Ready (now file) (now index) ⌝ }
-    requires { ⌜ ty < length (tablesOf (now file) .types) ⌝ }
-    ensures { λ r. ⌜ (
-        let T = tablesOf (now (file .entry)) in
-        let before = walkState T w (now (work .entry)) (now (plan .entry)) in
-        let after = walkState T r (now (work .exit)) (now (plan .exit)) in
-        after ≡ Rules.wholeKey (ops T) T (address .0) (nodeAt T node) node ty (fieldsOf T ty) before
-        ) ⌝ }
-{
-    match node_of(file, index, node) {
-        NodeView::Var(x) => whole_variable(file, index, work, plan, x, node, ty, address, w),
-        NodeView::Wildcard => w.skip(),
-        _ => whole_read(file, index, work, plan, node, ty, address, w),
-    }
-}
-
-// A level's key pattern, in the order of the type's fields, which is that of its bytes.
-pub fn key(
-    file: &[u8],
-    index: &[u16],
-    work: &mut [u8],
-    plan: &mut [u8],
-    node: usize,
-    ty: usize,
-    address: Address,
-    w: Walk,
-) -> Walk
-    requires { ⌜ Ready (now file) (now index) ⌝ }
-    requires { ⌜ ty < length (tablesOf (now file) .types) ⌝ }
-    ensures { λ r. ⌜ (
-        let T = tablesOf (now (file .entry)) in
-        let before = walkState T w (now (work .entry)) (now (plan .entry)) in
-        let after = walkState T r (now (work .exit)) (now (plan .exit)) in
-        after ≡ Rules.key (ops T) T (address .0) node ty before
-        ) ⌝ }
-{
-    let Run::Of(_, _) = record_ty(file, index, ty) else {
-        let path = FieldPath::field(0);
-        return field(file, index, work, plan, node, ty, address, path, w);
-    };
-    if let Run::Of(_, _) = pairs_of(file, index, node) {
-        return record_key(file, index, work, plan, node, ty, address, w);
-    }
-    whole_key(file, index, work, plan, node, ty, address, w)
 }

@@ -1,7 +1,7 @@
 use mathlib.Core.Path.{_∙_}
 use Prim.Native.Nat.{_-_}
 use Rattle.rules.specs.Checks.{slotConstant}
-use Rattle.numbers.proofs.Seen.{by-slot}
+use Rattle.record_checks.proofs.Seen.{by-slot}
 use Rattle.checks.proofs.Fill.{slot-in, const-node}
 use borrow.Author.Needs.{needs}
 use Rattle.checks.proofs.binding_constant.Statement.{statement}

@@ -4,7 +4,7 @@ use denote.Ref.{now}
 use Rattle.file.specs.Tables.{tablesOf}
 use Rattle.rules.specs.Checks.{slotFits}
 use Rattle.views.specs.Views.{PathInside}
-use Rattle.numbers.proofs.Seen.{by-slot}
+use Rattle.record_checks.proofs.Seen.{by-slot}
 use Rattle.checks.proofs.Fill.{slot-in, slot-inside, field-type, fits-field, depth-few}
 use borrow.Author.Needs.{needs}
 use Rattle.checks.proofs.binding_fits.Statement.{statement}

@@ -17,8 +17,8 @@ use Rattle.checks.proofs.check.Lts as lts
 use Rattle.checks.proofs.fill_constants.Reads as fill-constants-reads
 use Rattle.checks.proofs.fill_depths.Reads as fill-depths-reads
 use Rattle.checks.proofs.later_checks.Reads as later-checks-reads
-use Rattle.numbers.proofs.children_lower.Reads as children-lower-reads
-use Rattle.numbers.proofs.numbers_in.Reads as numbers-in-reads
+use Rattle.record_checks.proofs.children_lower.Reads as children-lower-reads
+use Rattle.record_checks.proofs.numbers_in.Reads as numbers-in-reads
 
 numbers-in-requires : tie.Need-numbers-in-requires
 numbers-in-requires c κs = c .before .before .before .pre

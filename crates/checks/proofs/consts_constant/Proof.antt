@@ -7,8 +7,8 @@ use borrow.Author.Tests.{not-true, not-false}
 use Rattle.file.specs.Tables.{tablesOf}
 use Rattle.rules.specs.Checks.{slotConstant, constsConstant}
 use Rattle.views.specs.Views.{bindingAt}
-use Rattle.numbers.proofs.Every.{every, every-none, every-yes, every-no}
-use Rattle.numbers.proofs.Seen.{every-start}
+use Rattle.record_checks.proofs.Every.{every, every-none, every-yes, every-no}
+use Rattle.record_checks.proofs.Seen.{every-start}
 use Rattle.checks.proofs.Fill.{consts-every}
 use Rattle.checks.proofs.consts_constant.Statement.{statement}
 use Rattle.checks.proofs.consts_constant.Tie as tie

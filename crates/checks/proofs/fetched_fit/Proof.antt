@@ -8,8 +8,8 @@ use Rattle.file.specs.Tables.{tablesOf}
 use Rattle.rules.specs.Limits.{stepLimit}
 use Rattle.checks.specs.Checked.{fetchedFit}
 use Rattle.views.specs.Views.{fetchedAt, PathInside}
-use Rattle.numbers.proofs.Every.{every, every-none, every-yes, every-no}
-use Rattle.numbers.proofs.Seen.{every-start}
+use Rattle.record_checks.proofs.Every.{every, every-none, every-yes, every-no}
+use Rattle.record_checks.proofs.Seen.{every-start}
 use Rattle.checks.proofs.Fill.{fetched-every, fetched-steps, steps-low, steps-high}
 use Rattle.checks.proofs.fetched_fit.Statement.{statement}
 use Rattle.checks.proofs.fetched_fit.Tie as tie

@@ -10,7 +10,7 @@ use Rattle.checks.proofs.children_once.Reads as children-once-reads
 use Rattle.checks.proofs.consts_constant.Reads as consts-constant-reads
 use Rattle.checks.proofs.paths_fit.Reads as paths-fit-reads
 use Rattle.checks.proofs.types_shallow.Reads as types-shallow-reads
-use Rattle.numbers.proofs.types_distinct.Reads as types-distinct-reads
+use Rattle.record_checks.proofs.types_distinct.Reads as types-distinct-reads
 
 types-distinct-requires : tie.Need-types-distinct-requires
 types-distinct-requires c κs = c .before .before .pre .filled .indexed

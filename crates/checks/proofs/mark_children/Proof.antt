@@ -1,7 +1,7 @@
 use native.Mathlib.Omega.{arith}
 use Prim.Native.Nat.{_-_}
 use Rattle.rules.specs.File.{childNodes}
-use Rattle.numbers.proofs.Seen.{by-node, node-as, words-4}
+use Rattle.record_checks.proofs.Seen.{by-node, node-as, words-4}
 use Rattle.checks.proofs.Views.{patterns-are, lower-run, single-low}
 use Rattle.checks.proofs.Verdicts.{none-marked, marked-as}
 use borrow.Author.Needs.{needs}

@@ -10,8 +10,8 @@ use Rattle.rules.specs.Base.{all}
 use Rattle.file.specs.Steps.{word}
 use Rattle.views.specs.Views.{run}
 use Rattle.checks.specs.Checked.{once, marked}
-use Rattle.numbers.specs.Numbers.{Words}
-use Rattle.numbers.proofs.Every.{words-first, words-next}
+use Rattle.record_checks.specs.Numbers.{Words}
+use Rattle.record_checks.proofs.Every.{words-first, words-next}
 use Rattle.checks.proofs.Fill.{run-low}
 use Rattle.checks.proofs.Marks.{run-end, run-on, run-stop}
 use Rattle.checks.proofs.mark_run.Statement.{statement}

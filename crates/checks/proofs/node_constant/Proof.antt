@@ -2,7 +2,7 @@ use mathlib.Core.Path.{_∙_}
 use native.Mathlib.Omega.{arith}
 use Prim.Native.Nat.{_-_}
 use Rattle.rules.specs.File.{constantOf}
-use Rattle.numbers.proofs.Seen.{by-node, node-as, words-4}
+use Rattle.record_checks.proofs.Seen.{by-node, node-as, words-4}
 use Rattle.checks.proofs.Bottom.{node-lower}
 use Rattle.checks.proofs.Fill.{nodes-few}
 use Rattle.checks.proofs.Views.{patterns-are, lower-run, constant-record}

@@ -3,7 +3,7 @@ use Prim.Native.Nat.{_-_}
 use borrow.Author.Tests.{not-true, not-false}
 use Rattle.rules.specs.Checks.{pathsFit}
 use Rattle.checks.specs.Checked.{slotsFit, fetchedFit}
-use Rattle.numbers.proofs.Every.{both-false, both-then}
+use Rattle.record_checks.proofs.Every.{both-false, both-then}
 use borrow.Author.Needs.{needs}
 use Rattle.checks.proofs.paths_fit.Statement.{statement}
 use Rattle.checks.proofs.paths_fit.Tie as tie

@@ -8,8 +8,8 @@ use Rattle.file.specs.Tables.{tablesOf}
 use Rattle.rules.specs.Checks.{slotFits}
 use Rattle.checks.specs.Checked.{slotsFit}
 use Rattle.views.specs.Views.{bindingAt}
-use Rattle.numbers.proofs.Every.{every, every-none, every-yes, every-no}
-use Rattle.numbers.proofs.Seen.{every-start}
+use Rattle.record_checks.proofs.Every.{every, every-none, every-yes, every-no}
+use Rattle.record_checks.proofs.Seen.{every-start}
 use Rattle.checks.proofs.Fill.{slots-every}
 use Rattle.checks.proofs.slots_fit.Statement.{statement}
 use Rattle.checks.proofs.slots_fit.Tie as tie

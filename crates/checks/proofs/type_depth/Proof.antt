@@ -1,7 +1,7 @@
 use native.Mathlib.Omega.{arith}
 use Prim.Native.Nat.{_-_}
 use Rattle.rules.specs.File.{depthOf, childTypes, deepest}
-use Rattle.numbers.proofs.Seen.{by-type, type-as, words-4, words-8}
+use Rattle.record_checks.proofs.Seen.{by-type, type-as, words-4, words-8}
 use Rattle.checks.proofs.Bottom.{type-lower}
 use Rattle.checks.proofs.Fill.{types-few}
 use Rattle.checks.proofs.Views.{fields-are, alternatives-are, lower-run, depth-is}

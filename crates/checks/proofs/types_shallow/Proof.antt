@@ -8,8 +8,8 @@ use Rattle.file.specs.Tables.{tablesOf}
 use Rattle.rules.specs.Limits.{depthLimit}
 use Rattle.rules.specs.File.{depth}
 use Rattle.rules.specs.Checks.{typesShallow}
-use Rattle.numbers.proofs.Every.{every, every-none, every-yes, every-no}
-use Rattle.numbers.proofs.Seen.{every-start}
+use Rattle.record_checks.proofs.Every.{every, every-none, every-yes, every-no}
+use Rattle.record_checks.proofs.Seen.{every-start}
 use Rattle.checks.proofs.Fill.{shallow-every, steps-low, steps-high}
 use Rattle.checks.proofs.types_shallow.Statement.{statement}
 use Rattle.checks.proofs.types_shallow.Tie as tie

@@ -9,10 +9,10 @@ use Rattle.constrain.proofs.constrain.Lts as lts
 use Rattle.constrain.proofs.constrain_rank.Reads as constrain-rank-reads
 use Rattle.constrain.proofs.is_constrained.Reads as is-constrained-reads
 use Rattle.seek.proofs.SeekBuilder.bound.Reads as bound-reads
-use Rattle.step.specs.Step.{walkState}
-use Rattle.step.proofs.Parts.{placed-is}
-use Rattle.step.proofs.Walk.constrained.Reads as constrained-reads
-use Rattle.step.proofs.Walk.placed.Reads as placed-reads
+use Rattle.walk.specs.Step.{walkState}
+use Rattle.walk.proofs.Parts.{placed-is}
+use Rattle.walk.proofs.Walk.constrained.Reads as constrained-reads
+use Rattle.walk.proofs.Walk.placed.Reads as placed-reads
 use Rattle.seek.proofs.SeekBuilder.skip.Reads as skip-reads
 
 is-constrained-requires : tie.Need-is-constrained-requires

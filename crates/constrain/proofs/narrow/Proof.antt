@@ -3,11 +3,11 @@ use native.Mathlib.Omega.{arith}
 use denote.Ref.{now}
 use Rattle.file.specs.Tables.{tablesOf}
 use Rattle.paths.specs.Paths.{pathOf}
-use Rattle.ready.proofs.Given.{sound-tables}
+use Rattle.accepted_file.proofs.Given.{sound-tables}
 use Rattle.seek.specs.Narrow.{narrowedBy}
 use Rattle.seek.proofs.Constants.{const-is}
-use Rattle.step.specs.Step.{walkState}
-use Rattle.step.proofs.Parts.{placed-is}
+use Rattle.walk.specs.Step.{walkState}
+use Rattle.walk.proofs.Parts.{placed-is}
 use Rattle.constrain.proofs.Narrowings.{none-past, none-known, none-told, none-narrows, some-told}
 use borrow.Author.Needs.{needs}
 use Rattle.constrain.proofs.narrow.Statement.{statement}

@@ -5,7 +5,7 @@ use Rattle.constrain.proofs.narrow_or_report.Tie as tie
 use Rattle.constrain.proofs.narrow_or_report.Reads as reads
 use Rattle.constrain.proofs.narrow_or_report.Lts as lts
 use Rattle.constrain.proofs.narrow.Reads as narrow-reads
-use Rattle.step.proofs.Walk.diagnose.Reads as diagnose-reads
+use Rattle.walk.proofs.Walk.diagnose.Reads as diagnose-reads
 
 narrow-requires : tie.Need-narrow-requires
 narrow-requires c κs = search needs

@@ -6,8 +6,8 @@ use Rattle.levels.proofs.finished.Tie as tie
 use Rattle.levels.proofs.finished.Reads as reads
 use Rattle.levels.proofs.finished.Lts as lts
 use Rattle.levels.proofs.stopped.Reads as stopped-reads
-use Rattle.runs.proofs.lists_len.Reads as lists-len-reads
-use Rattle.runs.proofs.put_lists.Reads as put-lists-reads
+use Rattle.plan_lists.proofs.lists_len.Reads as lists-len-reads
+use Rattle.plan_lists.proofs.put_lists.Reads as put-lists-reads
 
 returns : tie.Need-returns
 returns c = finished-over (c .before .before .before .before .args .w) _ _ (c .if1 .taken)

@@ -1,6 +1,6 @@
 use denote.Ref.{now}
 use Rattle.file.specs.Tables.{tablesOf}
-use Rattle.views.specs.Views.{levelAt}
+use Rattle.views.specs.Views.{levelEntryAt}
 use Rattle.levels.proofs.Writes.{level-is}
 use borrow.Author.Needs.{needs}
 use Rattle.levels.proofs.level.Statement.{statement}
@@ -31,7 +31,7 @@ returns c =
     let a = c .before .before .before .before .before .before .before .before .before .before .before .before .before .before .before .before .before .before .before .before .before .args in
     let T = tablesOf (now (a .file)) in
     let m = c .before .before .before .before .measured .ensures in
-    (level-is T (levelAt T (a .k)) (a .w) (now (a .work)) (now (a .plan)) _ _ _ (c .before .before .before .before .before .before .before .before .before .before .before .before .begun .ensures T _ _) (c .before .before .before .before .before .before .before .before .before .before .before .walked .ensures) (m .0), m .1)
+    (level-is T (levelEntryAt T (a .k)) (a .w) (now (a .work)) (now (a .plan)) _ _ _ (c .before .before .before .before .before .before .before .before .before .before .before .before .begun .ensures T _ _) (c .before .before .before .before .before .before .before .before .before .before .before .walked .ensures) (m .0), m .1)
 
 pub level-spec : {M : Type 1} → statement M
 level-spec =

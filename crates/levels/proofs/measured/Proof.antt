@@ -4,8 +4,8 @@ use native.Mathlib.Omega.{arith}
 use Rattle.file.specs.Tables.{tablesOf}
 use Rattle.seek.specs.Seek.{levelOf}
 use Rattle.lists.specs.Lists.{endsOf}
-use Rattle.views.specs.Views.{levelAt}
-use Rattle.frame.proofs.Places.{past-limit, past-room, in-room, end-is}
+use Rattle.views.specs.Views.{levelEntryAt}
+use Rattle.level_frame.proofs.Places.{past-limit, past-room, in-room, end-is}
 use Rattle.levels.proofs.Writes.{over-left, long-left, fits-left}
 use Rattle.levels.specs.declared.Written.{Written}
 use borrow.Author.Needs.{needs}
@@ -20,7 +20,7 @@ returns c =
     let s = c .before .before .before .before .before .before in
     let a = s .args in
     let T = tablesOf (now (a .file)) in
-    (over-left T (levelAt T (a .k)) (endsOf (a .ends)) (a .at) (a .m) (now (a .work)) (now (a .plan)) _ (c .before .lists .ensures) (c .if1 .taken), s .pre .1 .1)
+    (over-left T (levelEntryAt T (a .k)) (endsOf (a .ends)) (a .at) (a .m) (now (a .work)) (now (a .plan)) _ (c .before .lists .ensures) (c .if1 .taken), s .pre .1 .1)
 
 measure-requires : tie.Need-measure-requires
 measure-requires c κs = search needs
@@ -33,7 +33,7 @@ returns-2 c =
     let s = c .before .before .before .before .before .before .before .before .before .before in
     let a = s .args in
     let T = tablesOf (now (a .file)) in (
-      long-left T (levelAt T (a .k)) (endsOf (a .ends)) (a .at) (a .m) (now (a .work)) (now (a .plan)) _ (c .before .before .before .before .before .lists .ensures) _ (c .before .before .before .before .if1 .left) (past-limit (a .at) (levelOf T (a .m .level)) _ (c .before .before .measure .ensures) (c .before .if2 .taken) _) (c .stopped .ensures),
+      long-left T (levelEntryAt T (a .k)) (endsOf (a .ends)) (a .at) (a .m) (now (a .work)) (now (a .plan)) _ (c .before .before .before .before .before .lists .ensures) _ (c .before .before .before .before .if1 .left) (past-limit (a .at) (levelOf T (a .m .level)) _ (c .before .before .measure .ensures) (c .before .if2 .taken) _) (c .stopped .ensures),
       omega (arith, ap (λ (x : Written). x .at) (c .stopped .ensures), s .pre .1 .1),
     )
 
@@ -45,7 +45,7 @@ returns-3 c =
     let s = c .before .before .before .before .before .before .before .before .before .before .before in
     let a = s .args in
     let T = tablesOf (now (a .file)) in (
-      long-left T (levelAt T (a .k)) (endsOf (a .ends)) (a .at) (a .m) (now (a .work)) (now (a .plan)) _ (c .before .before .before .before .before .before .lists .ensures) _ (c .before .before .before .before .before .if1 .left) (past-room (a .at) (levelOf T (a .m .level)) _ (c .before .before .before .measure .ensures) (c .before .before .if2 .left) _ (c .before .if3 .taken)) (c .stopped2 .ensures),
+      long-left T (levelEntryAt T (a .k)) (endsOf (a .ends)) (a .at) (a .m) (now (a .work)) (now (a .plan)) _ (c .before .before .before .before .before .before .lists .ensures) _ (c .before .before .before .before .before .if1 .left) (past-room (a .at) (levelOf T (a .m .level)) _ (c .before .before .before .measure .ensures) (c .before .before .if2 .left) _ (c .before .if3 .taken)) (c .stopped2 .ensures),
       omega (arith, ap (λ (x : Written). x .at) (c .stopped2 .ensures), s .pre .1 .1),
     )
 
@@ -66,7 +66,7 @@ returns-4 c =
     let L = levelOf T (a .m .level) in
     let ef = c .before .before .before .before .before .before .before .before .before .measure .ensures in
     let h = c .before .before .before .before .before .before .before .before .if2 .left in
-    (fits-left T (levelAt T (a .k)) (endsOf (a .ends)) (a .at) (a .m) (now (a .work)) (now (a .plan)) _ (c .before .before .before .before .before .before .before .before .before .before .before .before .lists .ensures) _ _ _ (c .before .before .before .before .before .before .before .before .before .before .before .if1 .left) (in-room (a .at) L _ ef h _ (c .before .before .before .before .before .before .before .if3 .left)) (end-is (a .at) L _ ef h) (c .before .before .before .before .rewritten .ensures), h)
+    (fits-left T (levelEntryAt T (a .k)) (endsOf (a .ends)) (a .at) (a .m) (now (a .work)) (now (a .plan)) _ (c .before .before .before .before .before .before .before .before .before .before .before .before .lists .ensures) _ _ _ (c .before .before .before .before .before .before .before .before .before .before .before .if1 .left) (in-room (a .at) L _ ef h _ (c .before .before .before .before .before .before .before .if3 .left)) (end-is (a .at) L _ ef h) (c .before .before .before .before .rewritten .ensures), h)
 
 pub measured-spec : {M : Type 1} → statement M
 measured-spec =

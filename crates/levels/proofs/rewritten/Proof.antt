@@ -2,10 +2,10 @@ use denote.Ref.{now}
 use native.Mathlib.Omega.{arith}
 use mathlib.Core.Path.{sym, _∙_}
 use Rattle.file.specs.Tables.{tablesOf}
-use Rattle.views.specs.Views.{levelAt}
+use Rattle.views.specs.Views.{levelEntryAt}
 use Rattle.seek.specs.Seek.{levelOf}
 use Rattle.lists.specs.Lists.{endsOf}
-use Rattle.frame.proofs.Places.{parts-near, rest-near}
+use Rattle.level_frame.proofs.Places.{parts-near, rest-near}
 use Rattle.levels.proofs.Walks.{framed-is, rewritten-is, lists-left}
 use borrow.Author.Needs.{needs}
 use Rattle.levels.proofs.rewritten.Statement.{statement}
@@ -28,7 +28,7 @@ returns c =
     let s = c .before .before .before .before .before .before .before .before .before .before .before .before in
     let a = s .args in
     let T = tablesOf (now (a .file)) in
-    framed-is T (levelAt T (a .k)) (endsOf (a .ends)) (a .at) (a .m) _ (now (a .work)) (now (a .plan)) _ (c .lists .ensures) (c .before .before .before .before .before .put-frame .ensures) (sym (c .before .before .bare .ensures T) ∙ c .before .if1 .taken)
+    framed-is T (levelEntryAt T (a .k)) (endsOf (a .ends)) (a .at) (a .m) _ (now (a .work)) (now (a .plan)) _ (c .lists .ensures) (c .before .before .before .before .before .put-frame .ensures) (sym (c .before .before .bare .ensures T) ∙ c .before .if1 .taken)
 
 writing-requires : tie.Need-writing-requires
 writing-requires c κs =

@@ -4,7 +4,7 @@ use Rattle.levels.proofs.writing.Statement.{statement}
 use Rattle.levels.proofs.writing.Tie as tie
 use Rattle.levels.proofs.writing.Reads as reads
 use Rattle.levels.proofs.writing.Lts as lts
-use Rattle.frame.proofs.seek_number.Reads as seek-number-reads
+use Rattle.level_frame.proofs.seek_number.Reads as seek-number-reads
 
 seek-number-requires : tie.Need-seek-number-requires
 seek-number-requires c κs = search needs

@@ -1,7 +1,7 @@
 use mathlib.Core.Path.{ap}
 use Rattle.file.specs.Tables.{tablesOf}
 use denote.Ref.{now}
-use Rattle.state.specs.Ops.{fitting}
+use Rattle.state.specs.Ops.{checkedSlot}
 use Rattle.slots.proofs.Tidy.{no-slot, slot-as}
 use Rattle.lists.proofs.Finds.{view-inside, view-is, nothing-is}
 use borrow.Author.Needs.{needs}
@@ -29,11 +29,11 @@ nothing-requires : tie.Need-nothing-requires
 nothing-requires c κs = search needs
 
 returns : tie.Need-returns
-returns c = slot-as (c .fitted .ensures) (ap (fitting _) (view-is _ _ _ (c .before .before .before .before .lookup .ensures) _ (c .before .before .v .given .1)))
+returns c = slot-as (c .fitted .ensures) (ap (checkedSlot _) (view-is _ _ _ (c .before .before .before .before .lookup .ensures) _ (c .before .before .v .given .1)))
 
 returns-2 : tie.Need-returns-2
-unfolding fitting
-returns-2 c = slot-as (no-slot (c .nothing .ensures)) (ap (fitting (tablesOf (now (c .before .before .before .before .before .before .args .file)))) (nothing-is _ _ _ (c .before .before .before .lookup .ensures) (c .before .enum-told .given .1)))
+unfolding checkedSlot
+returns-2 c = slot-as (no-slot (c .nothing .ensures)) (ap (checkedSlot (tablesOf (now (c .before .before .before .before .before .before .args .file)))) (nothing-is _ _ _ (c .before .before .before .lookup .ensures) (c .before .enum-told .given .1)))
 
 pub own-slot-spec : {M : Type 1} → statement M
 own-slot-spec =

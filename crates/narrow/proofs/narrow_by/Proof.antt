@@ -47,7 +47,7 @@ use Rattle.paths.specs.declared.FieldPath.{FieldPath}
 use Rattle.paths.proofs.FieldPath as P
 use Rattle.paths.proofs.FieldPath.Laws as P′
 use Rattle.file.specs.Tables.{tablesOf as tables-of}
-use Rattle.ready.specs.Ready.{Ready}
+use Rattle.accepted_file.specs.AcceptedFile.{AcceptedFile}
 use Rattle.constant.specs.declared.Const.{Const}
 use Rattle.constant.proofs.Const as K
 use Rattle.constant.proofs.Const.Laws as K′
@@ -88,7 +88,7 @@ module _ {M : Type 1} (𝓤 : URA M) (H : Heap 𝓤) (A : Atoms 𝓤) (at-mem : 
 
 -- what is asked of the file, its index and the constant
 abbrev Asked : Slice → Slice → Const → Type 0
-Asked f i c = Ready (f .now) (i .now) × IsConstant (tables-of (f .now)) c
+Asked f i c = AcceptedFile (f .now) (i .now) × IsConstant (tables-of (f .now)) c
 
 module _ {M : Type 1} (𝓤 : URA M) (H : Heap 𝓤) (A : Atoms 𝓤) (W : Given 𝓤 H A) (at-mem : Memory → SProp 𝓤) (run : Routine → Fun 𝓤) (κf κi κ κp : Lft) (qf qi q qp : Share) (f i : Slice) (c : Const) (g : FieldPath) (p : Slice) (b o : ℕ) (γ : GName) (h : SeekBuilder) where
   abbrev x : Arg

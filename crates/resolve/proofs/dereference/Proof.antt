@@ -1,4 +1,4 @@
-use Rattle.rules.specs.Resolve as Rules
+use Rattle.rules.specs.Resolve as ResolveRules
 use Rattle.slots.proofs.Tidy.{plain-is}
 use Rattle.resolve.proofs.Answers.{gives-is, kind-is, dereference-at}
 use borrow.Author.Needs.{needs}
@@ -66,15 +66,15 @@ gives-requires-4 : tie.Need-gives-requires-4
 gives-requires-4 c κs = search needs
 
 returns : tie.Need-returns
-unfolding Rules.dereference
+unfolding ResolveRules.dereference
 returns c = dereference-at _ _ (kind-is _ _ (c .before .before .before .before .kind .given .1)) (gives-is (c .gives .ensures) (plain-is _ _ (c .before .just .ensures) (c .before .before .plain .ensures)))
 
 returns-2 : tie.Need-returns-2
-unfolding Rules.dereference
+unfolding ResolveRules.dereference
 returns-2 c = dereference-at _ _ (kind-is _ _ (c .before .before .before .before .kind2 .given .1)) (gives-is (c .gives2 .ensures) (plain-is _ _ (c .before .just2 .ensures) (c .before .before .plain2 .ensures)))
 
 returns-3 : tie.Need-returns-3
-unfolding Rules.dereference
+unfolding ResolveRules.dereference
 returns-3 c = dereference-at _ _ (kind-is _ _ (c .before .before .before .before .kind3 .given .1)) (gives-is (c .gives3 .ensures) (plain-is _ _ (c .before .just3 .ensures) (c .before .before .plain3 .ensures)))
 
 same-length : tie.Need-same-length
@@ -90,7 +90,7 @@ returns-5 : tie.Need-returns-5
 returns-5 c = dereference-at _ _ (kind-is _ _ (c .before .before .before .before .before .kind5 .given .1)) (c .before .before .dereference-value .ensures)
 
 returns-6 : tie.Need-returns-6
-unfolding Rules.dereference
+unfolding ResolveRules.dereference
 returns-6 c = dereference-at _ _ (kind-is _ _ (c .before .before .before .before .kind6 .given .1)) (gives-is (c .gives4 .ensures) (plain-is _ _ (c .before .just4 .ensures) (c .before .before .plain4 .ensures)))
 
 pub dereference-spec : {M : Type 1} → statement M

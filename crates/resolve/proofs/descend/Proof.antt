@@ -4,7 +4,7 @@ use lib.ListN.{length}
 use Prim.Native.Nat.{_-_}
 use borrow.Author.Needs.{needs}
 use Rattle.file.specs.Tables.{tablesOf}
-use Rattle.ready.proofs.Given.{few-nodes}
+use Rattle.accepted_file.proofs.Given.{few-nodes}
 use Rattle.resolve.proofs.Chains.{Down, down-first, down-more, down-end, down-full, reader-in}
 use Rattle.resolve.proofs.descend.Statement.{statement}
 use Rattle.resolve.proofs.descend.Tie as tie

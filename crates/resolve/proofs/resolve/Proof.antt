@@ -1,7 +1,7 @@
 use borrow.Author.Needs.{needs}
 use lib.ListN.{replicate}
 use Rattle.rules.proofs.Sound.{sound, passed-all}
-use Rattle.ready.proofs.Ranges.{nodes-lower}
+use Rattle.accepted_file.proofs.Ranges.{nodes-lower}
 use Rattle.resolve.proofs.Chains.{not-filled, chain-is, end-rooms, passed-within}
 use Rattle.resolve.proofs.resolve.Statement.{statement}
 use Rattle.resolve.proofs.resolve.Tie as tie

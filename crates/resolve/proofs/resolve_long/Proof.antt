@@ -2,8 +2,8 @@ use native.Mathlib.Omega.{arith}
 use borrow.Author.Needs.{needs}
 use lib.ListN.{replicate}
 use Rattle.rules.proofs.Sound.{sound, passed-all}
-use Rattle.ready.proofs.Ranges.{nodes-lower}
-use Rattle.ready.proofs.Given.{few-nodes}
+use Rattle.accepted_file.proofs.Ranges.{nodes-lower}
+use Rattle.accepted_file.proofs.Given.{few-nodes}
 use Rattle.resolve.proofs.Chains.{chain-few, chain-is, end-rooms, passed-within}
 use Rattle.resolve.proofs.resolve_long.Statement.{statement}
 use Rattle.resolve.proofs.resolve_long.Tie as tie

@@ -1,6 +1,6 @@
 use mathlib.Core.Path.{subst}
 use Rattle.rules.specs.Resolve.{selectSlot}
-use Rattle.slots.specs.Slots.{Roomy}
+use Rattle.slots.specs.Slots.{SlotRoom}
 use Rattle.resolve.proofs.Answers.{kind-is, select-at}
 use borrow.Author.Needs.{needs}
 use Rattle.resolve.proofs.select_slot.Statement.{statement}
@@ -28,7 +28,7 @@ enum-known-kind-4 : tie.Need-enum-known-kind-4
 enum-known-kind-4 c = search needs
 
 select-field-requires : tie.Need-select-field-requires
-select-field-requires c κs = (c .before .before .before .before .before .before .before .pre .0, subst (Roomy _) (kind-is _ _ (c .before .before .kind4 .given .1)) (c .before .before .before .before .before .before .before .pre .1))
+select-field-requires c κs = (c .before .before .before .before .before .before .before .pre .0, subst (SlotRoom _) (kind-is _ _ (c .before .before .kind4 .given .1)) (c .before .before .before .before .before .before .before .pre .1))
 
 enum-known-kind-5 : tie.Need-enum-known-kind-5
 enum-known-kind-5 c = search needs

@@ -1,4 +1,4 @@
-use Rattle.ready.proofs.Given.{few-nodes}
+use Rattle.accepted_file.proofs.Given.{few-nodes}
 use native.Mathlib.Omega.{arith}
 use Rattle.tables.proofs.Searches.{flag-zero, flag-one}
 use mathlib.Core.Path.{_∙_, sym}

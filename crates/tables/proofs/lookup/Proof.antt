@@ -1,6 +1,6 @@
 use native.Mathlib.Omega.{arith}
 use mathlib.Core.Path.{_∙_}
-use Rattle.ready.proofs.Given.{few-names, passed}
+use Rattle.accepted_file.proofs.Given.{few-names, passed}
 use Rattle.tables.proofs.Searches.{no-name, last-none, last-some, last-slot}
 use borrow.Author.Needs.{needs}
 use Rattle.tables.proofs.lookup.Statement.{statement}

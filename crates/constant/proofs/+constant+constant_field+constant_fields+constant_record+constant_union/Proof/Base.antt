@@ -1,7 +1,7 @@
 use Prim.Native.Nat.{ℕ, _+_, _*_, _<_}
 use denote.Ref.{now}
 use Rattle.file.specs.Tables.{tablesOf}
-use Rattle.ready.specs.Ready.{rank}
+use Rattle.accepted_file.specs.AcceptedFile.{constantRank}
 use borrow.Fn.Kinds.{In}
 use borrow.Fn.PlainCycle.{Measures, is, falls, and}
 use Rattle.constant.proofs.constant.Reads as constant
@@ -36,19 +36,19 @@ use Rattle.views.proofs.node_at.Reads as node-at-reads
 use Rattle.views.proofs.type_at.Reads as type-at-reads
 
 abbrev pub μ-constant : Measures 2 constant-kinds.ps ℕ
-μ-constant κs a = rank (tablesOf (now (a .0))) (a .1 .1 .0) * 4 + 3
+μ-constant κs a = constantRank (tablesOf (now (a .0))) (a .1 .1 .0) * 4 + 3
 
 abbrev pub μ-constant-field : Measures 2 constant-field-kinds.ps ℕ
-μ-constant-field κs a = rank (tablesOf (now (a .0))) (a .1 .1 .0) * 4
+μ-constant-field κs a = constantRank (tablesOf (now (a .0))) (a .1 .1 .0) * 4
 
 abbrev pub μ-constant-fields : Measures 2 constant-fields-kinds.ps ℕ
-μ-constant-fields κs a = rank (tablesOf (now (a .0))) (a .1 .1 .0) * 4 + 1
+μ-constant-fields κs a = constantRank (tablesOf (now (a .0))) (a .1 .1 .0) * 4 + 1
 
 abbrev pub μ-constant-record : Measures 2 constant-record-kinds.ps ℕ
-μ-constant-record κs a = rank (tablesOf (now (a .0))) (a .1 .1 .0) * 4 + 2
+μ-constant-record κs a = constantRank (tablesOf (now (a .0))) (a .1 .1 .0) * 4 + 2
 
 abbrev pub μ-constant-union : Measures 2 constant-union-kinds.ps ℕ
-μ-constant-union κs a = rank (tablesOf (now (a .0))) (a .1 .1 .0) * 4 + 1
+μ-constant-union κs a = constantRank (tablesOf (now (a .0))) (a .1 .1 .0) * 4 + 1
 
 abbrev pub constant-at : ℕ → In 2 constant-kinds.ps
 constant-at t = and 2 constant-kinds.ps (is 2 constant-kinds.ps μ-constant t) constant.Pre

@@ -2,7 +2,7 @@ use Rattle.constant.proofs.Measured.{Adding, add-start, add-none, add-m
 use borrow.Author.Needs.{needs}
 use native.Mathlib.Omega.{arith}
 use mathlib.Core.Path.{subst}
-use Rattle.rules.specs.Constant as Rules
+use Rattle.rules.specs.Constant as ConstantRules
 use Rattle.file.specs.Tables.{tablesOf}
 use Rattle.views.specs.Views.{run, patternAt}
 use Rattle.constant.specs.Sizes.{Small}
@@ -13,7 +13,7 @@ use Rattle.constant.proofs.+constant+constant_field+constant_fields+con
 use Rattle.constant.proofs.+constant+constant_field+constant_fields+constant_record+constant_union.Proof.Base.{constant-fields-at, constant-fields-claims}
 
 abbrev pub constant-fields-Inv-loop : constant-fields-lts.InvT-loop
-constant-fields-Inv-loop file index node n at k from total₀ i₀ total i = Adding (Rules.constant (tablesOf file)) (run (patternAt file) 4 n at) file k from total i
+constant-fields-Inv-loop file index node n at k from total₀ i₀ total i = Adding (ConstantRules.constant (tablesOf file)) (run (patternAt file) 4 n at) file k from total i
 
 abbrev pub constant-fields-μ-loop : constant-fields-lts.MeasureT-loop
 constant-fields-μ-loop file index node n at k from total₀ i₀ total i = k - i

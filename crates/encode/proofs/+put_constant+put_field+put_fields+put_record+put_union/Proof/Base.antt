@@ -1,7 +1,7 @@
 use Prim.Native.Nat.{ℕ, _+_, _*_, _<_}
 use denote.Ref.{now}
 use Rattle.file.specs.Tables.{tablesOf}
-use Rattle.ready.specs.Ready.{rank}
+use Rattle.accepted_file.specs.AcceptedFile.{constantRank}
 use borrow.Fn.Kinds.{In}
 use borrow.Fn.PlainCycle.{Measures, is, falls, and}
 use Rattle.encode.proofs.put_constant.Reads as put-constant
@@ -33,19 +33,19 @@ use Rattle.views.proofs.node_at.Reads as node-at-reads
 use Rattle.views.proofs.type_at.Reads as type-at-reads
 
 abbrev pub μ-put-constant : Measures 3 put-constant-kinds.ps ℕ
-μ-put-constant κs a = rank (tablesOf (now (a .0))) (a .1 .1 .1 .1 .0) * 4 + 3
+μ-put-constant κs a = constantRank (tablesOf (now (a .0))) (a .1 .1 .1 .1 .0) * 4 + 3
 
 abbrev pub μ-put-field : Measures 3 put-field-kinds.ps ℕ
-μ-put-field κs a = rank (tablesOf (now (a .0))) (a .1 .1 .1 .1 .0) * 4
+μ-put-field κs a = constantRank (tablesOf (now (a .0))) (a .1 .1 .1 .1 .0) * 4
 
 abbrev pub μ-put-fields : Measures 3 put-fields-kinds.ps ℕ
-μ-put-fields κs a = rank (tablesOf (now (a .0))) (a .1 .1 .1 .1 .0) * 4 + 1
+μ-put-fields κs a = constantRank (tablesOf (now (a .0))) (a .1 .1 .1 .1 .0) * 4 + 1
 
 abbrev pub μ-put-record : Measures 3 put-record-kinds.ps ℕ
-μ-put-record κs a = rank (tablesOf (now (a .0))) (a .1 .1 .1 .1 .0) * 4 + 2
+μ-put-record κs a = constantRank (tablesOf (now (a .0))) (a .1 .1 .1 .1 .0) * 4 + 2
 
 abbrev pub μ-put-union : Measures 3 put-union-kinds.ps ℕ
-μ-put-union κs a = rank (tablesOf (now (a .0))) (a .1 .1 .1 .1 .0) * 4 + 1
+μ-put-union κs a = constantRank (tablesOf (now (a .0))) (a .1 .1 .1 .1 .0) * 4 + 1
 
 abbrev pub put-constant-at : ℕ → In 3 put-constant-kinds.ps
 put-constant-at t =

@@ -1,6 +1,6 @@
 use Rattle.constant.proofs.Measured.{field-type}
 use Rattle.encode.proofs.Parts.{Fielding, put-start, put-here, put-more, put-end}
-use Rattle.rules.specs.Constant as Rules
+use Rattle.rules.specs.Constant as ConstantRules
 use Rattle.file.specs.Tables.{tablesOf}
 use Rattle.views.specs.Views.{run, patternAt}
 use native.Mathlib.Omega.{arith}
@@ -10,7 +10,7 @@ use Rattle.encode.proofs.+put_constant+put_field+put_fields+put_record+
 use Rattle.encode.proofs.+put_constant+put_field+put_fields+put_record+put_union.Proof.Base.{put-fields-at, put-fields-claims}
 
 abbrev pub put-fields-Inv-loop : put-fields-lts.InvT-loop
-put-fields-Inv-loop file index buf₀ at node n pairs k from p₀ i₀ buf p i = Fielding (Rules.constant (tablesOf file)) (run (patternAt file) 4 n pairs) file k from at buf₀ i p buf
+put-fields-Inv-loop file index buf₀ at node n pairs k from p₀ i₀ buf p i = Fielding (ConstantRules.constant (tablesOf file)) (run (patternAt file) 4 n pairs) file k from at buf₀ i p buf
 
 abbrev pub put-fields-μ-loop : put-fields-lts.MeasureT-loop
 put-fields-μ-loop file index buf₀ at node n pairs k from p₀ i₀ buf p i = k - i

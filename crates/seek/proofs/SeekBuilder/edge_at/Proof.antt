@@ -3,7 +3,7 @@ use Rattle.constant.specs.declared.Const.the-variants as Co
 use Rattle.seek.proofs.Consts.{known, not-bytes, nothing-not, prefix-not, fuzzy-not}
 use Rattle.seek.proofs.Folds.{edges-same, edges-stay, edge-none, edge-bytes}
 use native.Mathlib.Omega.{arith}
-use Rattle.ready.proofs.Given.{few-types, few-nodes, few-comparisons}
+use Rattle.accepted_file.proofs.Given.{few-types, few-nodes, few-comparisons}
 use borrow.Author.Needs.{needs}
 use Rattle.seek.proofs.SeekBuilder.edge_at.Statement.{statement}
 use Rattle.seek.proofs.SeekBuilder.edge_at.Tie as tie

@@ -1,5 +1,5 @@
 use native.Mathlib.Omega.{arith}
-use Rattle.ready.proofs.Given.{few-names}
+use Rattle.accepted_file.proofs.Given.{few-names}
 use Rattle.seek.proofs.Narrows.{still, as-range, as-prefix}
 use borrow.Author.Needs.{needs}
 use Rattle.seek.proofs.SeekBuilder.prefix.Statement.{statement}

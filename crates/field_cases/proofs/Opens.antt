@@ -1,0 +1,83 @@
+-- A record pattern against a record type, as the code reads them: field by field, each at a lower type.
+use Prim.Native.Nat.{ℕ, _+_, _*_, _≤_, _<_}
+use mathlib.Core.Path.{_≡_, refl, sym, ap, _∙_, subst}
+use mathlib.Core.List.{List, []}
+use mathlib.Core.Option.{Option, none, some, Option·getD}
+use native.Mathlib.Omega.{arith}
+use lib.ListN.{length, getD}
+use Rattle.rules.specs.File as File
+use Rattle.rules.specs.File.{Tables, typeAt, nodeAt, recordFields, recordTy}
+use Rattle.rules.specs.Constant.{fieldPattern}
+use Rattle.rules.proofs.Each.{each-at}
+use Rattle.rules.proofs.Sound.{Sound, Child}
+use Rattle.rules.proofs.Keeps.{record-children}
+use Rattle.views.specs.Views.{run, fieldAt, patternAt, fieldOf}
+use Rattle.views.specs.declared.FieldTy.{FieldTy}
+use Rattle.views.proofs.Runs.{run-at, length-run}
+use Rattle.tables.specs.Tables.{SeenRun, foundOption}
+use Rattle.tables.specs.declared.Found.{Found}
+use Rattle.tables.specs.declared.Run.{Run}
+use Rattle.tables.specs.declared.Run.the-variants as Ru
+use Rattle.field_cases.specs.Pieces.{Lower, patternsOf, openFields, fieldsFor, noField, Pieced}
+use Rattle.field_cases.specs.declared.Piece.{Piece}
+
+-- a run's records are inside the file
+pub run-inside : {A : Type 0} (f : List ℕ) (g : ℕ → A) (w : ℕ) (o : Option (List A)) (r : Run) → SeenRun f g w o r → (k from : ℕ) → r ≡ Ru.Of k from → from + w * k ≤ length f
+run-inside f g w o r s k from e = subst (SeenRun f g w o) e s .inside
+
+none-open : (o : Option (List File.FieldPattern)) → openFields o none ≡ []
+unfolding openFields
+none-open none = refl
+none-open (some ps) = refl
+
+module _ (f : List ℕ) (T : Tables) (n t : ℕ) (a : Run) (pairs : SeenRun f (patternAt f) 4 (recordFields (nodeAt T n)) a) where
+  pub no-pairs : a ≡ Ru.Nothing → fieldsFor T n t ≡ []
+  unfolding fieldsFor openFields
+  no-pairs e = ap (λ o. openFields o (recordTy (typeAt T t))) (sym (subst (SeenRun f (patternAt f) 4 (recordFields (nodeAt T n))) e pairs .is))
+
+  module _ (b : Run) (fields : SeenRun f (fieldAt f) 4 (recordTy (typeAt T t)) b) where
+    pub no-fields : b ≡ Ru.Nothing → fieldsFor T n t ≡ []
+    unfolding fieldsFor
+    no-fields e = ap (openFields (recordFields (nodeAt T n))) (sym (subst (SeenRun f (fieldAt f) 4 (recordTy (typeAt T t))) e fields .is)) ∙ none-open (recordFields (nodeAt T n))
+
+    module _ (m at k from : ℕ) (ea : a ≡ Ru.Of m at) (eb : b ≡ Ru.Of k from) where
+      pairs-are : recordFields (nodeAt T n) ≡ some (run (patternAt f) 4 m at)
+      pairs-are = sym (subst (SeenRun f (patternAt f) 4 (recordFields (nodeAt T n))) ea pairs .is)
+
+      type-is : recordTy (typeAt T t) ≡ some (run (fieldAt f) 4 k from)
+      type-is = sym (subst (SeenRun f (fieldAt f) 4 (recordTy (typeAt T t))) eb fields .is)
+
+      pub fields-are : fieldsFor T n t ≡ run (fieldAt f) 4 k from
+      unfolding fieldsFor openFields
+      fields-are = ap (λ o. openFields o (recordTy (typeAt T t))) pairs-are ∙ ap (openFields (some (run (patternAt f) 4 m at))) type-is
+
+      pub patterns-are : patternsOf T n ≡ run (patternAt f) 4 m at
+      unfolding patternsOf
+      patterns-are = ap (λ o. Option·getD o []) pairs-are
+
+      pub count-is : k ≡ length (fieldsFor T n t)
+      count-is = sym (ap length fields-are ∙ length-run (fieldAt f) 4 k from)
+
+      -- field i
+      module _ (S : Sound T) (known : t < length (T .types)) (i : ℕ) (h : i < length (fieldsFor T n t)) (v : FieldTy) (ev : fieldOf v ≡ fieldAt f (from + 4 * i)) where
+        pub below : i < k
+        below = omega (arith, count-is)
+
+        field-is : getD (fieldsFor T n t) i noField ≡ fieldOf v
+        field-is = ap (λ fs. getD fs i noField) fields-are ∙ run-at (fieldAt f) 4 k from i noField below ∙ sym ev
+
+        lower : Lower T t (v .ty)
+        lower =
+            let e = each-at (record-children (Child T t) (typeAt T t) (run (fieldAt f) 4 k from) (S .children t known) type-is) i noField (omega (arith, length-run (fieldAt f) 4 k from, below)) in
+            let c : Child T t (v .ty) = subst (λ (x : File.FieldTy). Child T t (x .type)) (ap (λ fs. getD fs i noField) (sym fields-are) ∙ field-is) e in
+            record { lower = c .lower; known = c .in-types; less-deep = c .less-deep }
+
+        module _ (q : Found) (eq : foundOption q ≡ fieldPattern (run (patternAt f) 4 m at) (v .name)) where
+          found-is : foundOption q ≡ fieldPattern (patternsOf T n) (getD (fieldsFor T n t) i noField .name)
+          found-is = eq ∙ ap (λ ps. fieldPattern ps (v .name)) (sym patterns-are) ∙ ap (λ (x : File.FieldTy). fieldPattern (patternsOf T n) (x .name)) (sym field-is)
+
+          pub piece-is : Pieced T n t i (record { pattern = q; ty = v .ty })
+          piece-is = record { type = ap (λ (x : File.FieldTy). x .type) (sym field-is); found = found-is; lower = lower }
+
+pub nothing-there : (T : Tables) (n t i : ℕ) (r : Piece) → i < length (fieldsFor T n t) → fieldsFor T n t ≡ [] → Pieced T n t i r
+nothing-there T n t i r h e = absurd (omega (arith, ap length e))

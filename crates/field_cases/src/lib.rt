@@ -1,0 +1,583 @@
+// What a member of the walk's cycle does before it goes on into the cycle: the cycle itself then holds the recursion and nothing else.
+ghost use mathlib.Core.Path.{_≡_};
+ghost use mathlib.Core.List.{List};
+ghost use Prim.Native.Nat.{ℕ, _<_};
+ghost use lib.ListN.{length};
+ghost use Rattle.rules.specs.Limits.{fileLimit};
+ghost use Rattle.rules.specs.File as File;
+ghost use Rattle.rules.specs.File.{typeAt, nodeAt, recordFields, unionTy};
+ghost use Rattle.rules.specs.Walk as WalkRules;
+ghost use Rattle.rules.specs.Walk.{FieldWalk};
+ghost use Rattle.state.specs.State.{State};
+ghost use Rattle.state.specs.Ops.{ops};
+ghost use Rattle.file.specs.Tables.{Indexed, tablesOf};
+ghost use Rattle.paths.specs.Paths.{pathOf};
+ghost use Rattle.views.specs.Views.{patternAt, predicateOption};
+ghost use Rattle.slots.specs.Slots.{slotOf};
+ghost use Rattle.accepted_file.specs.AcceptedFile.{AcceptedFile};
+ghost use Rattle.tables.specs.Tables.{SeenRun};
+ghost use Rattle.walk.specs.Step.{walkState};
+ghost use Rattle.field_cases.specs.Pieces.{Fits, fieldsFor, Pieced};
+ghost use Rattle.field_cases.specs.Begin.{isInjection, startOf, slotBeside, doneWith};
+ghost use Rattle.field_cases.specs.Begin.{piecesStart, readStart, variableStart, placeStart, start};
+ghost use Rattle.field_cases.specs.Begin.{meetingOf, meeting, choosingOf, alternativeChoice, choosing};
+use constrain::constrain;
+use constrain::narrow;
+use constrain::ranged;
+use entries::node_of;
+use fields::fact_ty;
+use lists::Code;
+use lists::lookup;
+use paths::Address;
+use paths::FieldPath;
+use resolve::resolve;
+use slots::Slot;
+use slots::SlotKind;
+use tables::Found;
+use tables::MaybeAlternative;
+use tables::Run;
+use tables::alternative_of;
+use tables::field_pattern;
+use tables::record_ty;
+use tables::union_ty;
+use views::MaybePredicate;
+use views::NodeView;
+use views::field_pattern_at;
+use views::field_ty_at;
+use walk::Walk;
+
+// What `field` goes on with.
+pub enum Next {
+    Done,
+    Matched,
+    Partial,
+    Inject,
+}
+
+// The slot is that of Matched; beside anything else it has no meaning, and is that of `nothing`.
+pub struct Begun {
+    pub next: Next,
+    pub slot: Slot,
+    pub walk: Walk,
+}
+
+// The node that `matched` goes on with, which `partial` opens; nothing where it is done.
+pub struct Met {
+    pub opens: Found,
+    pub walk: Walk,
+}
+
+// The alternative that `inject` goes on with, if any: its disc, its payload's pattern and type.
+pub enum Choice {
+    Nothing,
+    Payload(u32, usize, usize),
+}
+
+pub struct Chosen {
+    pub choice: Choice,
+    pub walk: Walk,
+}
+
+// A field's type, and the pattern that it is given.
+pub struct Piece {
+    pub pattern: Found,
+    pub ty: usize,
+}
+
+// A Record's pairs, of any node.
+pub fn pairs_of(file: &[u8], index: &[u16], node: usize) -> Run
+    requires { ⌜ Indexed (now file) (now index) ⌝ }
+    ensures { λ r. ⌜ (
+        let f = now (file .entry) in
+        SeenRun f (patternAt f) 4 (recordFields (nodeAt (tablesOf f) node)) r
+        ) ⌝ }
+{
+    if let NodeView::Record(k, at) = node_of(file, index, node) {
+        Run::Of(k, at)
+    } else {
+        Run::Nothing
+    }
+}
+
+// How many fields are walked of a Record against a Record type; none of anything else.
+pub fn pieces(file: &[u8], index: &[u16], node: usize, ty: usize) -> usize
+    requires { ⌜ AcceptedFile (now file) (now index) ⌝ }
+    requires { ⌜ ty < length (tablesOf (now file) .types) ⌝ }
+    ensures counts { λ r. ⌜ r ≡ length (fieldsFor (tablesOf (now (file .entry))) node ty) ⌝ }
+    ensures bounded { λ r. ⌜ r < fileLimit ⌝ }
+{
+    let Run::Of(n, at) = pairs_of(file, index, node) else {
+        return 0;
+    };
+    if let Run::Of(k, from) = record_ty(file, index, ty) {
+        k
+    } else {
+        0
+    }
+}
+
+// Field i of those.
+pub fn piece_at(file: &[u8], index: &[u16], node: usize, ty: usize, i: usize) -> Piece
+    requires { ⌜ AcceptedFile (now file) (now index) ⌝ }
+    requires { ⌜ ty < length (tablesOf (now file) .types) ⌝ }
+    requires { ⌜ i < length (fieldsFor (tablesOf (now file)) node ty) ⌝ }
+    ensures { λ r. ⌜ Pieced (tablesOf (now (file .entry))) node ty i r ⌝ }
+{
+    let Run::Of(n, at) = pairs_of(file, index, node) else {
+        return Piece {
+            pattern: Found::Nothing,
+            ty: 0,
+        };
+    };
+    let Run::Of(k, from) = record_ty(file, index, ty) else {
+        return Piece {
+            pattern: Found::Nothing,
+            ty: 0,
+        };
+    };
+    let f = field_ty_at(file, from, i);
+    let pattern = field_pattern(file, at, n, f.name);
+    Piece { pattern, ty: f.ty }
+}
+
+fn done(w: Walk) -> Begun
+    ensures { λ r. ⌜ r ≡ doneWith w ⌝ }
+{
+    let slot = Slot::plain(SlotKind::Const(0));
+    Begun {
+        next: Next::Done,
+        slot,
+        walk: w,
+    }
+}
+
+// The kinds that another phase reports.
+fn is_deferred(file: &[u8], index: &[u16], node: usize) -> bool
+    requires { ⌜ Indexed (now file) (now index) ⌝ }
+    ensures { λ r. ⌜ r ≡ WalkRules.deferred (nodeAt (tablesOf (now (file .entry))) node) ⌝ }
+{
+    match node_of(file, index, node) {
+        NodeView::Never => true,
+        NodeView::Disjunction => true,
+        NodeView::Subquery => true,
+        NodeView::Error => true,
+        _ => false,
+    }
+}
+
+// A read that gave no slot is reported where nothing else told why: `mark` is where the diagnostics ended before it.
+fn unresolved(file: &[u8], index: &[u16], work: &mut [u8], node: usize, mark: u32, w: Walk) -> Walk
+    requires { ⌜ Indexed (now file) (now index) ⌝ }
+    ensures { λ r. ⌜ (
+        (plan : List ℕ) (earlier : State) → earlier .ends .diagnostics ≡ mark →
+        let T = tablesOf (now (file .entry)) in
+        let before = walkState T w (now (work .entry)) plan in
+        let after = walkState T r (now (work .exit)) plan in
+        after ≡ WalkRules.unresolved (ops T) T node earlier before
+        ) ⌝ }
+{
+    if is_deferred(file, index, node) {
+        return w.skip();
+    }
+    let ends = w.ends;
+    if ends.diagnostics == mark {
+        return w.diagnose(work, node, Code::RejectUnresolvedAccess, true);
+    }
+    w.skip()
+}
+
+// Not one place: a record's pieces, or a read that resolved to nothing.
+fn begin_pieces(
+    file: &[u8],
+    index: &[u16],
+    work: &mut [u8],
+    node: usize,
+    mark: u32,
+    w: Walk,
+) -> Begun
+    requires { ⌜ Indexed (now file) (now index) ⌝ }
+    ensures starts { λ r. ⌜ (
+        (plan : List ℕ) (earlier : State) → earlier .ends .diagnostics ≡ mark →
+        let T = tablesOf (now (file .entry)) in
+        let before = walkState T w (now (work .entry)) plan in
+        let after = walkState T (r .walk) (now (work .exit)) plan in
+        startOf r after ≡ piecesStart T node earlier before
+        ) ⌝ }
+    ensures unset { λ r. ⌜ r .slot ≡ slotBeside (r .next) (r .slot) ⌝ }
+{
+    if let Run::Of(_, _) = pairs_of(file, index, node) {
+        let slot = Slot::plain(SlotKind::Const(0));
+        return Begun {
+            next: Next::Partial,
+            slot,
+            walk: w,
+        };
+    }
+    done(unresolved(file, index, work, node, mark, w))
+}
+
+// A read: matched where it resolves.
+fn begin_read(file: &[u8], index: &[u16], work: &mut [u8], node: usize, w: Walk) -> Begun
+    requires { ⌜ AcceptedFile (now file) (now index) ⌝ }
+    ensures starts { λ r. ⌜ (
+        (plan : List ℕ) →
+        let T = tablesOf (now (file .entry)) in
+        let before = walkState T w (now (work .entry)) plan in
+        let after = walkState T (r .walk) (now (work .exit)) plan in
+        startOf r after ≡ readStart T node before
+        ) ⌝ }
+    ensures unset { λ r. ⌜ r .slot ≡ slotBeside (r .next) (r .slot) ⌝ }
+{
+    let a = resolve(file, index, work, node, w.lists());
+    let after = a.lists;
+    let mark = w.ends;
+    let walk = w.listed(after);
+    if a.some {
+        let slot = a.slot;
+        return Begun {
+            next: Next::Matched,
+            slot,
+            walk,
+        };
+    }
+    begin_pieces(file, index, work, node, mark.diagnostics, walk)
+}
+
+// A variable binds while it is new, before its constraints are read; else it is read where it was bound.
+fn begin_variable(
+    file: &[u8],
+    index: &[u16],
+    work: &mut [u8],
+    plan: &mut [u8],
+    name: usize,
+    ty: usize,
+    address: Address,
+    path: FieldPath,
+    w: Walk,
+) -> Begun
+    requires { ⌜ AcceptedFile (now file) (now index) ⌝ }
+    requires { ⌜ ty < length (tablesOf (now file) .types) ⌝ }
+    ensures starts { λ r. ⌜ (
+        let T = tablesOf (now (file .entry)) in
+        let before = walkState T w (now (work .entry)) (now (plan .entry)) in
+        let after = walkState T (r .walk) (now (work .exit)) (now (plan .exit)) in
+        startOf r after ≡ variableStart T (address .0) name ty (pathOf path) before
+        ) ⌝ }
+    ensures unset { λ r. ⌜ r .slot ≡ slotBeside (r .next) (r .slot) ⌝ }
+{
+    let found = lookup(file, index, work, w.lists(), name);
+    if found.some {
+        let slot = found.slot;
+        return Begun {
+            next: Next::Matched,
+            slot,
+            walk: w,
+        };
+    }
+    let slot = Slot::field(address, path, ty);
+    let b = w.bind(work, name, slot);
+    done(constrain(file, index, work, plan, name, ty, path, b))
+}
+
+// Whether a pattern is a union value: a Record where the field is a union.
+fn is_injection(file: &[u8], index: &[u16], node: usize, ty: usize) -> bool
+    requires { ⌜ Indexed (now file) (now index) ⌝ }
+    requires { ⌜ ty < length (tablesOf (now file) .types) ⌝ }
+    ensures { λ r. ⌜ (
+        let T = tablesOf (now (file .entry)) in
+        r ≡ isInjection (recordFields (nodeAt T node)) (unionTy (typeAt T ty))
+        ) ⌝ }
+{
+    let Run::Of(_, _) = pairs_of(file, index, node) else {
+        return false;
+    };
+    if let Run::Of(_, _) = union_ty(file, index, ty) {
+        true
+    } else {
+        false
+    }
+}
+
+// An injection, or a read.
+fn begin_place(
+    file: &[u8],
+    index: &[u16],
+    work: &mut [u8],
+    node: usize,
+    ty: usize,
+    w: Walk,
+) -> Begun
+    requires { ⌜ AcceptedFile (now file) (now index) ⌝ }
+    requires { ⌜ ty < length (tablesOf (now file) .types) ⌝ }
+    ensures starts { λ r. ⌜ (
+        (plan : List ℕ) →
+        let T = tablesOf (now (file .entry)) in
+        let before = walkState T w (now (work .entry)) plan in
+        let after = walkState T (r .walk) (now (work .exit)) plan in
+        startOf r after ≡ placeStart T node ty before
+        ) ⌝ }
+    ensures unset { λ r. ⌜ r .slot ≡ slotBeside (r .next) (r .slot) ⌝ }
+{
+    if is_injection(file, index, node, ty) {
+        let slot = Slot::plain(SlotKind::Const(0));
+        return Begun {
+            next: Next::Inject,
+            slot,
+            walk: w,
+        };
+    }
+    begin_read(file, index, work, node, w)
+}
+
+// `field`, by the pattern's kind. Once the plan is too long nothing changes any more, and the walk ends at once.
+pub fn begin(
+    file: &[u8],
+    index: &[u16],
+    work: &mut [u8],
+    plan: &mut [u8],
+    node: usize,
+    ty: usize,
+    address: Address,
+    path: FieldPath,
+    w: Walk,
+) -> Begun
+    requires { ⌜ AcceptedFile (now file) (now index) ⌝ }
+    requires { ⌜ Fits (tablesOf (now file)) path ty ⌝ }
+    ensures starts { λ r. ⌜ (
+        let T = tablesOf (now (file .entry)) in
+        let before = walkState T w (now (work .entry)) (now (plan .entry)) in
+        let after = walkState T (r .walk) (now (work .exit)) (now (plan .exit)) in
+        startOf r after ≡ start T (address .0) node ty (pathOf path) before
+        ) ⌝ }
+    ensures unset { λ r. ⌜ r .slot ≡ slotBeside (r .next) (r .slot) ⌝ }
+{
+    let level = w.level;
+    if level.over {
+        return done(w);
+    }
+    match node_of(file, index, node) {
+        NodeView::Var(x) => begin_variable(file, index, work, plan, x, ty, address, path, w),
+        NodeView::Wildcard => done(w.skip()),
+        NodeView::Never => done(w.diagnose(work, node, Code::NyiNever, true)),
+        NodeView::Prefix(_) => done(ranged(file, index, work, plan, node, ty, path, w)),
+        NodeView::Fuzzy(_, _, _) => done(ranged(file, index, work, plan, node, ty, path, w)),
+        NodeView::Disjunction => done(w.diagnose(work, node, Code::NyiDisjunction, true)),
+        _ => begin_place(file, index, work, node, ty, w),
+    }
+}
+
+// Whether a row's predicate is the one that a field refers to.
+fn refers_to(p: MaybePredicate, referenced: MaybePredicate) -> bool
+    ensures { λ r. ⌜ r ≡ WalkRules.refersTo (predicateOption p) (predicateOption referenced) ⌝ }
+{
+    let MaybePredicate::Just(a) = p else {
+        return false;
+    };
+    if let MaybePredicate::Just(b) = referenced {
+        a.0 == b.0
+    } else {
+        false
+    }
+}
+
+// A join through a reference: a row matches a field that refers to its own predicate.
+fn meet_row(
+    file: &[u8],
+    index: &[u16],
+    work: &mut [u8],
+    plan: &mut [u8],
+    node: usize,
+    from: Address,
+    predicate: MaybePredicate,
+    ty: usize,
+    path: FieldPath,
+    w: Walk,
+) -> Walk
+    requires { ⌜ Indexed (now file) (now index) ⌝ }
+    ensures { λ r. ⌜ (
+        (address : ℕ) (below : FieldWalk State) →
+        let T = tablesOf (now (file .entry)) in
+        let before = walkState T w (now (work .entry)) (now (plan .entry)) in
+        let after = walkState T r (now (work .exit)) (now (plan .exit)) in
+        let slot = File.Slot.Row (from .0) (predicateOption predicate) in
+        after ≡ WalkRules.matched (ops T) T address below node slot ty (pathOf path) before
+        ) ⌝ }
+{
+    let referenced = fact_ty(file, index, ty);
+    if refers_to(predicate, referenced) {
+        return w.fact_id(path, from, plan);
+    }
+    w.diagnose(work, node, Code::RejectTypeMismatch, false)
+}
+
+// A register's field. The level's own register is the row at hand: reported, and building stays.
+fn meet_field(
+    work: &mut [u8],
+    plan: &mut [u8],
+    node: usize,
+    from: Address,
+    at: FieldPath,
+    address: Address,
+    path: FieldPath,
+    w: Walk,
+) -> Walk
+    ensures { λ r. ⌜ (
+        (T : File.Tables) (below : FieldWalk State) (ty t : ℕ) →
+        let before = walkState T w (now (work .entry)) (now (plan .entry)) in
+        let after = walkState T r (now (work .exit)) (now (plan .exit)) in
+        let slot = File.Slot.Field (from .0) (pathOf at) ty in
+        after ≡ WalkRules.matched (ops T) T (address .0) below node slot t (pathOf path) before
+        ) ⌝ }
+{
+    if from.0 == address.0 {
+        return w.diagnose(work, node, Code::NyiRepeatedVariable, false);
+    }
+    w.register_field(path, from, at, plan)
+}
+
+fn unopened(w: Walk) -> Met
+    ensures { λ r. ⌜ r ≡ record { opens = Found.Nothing; walk = w } ⌝ }
+{
+    Met {
+        opens: Found::Nothing,
+        walk: w,
+    }
+}
+
+// A constant: its bytes, or else its pieces.
+fn meet_const(
+    file: &[u8],
+    index: &[u16],
+    plan: &mut [u8],
+    folded: usize,
+    ty: usize,
+    path: FieldPath,
+    w: Walk,
+) -> Met
+    requires { ⌜ AcceptedFile (now file) (now index) ⌝ }
+    requires { ⌜ ty < length (tablesOf (now file) .types) ⌝ }
+    ensures { λ r. ⌜ (
+        (address node : ℕ) (work : List ℕ) →
+        let T = tablesOf (now (file .entry)) in
+        let before = walkState T w work (now (plan .entry)) in
+        let after = walkState T (r .walk) work (now (plan .exit)) in
+        meetingOf r after ≡ meeting T address node (File.Slot.Const folded) ty (pathOf path) before
+        ) ⌝ }
+{
+    let n = narrow(file, index, plan, folded, ty, path, w);
+    let walk = n.walk;
+    if n.some {
+        return unopened(walk);
+    }
+    Met {
+        opens: Found::At(folded),
+        walk,
+    }
+}
+
+// `matched`, by the slot's kind.
+pub fn meet(
+    file: &[u8],
+    index: &[u16],
+    work: &mut [u8],
+    plan: &mut [u8],
+    node: usize,
+    slot: Slot,
+    ty: usize,
+    address: Address,
+    path: FieldPath,
+    w: Walk,
+) -> Met
+    requires { ⌜ AcceptedFile (now file) (now index) ⌝ }
+    requires { ⌜ ty < length (tablesOf (now file) .types) ⌝ }
+    ensures { λ r. ⌜ (
+        let T = tablesOf (now (file .entry)) in
+        let before = walkState T w (now (work .entry)) (now (plan .entry)) in
+        let after = walkState T (r .walk) (now (work .exit)) (now (plan .exit)) in
+        meetingOf r after ≡ meeting T (address .0) node (slotOf slot) ty (pathOf path) before
+        ) ⌝ }
+{
+    let kind = slot.kind;
+    let at = slot.path;
+    match kind {
+        SlotKind::Row(a, p) => unopened(meet_row(file, index, work, plan, node, a, p, ty, path, w)),
+        SlotKind::Key(_, _) => unopened(w.diagnose(work, node, Code::NyiWholeKey, true)),
+        SlotKind::Derived(_) => unopened(w.diagnose(work, node, Code::NyiValueMatch, true)),
+        SlotKind::Field(a, _) => unopened(meet_field(work, plan, node, a, at, address, path, w)),
+        SlotKind::Value(_, _) => unopened(w.diagnose(work, node, Code::NyiValueMatch, false)),
+        SlotKind::Const(n) => meet_const(file, index, plan, n, ty, path, w),
+    }
+}
+
+fn unchosen(w: Walk) -> Chosen
+    ensures { λ r. ⌜ r ≡ record { choice = Choice.Nothing; walk = w } ⌝ }
+{
+    Chosen {
+        choice: Choice::Nothing,
+        walk: w,
+    }
+}
+
+// The alternative that the one pair of a union value names.
+fn choose_alternative(
+    file: &[u8],
+    index: &[u16],
+    work: &mut [u8],
+    node: usize,
+    ty: usize,
+    w: Walk,
+) -> Chosen
+    requires { ⌜ AcceptedFile (now file) (now index) ⌝ }
+    requires { ⌜ ty < length (tablesOf (now file) .types) ⌝ }
+    ensures { λ r. ⌜ (
+        (plan : List ℕ) →
+        let T = tablesOf (now (file .entry)) in
+        let before = walkState T w (now (work .entry)) plan in
+        let after = walkState T (r .walk) (now (work .exit)) plan in
+        choosingOf r after ≡ alternativeChoice (recordFields (nodeAt T node)) (unionTy (typeAt T ty)) node before
+        ) ⌝ }
+{
+    let Run::Of(k, at) = pairs_of(file, index, node) else {
+        return unchosen(w);
+    };
+    let Run::Of(m, from) = union_ty(file, index, ty) else {
+        return unchosen(w);
+    };
+    if k != 1 {
+        return unchosen(w.diagnose(work, node, Code::RejectUnionArity, true));
+    }
+    let p = field_pattern_at(file, at, 0);
+    let MaybeAlternative::Just(a) = alternative_of(file, from, m, p.name) else {
+        return unchosen(w.diagnose(work, node, Code::RejectUnknownAlternative, true));
+    };
+    let choice = Choice::Payload(a.disc, p.node, a.ty);
+    Chosen { choice, walk: w }
+}
+
+// `inject`: the whole union's constant, or else the alternative that is walked.
+pub fn choose(
+    file: &[u8],
+    index: &[u16],
+    work: &mut [u8],
+    plan: &mut [u8],
+    node: usize,
+    ty: usize,
+    path: FieldPath,
+    w: Walk,
+) -> Chosen
+    requires { ⌜ AcceptedFile (now file) (now index) ⌝ }
+    requires { ⌜ ty < length (tablesOf (now file) .types) ⌝ }
+    ensures { λ r. ⌜ (
+        let T = tablesOf (now (file .entry)) in
+        let before = walkState T w (now (work .entry)) (now (plan .entry)) in
+        let after = walkState T (r .walk) (now (work .exit)) (now (plan .exit)) in
+        choosingOf r after ≡ choosing T node ty (pathOf path) before
+        ) ⌝ }
+{
+    let n = narrow(file, index, plan, node, ty, path, w);
+    let walk = n.walk;
+    if n.some {
+        return unchosen(walk);
+    }
+    choose_alternative(file, index, work, node, ty, walk)
+}

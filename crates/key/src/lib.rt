@@ -1,0 +1,416 @@
+// The walk of a pattern against a type. Each round of the four descends one type, whose number falls.
+ghost use mathlib.Core.Path.{_≡_};
+ghost use Prim.Native.Nat.{_<_};
+ghost use lib.ListN.{length};
+ghost use Rattle.rules.specs.File.{nodeAt, fieldPath};
+ghost use Rattle.rules.specs.Walk as WalkRules;
+ghost use Rattle.state.specs.Ops.{ops, skip};
+ghost use Rattle.file.specs.Tables.{tablesOf};
+ghost use Rattle.paths.specs.Paths.{pathOf};
+ghost use Rattle.slots.specs.Slots.{slotOf, SlotRoom};
+ghost use Rattle.accepted_file.specs.AcceptedFile.{AcceptedFile};
+ghost use Rattle.walk.specs.Step.{walkState};
+ghost use Rattle.field_cases.specs.Pieces.{Fits, patternsOf, fieldsFor};
+ghost use Rattle.field_cases.specs.Begin.{injectAt};
+ghost use Rattle.key.specs.Walks.{Walks, Gives, fieldsOf, wholeField};
+use entries::node_of;
+use field_cases::Choice;
+use field_cases::Next;
+use field_cases::begin;
+use field_cases::choose;
+use field_cases::meet;
+use field_cases::pairs_of;
+use field_cases::piece_at;
+use field_cases::pieces;
+use lists::lookup;
+use paths::Address;
+use paths::FieldPath;
+use resolve::field_slot;
+use resolve::resolve;
+use slots::Slot;
+use slots::SlotKind;
+use tables::Found;
+use tables::Run;
+use tables::record_ty;
+use views::FieldTy;
+use views::NodeView;
+use views::field_ty_at;
+use walk::Walk;
+
+// One key field: seek, splice, residual, or capture.
+pub fn field(
+    file: &[u8],
+    index: &[u16],
+    work: &mut [u8],
+    plan: &mut [u8],
+    node: usize,
+    ty: usize,
+    address: Address,
+    path: FieldPath,
+    w: Walk,
+) -> Walk
+    requires { ⌜ AcceptedFile (now file) (now index) ⌝ }
+    requires { ⌜ Fits (tablesOf (now file)) path ty ⌝ }
+    ensures { λ r. ⌜ (
+        let T = tablesOf (now (file .entry)) in
+        let before = walkState T w (now (work .entry)) (now (plan .entry)) in
+        let after = walkState T r (now (work .exit)) (now (plan .exit)) in
+        Walks T (address .0) node ty (pathOf path) before after
+        ) ⌝ }
+{
+    let b = begin(file, index, work, plan, node, ty, address, path, w);
+    let next = b.next;
+    match next {
+        Next::Done => b.walk,
+        Next::Matched => matched(
+            file,
+            index,
+            work,
+            plan,
+            node,
+            b.slot,
+            ty,
+            address,
+            path,
+            b.walk,
+        ),
+        Next::Partial => partial(file, index, work, plan, node, ty, address, path, b.walk),
+        Next::Inject => inject(file, index, work, plan, node, ty, address, path, b.walk),
+    }
+}
+
+// A field matched against a slot. A constant that does not determine the field's bytes is matched piece by piece.
+pub fn matched(
+    file: &[u8],
+    index: &[u16],
+    work: &mut [u8],
+    plan: &mut [u8],
+    node: usize,
+    slot: Slot,
+    ty: usize,
+    address: Address,
+    path: FieldPath,
+    w: Walk,
+) -> Walk
+    requires { ⌜ AcceptedFile (now file) (now index) ⌝ }
+    requires { ⌜ Fits (tablesOf (now file)) path ty ⌝ }
+    ensures { λ r. ⌜ (
+        let T = tablesOf (now (file .entry)) in
+        let before = walkState T w (now (work .entry)) (now (plan .entry)) in
+        let after = walkState T r (now (work .exit)) (now (plan .exit)) in
+        Gives T (address .0) ty
+        (λ below. WalkRules.matched (ops T) T (address .0) below node (slotOf slot) ty (pathOf path) before)
+        after
+        ) ⌝ }
+{
+    let m = meet(file, index, work, plan, node, slot, ty, address, path, w);
+    let opens = m.opens;
+    let Found::At(n) = opens else {
+        return m.walk;
+    };
+    partial(file, index, work, plan, n, ty, address, path, m.walk)
+}
+
+// A record pattern that gives some of its fields: building falls, and each piece is matched one step deeper.
+pub fn partial(
+    file: &[u8],
+    index: &[u16],
+    work: &mut [u8],
+    plan: &mut [u8],
+    node: usize,
+    ty: usize,
+    address: Address,
+    path: FieldPath,
+    w: Walk,
+) -> Walk
+    requires { ⌜ AcceptedFile (now file) (now index) ⌝ }
+    requires { ⌜ Fits (tablesOf (now file)) path ty ⌝ }
+    ensures { λ r. ⌜ (
+        let T = tablesOf (now (file .entry)) in
+        let before = walkState T w (now (work .entry)) (now (plan .entry)) in
+        let after = walkState T r (now (work .exit)) (now (plan .exit)) in
+        Gives T (address .0) ty
+        (λ below. WalkRules.partial (ops T) T (address .0) below node ty (pathOf path) before)
+        after
+        ) ⌝ }
+{
+    let count = pieces(file, index, node, ty);
+    let mut l = w.skip();
+    let mut i: usize = 0;
+    while i < count {
+        let p = piece_at(file, index, node, ty, i);
+        let pattern = p.pattern;
+        let step = i as u32;
+        i += 1;
+        if let Found::At(n) = pattern {
+            let q = path.then(step);
+            l = field(file, index, work, plan, n, p.ty, address, q, l);
+        }
+    }
+    l
+}
+
+// A union value: tag, payload, closer, unless all of it is constant.
+pub fn inject(
+    file: &[u8],
+    index: &[u16],
+    work: &mut [u8],
+    plan: &mut [u8],
+    node: usize,
+    ty: usize,
+    address: Address,
+    path: FieldPath,
+    w: Walk,
+) -> Walk
+    requires { ⌜ AcceptedFile (now file) (now index) ⌝ }
+    requires { ⌜ Fits (tablesOf (now file)) path ty ⌝ }
+    ensures { λ r. ⌜ (
+        let T = tablesOf (now (file .entry)) in
+        let before = walkState T w (now (work .entry)) (now (plan .entry)) in
+        let after = walkState T r (now (work .exit)) (now (plan .exit)) in
+        Gives T (address .0) ty
+        (λ below. injectAt T (address .0) below node ty (pathOf path) before)
+        after
+        ) ⌝ }
+{
+    let c = choose(file, index, work, plan, node, ty, path, w);
+    let open = c.walk;
+    let choice = c.choice;
+    let Choice::Payload(disc, n, t) = choice else {
+        return open;
+    };
+    let level = open.level;
+    let q = path.payload(disc);
+    let tagged = open.tag(path, disc, plan);
+    let walked = field(file, index, work, plan, n, t, address, q, tagged);
+    walked.closer(level.building, plan)
+}
+
+// A Record against a Record type: a field that no pattern names closes the seek.
+fn record_key(
+    file: &[u8],
+    index: &[u16],
+    work: &mut [u8],
+    plan: &mut [u8],
+    node: usize,
+    ty: usize,
+    address: Address,
+    w: Walk,
+) -> Walk
+    requires { ⌜ AcceptedFile (now file) (now index) ⌝ }
+    requires { ⌜ ty < length (tablesOf (now file) .types) ⌝ }
+    ensures { λ r. ⌜ (
+        let T = tablesOf (now (file .entry)) in
+        let before = walkState T w (now (work .entry)) (now (plan .entry)) in
+        let after = walkState T r (now (work .exit)) (now (plan .exit)) in
+        let field = WalkRules.field (ops T) T (address .0) in
+        after ≡ WalkRules.eachField field skip fieldPath (patternsOf T node) 0 (fieldsFor T node ty) before
+        ) ⌝ }
+{
+    let count = pieces(file, index, node, ty);
+    let mut l = w;
+    let mut i: usize = 0;
+    while i < count {
+        let p = piece_at(file, index, node, ty, i);
+        let pattern = p.pattern;
+        let path = FieldPath::field(i as u16);
+        i += 1;
+        if let Found::At(n) = pattern {
+            l = field(file, index, work, plan, n, p.ty, address, path, l);
+        } else {
+            l = l.skip();
+        }
+    }
+    l
+}
+
+// One field of a slot, matched against the key's field of its name.
+fn whole_field(
+    file: &[u8],
+    index: &[u16],
+    work: &mut [u8],
+    plan: &mut [u8],
+    node: usize,
+    slot: Slot,
+    field: FieldTy,
+    address: Address,
+    path: FieldPath,
+    w: Walk,
+) -> Walk
+    requires { ⌜ AcceptedFile (now file) (now index) ⌝ }
+    requires { ⌜ SlotRoom (tablesOf (now file)) (slotOf slot) ⌝ }
+    requires { ⌜ Fits (tablesOf (now file)) path (field .ty) ⌝ }
+    ensures { λ r. ⌜ (
+        let T = tablesOf (now (file .entry)) in
+        let before = walkState T w (now (work .entry)) (now (plan .entry)) in
+        let after = walkState T r (now (work .exit)) (now (plan .exit)) in
+        after ≡ wholeField T (address .0) node (slotOf slot) (field .name) (field .ty) (pathOf path) before
+        ) ⌝ }
+{
+    let a = field_slot(file, index, work, node, slot, field.name, w.lists());
+    let l = w.listed(a.lists);
+    if a.some {
+        return matched(
+            file,
+            index,
+            work,
+            plan,
+            node,
+            a.slot,
+            field.ty,
+            address,
+            path,
+            l,
+        );
+    }
+    l.skip()
+}
+
+fn whole_fields(
+    file: &[u8],
+    index: &[u16],
+    work: &mut [u8],
+    plan: &mut [u8],
+    node: usize,
+    slot: Slot,
+    ty: usize,
+    address: Address,
+    w: Walk,
+) -> Walk
+    requires { ⌜ AcceptedFile (now file) (now index) ⌝ }
+    requires { ⌜ ty < length (tablesOf (now file) .types) ⌝ }
+    requires { ⌜ SlotRoom (tablesOf (now file)) (slotOf slot) ⌝ }
+    ensures { λ r. ⌜ (
+        let T = tablesOf (now (file .entry)) in
+        let before = walkState T w (now (work .entry)) (now (plan .entry)) in
+        let after = walkState T r (now (work .exit)) (now (plan .exit)) in
+        after ≡ WalkRules.wholeFields (ops T) T (address .0) node (slotOf slot) 0 (fieldsOf T ty) before
+        ) ⌝ }
+{
+    let Run::Of(n, at) = record_ty(file, index, ty) else {
+        return w;
+    };
+    let mut l = w;
+    let mut i: usize = 0;
+    while i < n {
+        let f = field_ty_at(file, at, i);
+        let path = FieldPath::field(i as u16);
+        l = whole_field(file, index, work, plan, node, slot, f, address, path, l);
+        i += 1;
+    }
+    l
+}
+
+// A read: resolved once, then each of its fields in turn.
+fn whole_read(
+    file: &[u8],
+    index: &[u16],
+    work: &mut [u8],
+    plan: &mut [u8],
+    node: usize,
+    ty: usize,
+    address: Address,
+    w: Walk,
+) -> Walk
+    requires { ⌜ AcceptedFile (now file) (now index) ⌝ }
+    requires { ⌜ ty < length (tablesOf (now file) .types) ⌝ }
+    ensures { λ r. ⌜ (
+        let T = tablesOf (now (file .entry)) in
+        let before = walkState T w (now (work .entry)) (now (plan .entry)) in
+        let after = walkState T r (now (work .exit)) (now (plan .exit)) in
+        after ≡ WalkRules.wholeRead (ops T) T (address .0) node (fieldsOf T ty) before
+        ) ⌝ }
+{
+    let a = resolve(file, index, work, node, w.lists());
+    let l = w.listed(a.lists);
+    if a.some {
+        return whole_fields(file, index, work, plan, node, a.slot, ty, address, l);
+    }
+    l.skip()
+}
+
+// A new variable binds the whole key, which closes the seek as a bound field does.
+fn whole_variable(
+    file: &[u8],
+    index: &[u16],
+    work: &mut [u8],
+    plan: &mut [u8],
+    name: usize,
+    node: usize,
+    ty: usize,
+    address: Address,
+    w: Walk,
+) -> Walk
+    requires { ⌜ AcceptedFile (now file) (now index) ⌝ }
+    requires { ⌜ ty < length (tablesOf (now file) .types) ⌝ }
+    ensures { λ r. ⌜ (
+        let T = tablesOf (now (file .entry)) in
+        let before = walkState T w (now (work .entry)) (now (plan .entry)) in
+        let after = walkState T r (now (work .exit)) (now (plan .exit)) in
+        after ≡ WalkRules.wholeVariable (ops T) T (address .0) name node ty (fieldsOf T ty) before
+        ) ⌝ }
+{
+    let found = lookup(file, index, work, w.lists(), name);
+    if found.some {
+        return whole_read(file, index, work, plan, node, ty, address, w);
+    }
+    let slot = Slot::plain(SlotKind::Key(address, ty));
+    w.skip().bind(work, name, slot)
+}
+
+// A whole record key in one pattern.
+fn whole_key(
+    file: &[u8],
+    index: &[u16],
+    work: &mut [u8],
+    plan: &mut [u8],
+    node: usize,
+    ty: usize,
+    address: Address,
+    w: Walk,
+) -> Walk
+    requires { ⌜ AcceptedFile (now file) (now index) ⌝ }
+    requires { ⌜ ty < length (tablesOf (now file) .types) ⌝ }
+    ensures { λ r. ⌜ (
+        let T = tablesOf (now (file .entry)) in
+        let before = walkState T w (now (work .entry)) (now (plan .entry)) in
+        let after = walkState T r (now (work .exit)) (now (plan .exit)) in
+        after ≡ WalkRules.wholeKey (ops T) T (address .0) (nodeAt T node) node ty (fieldsOf T ty) before
+        ) ⌝ }
+{
+    match node_of(file, index, node) {
+        NodeView::Var(x) => whole_variable(file, index, work, plan, x, node, ty, address, w),
+        NodeView::Wildcard => w.skip(),
+        _ => whole_read(file, index, work, plan, node, ty, address, w),
+    }
+}
+
+// A level's key pattern, in the order of the type's fields, which is that of its bytes.
+pub fn key(
+    file: &[u8],
+    index: &[u16],
+    work: &mut [u8],
+    plan: &mut [u8],
+    node: usize,
+    ty: usize,
+    address: Address,
+    w: Walk,
+) -> Walk
+    requires { ⌜ AcceptedFile (now file) (now index) ⌝ }
+    requires { ⌜ ty < length (tablesOf (now file) .types) ⌝ }
+    ensures { λ r. ⌜ (
+        let T = tablesOf (now (file .entry)) in
+        let before = walkState T w (now (work .entry)) (now (plan .entry)) in
+        let after = walkState T r (now (work .exit)) (now (plan .exit)) in
+        after ≡ WalkRules.key (ops T) T (address .0) node ty before
+        ) ⌝ }
+{
+    let Run::Of(_, _) = record_ty(file, index, ty) else {
+        let path = FieldPath::field(0);
+        return field(file, index, work, plan, node, ty, address, path, w);
+    };
+    if let Run::Of(_, _) = pairs_of(file, index, node) {
+        return record_key(file, index, work, plan, node, ty, address, w);
+    }
+    whole_key(file, index, work, plan, node, ty, address, w)
+}

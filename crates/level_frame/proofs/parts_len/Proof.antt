@@ -1,0 +1,32 @@
+use native.Mathlib.Omega.{arith}
+use Rattle.level_frame.proofs.Puts.{parts-joined, parts-other}
+use borrow.Author.Needs.{needs}
+use Rattle.level_frame.proofs.parts_len.Statement.{statement}
+use Rattle.level_frame.proofs.parts_len.Tie as tie
+use Rattle.level_frame.proofs.parts_len.Reads as reads
+use Rattle.level_frame.proofs.parts_len.Lts as lts
+use Rattle.level_frame.proofs.seek_number.Reads as seek-number-reads
+use Rattle.records.proofs.wide32.Reads as wide32-reads
+
+wide32-requires : tie.Need-wide32-requires
+wide32-requires c κs = search needs
+
+seek-number-requires : tie.Need-seek-number-requires
+seek-number-requires c κs = search needs
+
+wide32-requires-2 : tie.Need-wide32-requires-2
+wide32-requires-2 c κs = search needs
+
+add-result : tie.Need-add-result
+add-result c = search needs
+
+returns : tie.Need-returns
+returns c = (λ T. parts-joined _ T _ _ (c .before .seek-number .ensures T) (c .if1 .taken) (c .before .before .wide32 .ensures .0), omega arith)
+
+returns-2 : tie.Need-returns-2
+returns-2 c = (λ T. parts-other _ T _ _ (c .before .before .seek-number .ensures T) (c .before .if1 .left) (let d = c .before .before .before in omega (arith, d .wide32 .ensures .0, c .wide322 .ensures .0)), omega arith)
+
+pub parts-len-spec : {M : Type 1} → statement M
+parts-len-spec =
+    tie.close
+    (tie.spec wide32-requires seek-number-requires wide32-requires-2 add-result returns returns-2)
