@@ -45,8 +45,11 @@ pub record Follows (g : File.Slot → Resolver State) (a : Answer) (w : List ℕ
   pub is : (level : Level) (target : Target) (plan : List ℕ) → answerOf r level target w′ plan ≡ follow (answerOf a level target w plan) g
   pub tidy : found r ≡ tidied (found r)
 
+abbrev pub OnAnswer : Type 0
+OnAnswer = ResolveRules.Answer State → ResolveRules.Answer State
+
 -- the same of what f makes of the answer a
-pub record Climbs (f : ResolveRules.Answer State → ResolveRules.Answer State) (a : Answer) (w : List ℕ) (r : Answer) (w′ : List ℕ) : Type 0 where
+pub record Climbs (f : OnAnswer) (a : Answer) (w : List ℕ) (r : Answer) (w′ : List ℕ) : Type 0 where
   pub is : (level : Level) (target : Target) (plan : List ℕ) → answerOf r level target w′ plan ≡ f (answerOf a level target w plan)
   pub tidy : found r ≡ tidied (found r)
 
