@@ -1,16 +1,16 @@
 -- What demand 3 reaches: from the record alone, whatever made the bytes, the plan's own items add up at every level, and each level begins where the one before it
 -- ended.
-use mathlib.Core.List.{List, [], _∷_, map}
+use mathlib.Core.List.{List, [], _∷_}
 use mathlib.Core.Option.{Option, none, some}
 use mathlib.Core.Path.{_≡_, refl, sym, ap, _∙_, subst}
-use Prim.Native.Nat.{ℕ, zero, suc, _+_, _<_}
+use Prim.Native.Nat.{ℕ, suc, _+_, _<_}
 use native.Mathlib.Omega.{arith}
 use lib.ListN.{length, getD}
 use Rattle.rules.specs.Base.{Each, done, more}
-use Rattle.rules.specs.Placement.{SeekKeyPart, Guide, Range, RangeEdge, SeekBuilder, SeekKey, joined, unranged, seek, seekKey}
+use Rattle.rules.specs.Placement.{SeekKeyPart, Range, RangeEdge, SeekKey, joined, unranged, seek, seekKey}
 use Rattle.rules.specs.File.{Tables}
 use Rattle.rules.specs.Levels.{Level}
-use Rattle.rules.specs.Plan.{PlanLevel, planLevel}
+use Rattle.rules.specs.Plan.{planLevel}
 use Rattle.rules.specs.Demand3.{number, edges, Kept, levelAt, startOf, Demand3, seekParts, seekRange, seekEdges, WellFormed, AddsUp}
 use Rattle.rules.proofs.Cases.{by-option, some≢none, some-injective}
 use Rattle.rules.proofs.Each.{each-map}

@@ -4,7 +4,6 @@ use mathlib.Core.List.{List, [], _∷_}
 use mathlib.Core.Option.{none, some}
 use mathlib.Core.Path.{_≡_, refl, sym, _∙_}
 use Prim.Native.Nat.{ℕ}
-use Rattle.rules.specs.Base.{both}
 use Rattle.rules.specs.File.{Tables, FieldPath, Slot, LevelEntry}
 use Rattle.rules.specs.Events.{Lists, Ops, walkOps, emit}
 use Rattle.rules.specs.Walk.{FieldWalk, constrainBy, constrain, read, variable}

@@ -13,7 +13,7 @@ use Rattle.rules.specs.Checks.{checks, fault}
 use Rattle.rules.specs.Constant.{unionTag, term}
 use Rattle.rules.specs.Events.{Select, Diagnostic, Narrowing, Event, Lists}
 use Rattle.rules.specs.Walk.{walkLevel}
-use Rattle.rules.specs.Placement.{SeekKeyPart, Guide, Range, Edges, SeekBuilder, new, place, placeAll, SeekKey, joined}
+use Rattle.rules.specs.Placement.{SeekKeyPart, Guide, Range, SeekBuilder, new, place, placeAll, SeekKey, joined}
 use Rattle.rules.specs.Levels.{Level, starting, narrowings}
 use Rattle.rules.specs.Now.{levelsNow}
 use Rattle.rules.specs.Plan.{PlanLevel, Plan, planLevel, planBytes}
