@@ -7,7 +7,7 @@ use Prim.Native.Nat.{ℕ, zero, suc, _+_, _-_, _≤_, _<_, min}
 use native.Mathlib.Omega.{arith}
 use borrow.Author.Tests.{leb-true, leb-false}
 use lib.Dec.{T as Holds, leb, lit≤}
-use lib.ListN.{length, take, replicate, length-append, length-replicate}
+use lib.ListN.{length, take, length-append, length-replicate}
 use lib.Seq.{take-at}
 use Rattle.rules.specs.Base.{Each, done, more}
 use Rattle.rules.specs.Limits.{fileLimit, workLimit, planLimit}
@@ -21,11 +21,11 @@ use Rattle.rules.proofs.Each.{Any, Perhaps, nothing, just, each-all}
 use Rattle.rules.proofs.Readers.{TablesOf, Answer, gives, refuses, reads-file}
 
 -- The refusals' numbers, from the first on.
-numbersFrom : ℕ → ℕ → List ℕ
+unfoldable pub numbersFrom : ℕ → ℕ → List ℕ
 numbersFrom first zero = []
 numbersFrom first (suc k) = first ∷ numbersFrom (suc first) k
 
-among-from : (first k n : ℕ) → first ≤ n → n < first + k → Among n (numbersFrom first k)
+pub among-from : (first k n : ℕ) → first ≤ n → n < first + k → Among n (numbersFrom first k)
 unfolding numbersFrom
 among-from first zero n l h = absurd (omega arith)
 among-from first (suc k) n l h =
@@ -101,26 +101,39 @@ module _ (room : ℕ) where
       (λ p. Ended.a-refusal (listed 2 (omega arith) (omega arith))))
       (λ q. Ended.a-refusal (listed 1 (omega arith) (omega arith)))
 
--- What such an outcome returns and leaves.
-ending-of : (output : List ℕ) (o : Outcome) → Ended (length output) o → Ending refusals (returned o) output (buffer (length output) o)
-unfolding returned buffer
-ending-of output _ (Ended.a-plan {bytes} s f) =
-    let front : take (length bytes) (bytes ++ zeros (length output - length bytes)) ≡ bytes = take-at bytes (zeros (length output - length bytes)) (length bytes) refl in
-    Ending.accepted (record { short = s; fits = f; rest-zero = ap (λ (l : List ℕ). l ++ zeros (length output - length bytes)) (sym front) })
-ending-of output _ (Ended.a-refusal {n} h) = Ending.refused (record { number = n; listed = h; result = refl; all-zero = refl })
+-- What a call with these refusals returns and leaves, by its outcome.
+abbrev pub Ends : List ℕ → List ℕ → List ℕ → Outcome → Type 0
+Ends numbers output work o =
+    let c = compiled o (length output) (length work) in
+    Demand1 numbers (c .result) output work (c .plan) (c .work)
 
-buffer-length : (room : ℕ) (o : Outcome) → Ended room o → length (buffer room o) ≡ room
-unfolding buffer
-buffer-length room _ (Ended.a-plan {bytes} s f) = omega (arith, length-append bytes (replicate (room - length bytes) 0), length-replicate {A = ℕ} (room - length bytes) 0)
-buffer-length room _ (Ended.a-refusal h) = length-replicate room 0
+module _ (numbers output work : List ℕ) where
+  pub demand1-planned : (bytes : List ℕ) → length bytes ≤ planLimit → length bytes ≤ length output → Ends numbers output work (Outcome.planned bytes)
+  unfolding compiled returned buffer
+  demand1-planned bytes s f =
+      let rest = zeros (length output - length bytes) in
+      let front : take (length bytes) (bytes ++ rest) ≡ bytes = take-at bytes rest (length bytes) refl in
+      record {
+        ending = Ending.accepted (record { short = s; fits = f; rest-zero = ap (λ (l : List ℕ). l ++ rest) (sym front) });
+        work-zero = refl;
+        output-length = omega (arith, length-append bytes rest, length-replicate {A = ℕ} (length output - length bytes) 0);
+        work-length = length-replicate (length work) 0;
+      }
+
+  pub demand1-refused : (n : ℕ) → Among n numbers → Ends numbers output work (Outcome.refused n)
+  unfolding compiled returned buffer
+  demand1-refused n h =
+      record {
+        ending = Ending.refused (record { number = n; listed = h; result = refl; all-zero = refl });
+        work-zero = refl;
+        output-length = length-replicate (length output) 0;
+        work-length = length-replicate (length work) 0;
+      }
+
+ends : (output work : List ℕ) (o : Outcome) → Ended (length output) o → Ends refusals output work o
+ends output work _ (Ended.a-plan {bytes} s f) = demand1-planned refusals output work bytes s f
+ends output work _ (Ended.a-refusal {n} h) = demand1-refused refusals output work n h
 
 pub demand1 : (file plan work : List ℕ) → Demand1 refusals (compile file plan work .result) plan work (compile file plan work .plan) (compile file plan work .work)
-unfolding compile compiled
-demand1 file plan work =
-    let o = ended (length plan) file (length work) in
-    record {
-      ending = ending-of plan (outcome file (length plan) (length work)) o;
-      work-zero = refl;
-      output-length = buffer-length (length plan) _ o;
-      work-length = length-replicate (length work) 0;
-    }
+unfolding compile
+demand1 file plan work = ends plan work _ (ended (length plan) file (length work))
