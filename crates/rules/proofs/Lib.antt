@@ -30,3 +30,9 @@ pub mod Kept
 pub mod Demand3
 -- What later code leans on.
 pub mod Paths
+-- The plan reader.
+pub mod ReaderRows
+pub mod ReaderWrites
+pub mod ReaderRules
+pub mod ReaderCuts
+pub mod ReaderReads

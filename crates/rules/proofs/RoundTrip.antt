@@ -48,11 +48,11 @@ module _ {A B : Type 0} where
   unfolding _>>=_ follow
   step h f rest e = ap (λ x. follow x f) (h .reads rest) ∙ e
 
-back-u16 : (n : ℕ) → n < 65536 → Back Read.u16 (Plan.u16 n) n
+pub back-u16 : (n : ℕ) → n < 65536 → Back Read.u16 (Plan.u16 n) n
 unfolding Read.u16 Plan.u16 _>>=_ follow u8 pure
 back-u16 n h = record { reads = λ rest. ap (λ m. got m rest) (omega arith) }
 
-back-u32 : (n : ℕ) → n < 4294967296 → Back Read.u32 (Plan.u32 n) n
+pub back-u32 : (n : ℕ) → n < 4294967296 → Back Read.u32 (Plan.u32 n) n
 unfolding Read.u32 Read.u16 Plan.u32 _>>=_ follow u8 pure
 back-u32 n h =
     let second : n / 256 / 256 ≡ n / 65536 = omega arith in
@@ -60,7 +60,7 @@ back-u32 n h =
     let last : n / 16777216 % 256 ≡ n / 16777216 = omega arith in
     record { reads = λ rest. ap (λ m. got m rest) (omega arith) }
 
-back-optional : (n : Option ℕ) → OptionNumber n → Back Read.optional (Plan.optional n) n
+pub back-optional : (n : Option ℕ) → OptionNumber n → Back Read.optional (Plan.optional n) n
 unfolding Read.optional Plan.optional pure
 back-optional none h = record { reads = λ rest. step (back-u16 65535 (omega arith)) _ rest refl }
 back-optional (some n) h =

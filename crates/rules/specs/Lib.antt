@@ -16,3 +16,4 @@ pub mod Plan
 pub mod Compile
 pub mod Demand1
 pub mod Demand3
+pub mod Reader

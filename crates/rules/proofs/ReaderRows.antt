@@ -1,0 +1,217 @@
+-- The plan reader by computing: plans of the door table, each cut short, each byte that has no meaning, each rule broken. A row is a plan's bytes, how many and as
+-- one number in hex, the first byte first, and what the call gives for them.
+use mathlib.Core.List.{List, [], _∷_}
+use mathlib.Core.Path.{_≡_, refl}
+use Prim.Native.Nat.{ℕ, zero, suc, _/_, _%_}
+use lib.ListN.{take}
+use Rattle.rules.specs.Base.{openBase}
+use Rattle.rules.specs.File.{openFile}
+use Rattle.rules.specs.Read.{openRead}
+use Rattle.rules.specs.Lookup.{openLookup}
+use Rattle.rules.specs.Events.{openEvents}
+use Rattle.rules.specs.Placement.{openPlacement}
+use Rattle.rules.specs.Plan.{openPlan}
+use Rattle.rules.specs.Compile.{Outcome, openCompile}
+use Rattle.rules.specs.Demand3.{openDemand3}
+use Rattle.rules.specs.Reader
+use Rattle.rules.specs.Reader.{openReader}
+
+unfoldable bytesOf : ℕ → ℕ → List ℕ → List ℕ
+bytesOf zero n after = after
+bytesOf (suc count) n after = bytesOf count (n / 256) (n % 256 ∷ after)
+
+abbrev bytes : ℕ → ℕ → List ℕ
+bytes count n = bytesOf count n []
+
+-- with room for any plan
+unfoldable read : List ℕ → Outcome
+read plan = Reader.outcome plan 16384
+
+-- what the call gives for the first n bytes, for each n below a number
+unfoldable cuts : ℕ → List ℕ → List Outcome
+cuts zero plan = []
+cuts (suc n) plan = read (take n plan) ∷ cuts n plan
+
+unfoldable again : ℕ → Outcome → List Outcome
+again zero o = []
+again (suc n) o = o ∷ again n o
+
+unfoldable openRows : Unit {0}
+unfolding openBase openFile openRead openLookup openEvents openPlacement openPlan openCompile openDemand3 openReader bytesOf read cuts again
+openRows = tt
+
+-- the empty plan, and plans of the door table
+abbrev empty : List ℕ
+empty = bytes 10 0
+
+abbrev D1 : List ℕ
+D1 = bytes 41 0x0100020000000100020009000280000000000000070200036b01000000000000000000000000000000
+
+abbrev D7 : List ℕ
+D7 = bytes 40 0x01000200010003000100050005000000010105000200000001000000000000000000000000000000
+
+abbrev D8 : List ℕ
+D8 = bytes 47 0x0100000000000000030209000280000000000000030000000001000000010000000300000000000000000000000000
+
+abbrev D9 : List ℕ
+D9 = bytes 49 0x01000200000000000203000370610000000100000001000201000000000100000003000000000000000100000000000000
+
+row-empty : read empty ≡ Outcome.planned empty
+unfolding openRows
+row-empty = refl
+
+row-D1 : read D1 ≡ Outcome.planned D1
+unfolding openRows
+row-D1 = refl
+
+row-D7 : read D7 ≡ Outcome.planned D7
+unfolding openRows
+row-D7 = refl
+
+row-D8 : read D8 ≡ Outcome.planned D8
+unfolding openRows
+row-D8 = refl
+
+row-D9 : read D9 ≡ Outcome.planned D9
+unfolding openRows
+row-D9 = refl
+
+-- slots 0 to 5, as in the rule file
+row-every-slot : read (bytes 51 0x06000000000000ffff00000100000000000002000000000300000000000000000004000000000000050000000000000000) ≡ Outcome.planned (bytes 51 0x06000000000000ffff00000100000000000002000000000300000000000000000004000000000000050000000000000000)
+unfolding openRows
+row-every-slot = refl
+
+-- 16: each of these plans, cut short anywhere
+cuts-D1 : cuts 41 D1 ≡ again 41 (Outcome.refused 16)
+unfolding openRows
+cuts-D1 = refl
+
+cuts-D7 : cuts 40 D7 ≡ again 40 (Outcome.refused 16)
+unfolding openRows
+cuts-D7 = refl
+
+cuts-D8 : cuts 47 D8 ≡ again 47 (Outcome.refused 16)
+unfolding openRows
+cuts-D8 = refl
+
+cuts-D9 : cuts 49 D9 ≡ again 49 (Outcome.refused 16)
+unfolding openRows
+cuts-D9 = refl
+
+-- fifteen steps, and none of them there
+early-fifteen-steps : read (bytes 15 0x01000100000000000000000100000f) ≡ Outcome.refused 16
+unfolding openRows
+early-fifteen-steps = refl
+
+-- a rule broken in a plan that ends early: checked last
+early-cut-and-broken : read (bytes 16 0x01000100000000000000000000000000) ≡ Outcome.refused 16
+unfolding openRows
+early-cut-and-broken = refl
+
+-- 17, met at the byte itself, where none follows it
+
+-- a seek of 4
+unknown-seek : read (bytes 9 0x010000000000000004) ≡ Outcome.refused 17
+unfolding openRows
+unknown-seek = refl
+
+-- a part of 3
+unknown-part : read (bytes 10 0x01000100000001000103) ≡ Outcome.refused 17
+unfolding openRows
+unknown-part = refl
+
+-- an edge of 3
+unknown-edge : read (bytes 10 0x01000000000000000303) ≡ Outcome.refused 17
+unfolding openRows
+unknown-edge = refl
+
+-- a guide of 2
+unknown-guide : read (bytes 12 0x010000000000000000000002) ≡ Outcome.refused 17
+unfolding openRows
+unknown-guide = refl
+
+-- an op of 6
+unknown-op : read (bytes 18 0x010001000000000000000000010000000006) ≡ Outcome.refused 17
+unfolding openRows
+unknown-op = refl
+
+-- an anchor of 2
+unknown-anchor : read (bytes 19 0x01000100000000000000000100000000000002) ≡ Outcome.refused 17
+unfolding openRows
+unknown-anchor = refl
+
+-- sixteen steps, refused at their count
+unknown-steps : read (bytes 15 0x010001000000000000000001000010) ≡ Outcome.refused 17
+unfolding openRows
+unknown-steps = refl
+
+-- a slot of 6
+unknown-slot : read (bytes 7 0x0100000006) ≡ Outcome.refused 17
+unfolding openRows
+unknown-slot = refl
+
+-- a diagnostic's code 0
+unknown-code-0 : read (bytes 13 0x0100000000) ≡ Outcome.refused 17
+unfolding openRows
+unknown-code-0 = refl
+
+-- a code above the last
+unknown-code-12 : read (bytes 13 0x010000000c) ≡ Outcome.refused 17
+unfolding openRows
+unknown-code-12 = refl
+
+-- a byte left over
+unknown-left-over : read (bytes 11 0x00) ≡ Outcome.refused 17
+unfolding openRows
+unknown-left-over = refl
+
+-- 18
+
+-- closers above parts
+broken-closers : read (bytes 24 0x010000000100000000000000000000000000000000000000) ≡ Outcome.refused 18
+unfolding openRows
+broken-closers = refl
+
+-- a narrowing that stands nowhere
+broken-sum : read (bytes 24 0x010001000000000000000000000000000000000000000000) ≡ Outcome.refused 18
+unfolding openRows
+broken-sum = refl
+
+-- a folded comparison without an edge
+broken-folded : read (bytes 26 0x0100000000000000000000000000010000000000000000000000) ≡ Outcome.refused 18
+unfolding openRows
+broken-folded = refl
+
+-- Bounded without an edge
+broken-no-edge : read (bytes 24 0x010000000000000003000000000000000000000000000000) ≡ Outcome.refused 18
+unfolding openRows
+broken-no-edge = refl
+
+-- a guide beside an edge
+broken-edge-and-guide : read (bytes 35 0x0100010000000000030100000001000000000000000000010000000000000000000000) ≡ Outcome.refused 18
+unfolding openRows
+broken-edge-and-guide = refl
+
+-- a guide beside a range of another path
+broken-guide-elsewhere : read (bytes 34 0x01000200000000000200000000000101000000000000000000000000000000000000) ≡ Outcome.refused 18
+unfolding openRows
+broken-guide-elsewhere = refl
+
+-- Composite where every part is bytes
+broken-composite : read (bytes 26 0x0100010000000100010001000200000000000000000000000000) ≡ Outcome.refused 18
+unfolding openRows
+broken-composite = refl
+
+-- the second level breaks a rule
+broken-second-level : read (bytes 38 0x0200000000000000000000000000000000000100000000000000000000000000000000000000) ≡ Outcome.refused 18
+unfolding openRows
+broken-second-level = refl
+
+-- 15 by the lengths alone: no room for the last byte, and so before a byte that has no meaning
+long-D1 : Reader.outcome D1 40 ≡ Outcome.refused 15
+unfolding openRows
+long-D1 = refl
+
+long-unknown : Reader.outcome (bytes 9 0x010000000000000004) 8 ≡ Outcome.refused 15
+unfolding openRows
+long-unknown = refl
