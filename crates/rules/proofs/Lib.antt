@@ -36,3 +36,5 @@ pub mod ReaderWrites
 pub mod ReaderRules
 pub mod ReaderCuts
 pub mod ReaderReads
+pub mod ReaderTables
+pub mod ReaderWithin

@@ -52,19 +52,19 @@ pub record Bounded (T : Tables) : Type 0 where
   pub levels : Each (λ l. l .address < 65536) (T .levels)
 
 -- as many as were asked for
-record Many {A : Type 0} (Q : A → Type 0) (n : ℕ) (xs : List A) : Type 0 where
-  each : Each Q xs
-  count : length xs ≡ n
+pub record Many {A : Type 0} (Q : A → Type 0) (n : ℕ) (xs : List A) : Type 0 where
+  pub each : Each Q xs
+  pub count : length xs ≡ n
 
-u16-bound : Reads Byte (λ n. n < 65536) Read.u16
+pub u16-bound : Reads Byte (λ n. n < 65536) Read.u16
 unfolding Read.u16
 u16-bound = reads-bind reads-u8 λ lo l. reads-bind reads-u8 λ hi h. reads-pure _ (omega arith)
 
-u32-bound : Reads Byte (λ n. n < 4294967296) Read.u32
+pub u32-bound : Reads Byte (λ n. n < 4294967296) Read.u32
 unfolding Read.u32
 u32-bound = reads-bind u16-bound λ lo l. reads-bind u16-bound λ hi h. reads-pure _ (omega arith)
 
-many-bound : {A : Type 0} {Q : A → Type 0} (n : ℕ) {r : Reader A} → Reads Byte Q r → Reads Byte (Many Q n) (many n r)
+pub many-bound : {A : Type 0} {Q : A → Type 0} (n : ℕ) {r : Reader A} → Reads Byte Q r → Reads Byte (Many Q n) (many n r)
 unfolding many
 many-bound zero h = reads-pure _ (record { each = done; count = refl })
 many-bound (suc n) h = reads-bind h λ x q. reads-bind (many-bound n h) λ xs qs. reads-pure _ (record { each = more q (qs .each); count = ap suc (qs .count) })
@@ -78,11 +78,11 @@ several-bound {A} {Q} {r} h = reads-bind reads-u8 λ n b. record { answer = λ b
     few n b (refuses l m) = refuses l m
 
 -- a section's records and how many there may be
-record Counted {A : Type 0} (Q : A → Type 0) (limit : ℕ) (xs : List A) : Type 0 where
-  each : Each Q xs
-  count : length xs ≤ limit
+pub record Counted {A : Type 0} (Q : A → Type 0) (limit : ℕ) (xs : List A) : Type 0 where
+  pub each : Each Q xs
+  pub count : length xs ≤ limit
 
-section-bound : {A : Type 0} {Q : A → Type 0} (limit : ℕ) {r : Reader A} → Reads Byte Q r → Reads Byte (Counted Q limit) (section limit r)
+pub section-bound : {A : Type 0} {Q : A → Type 0} (limit : ℕ) {r : Reader A} → Reads Byte Q r → Reads Byte (Counted Q limit) (section limit r)
 unfolding section
 section-bound {A} {Q} limit {r} h = reads-bind reads-u16 λ n _. go n (leb n limit) refl
   where
@@ -172,7 +172,7 @@ abbrev IsGot : {A : Type 0} → Read A → Type 0
 IsGot (got a rest) = Unit {0}
 IsGot (refused n) = ⊥
 
-of-answer : {A : Type 0} {Q : A → Type 0} {x : Read A} (a : A) (rest : List ℕ) → Answer Byte Q x → x ≡ got a rest → Q a
+pub of-answer : {A : Type 0} {Q : A → Type 0} {x : Read A} (a : A) (rest : List ℕ) → Answer Byte Q x → x ≡ got a rest → Q a
 unfolding readOr
 of-answer {A} {Q} a rest (gives q h) e = subst Q (ap (readOr a) e) q
 of-answer a rest (refuses l m) e = absurd (subst IsGot (sym e) tt)
