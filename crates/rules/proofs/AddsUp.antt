@@ -51,7 +51,7 @@ tells parts none none none h =
 
 module _ (l : Level) where
   -- what one level keeps, said of its items in the plan
-  adds-up : {T : Tables} → Kept T (l .events) (l .built) → AddsUp (planLevel l)
+  pub adds-up : {T : Tables} → Kept T (l .events) (l .built) → AddsUp (planLevel l)
   unfolding planLevel seekKey edges
   adds-up k =
       let b = l .built in

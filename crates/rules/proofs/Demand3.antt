@@ -35,7 +35,7 @@ module _ (T : Tables) (S : Sound T) where
       let a = walk-keeps T S Emits (emits-keeps T) l h lists fit .0 in
       subst (Nested 0) (append-nil (a .emitted) ∙ sym (a .events-end)) (a .balanced 0 [] tt)
 
-  one-level : (l : LevelEntry) → l .predicate < length (T .predicates) → (lists : Lists) → Each (BindingOk T) (lists .bindings) → LevelKept T l lists (level T l lists)
+  pub one-level : (l : LevelEntry) → l .predicate < length (T .predicates) → (lists : Lists) → Each (BindingOk T) (lists .bindings) → LevelKept T l lists (level T l lists)
   unfolding level levelOf
   one-level l h lists fit =
       record {
@@ -189,20 +189,20 @@ reading-kept bytes room (got T rest) e out q = checked-kept bytes room T (e ∙ 
 reading-kept bytes room (refused n) e out q = absurd (refused≢planned n out q)
 
 -- whatever the file, the buffers' lengths and the plan
-outcome-kept : (bytes : List ℕ) (room area : ℕ) (out : List ℕ) → outcome bytes room area ≡ Outcome.planned out → Demand3 bytes out
+pub outcome-kept : (bytes : List ℕ) (room area : ℕ) (out : List ℕ) → outcome bytes room area ≡ Outcome.planned out → Demand3 bytes out
 unfolding outcome
 outcome-kept bytes room area out =
     by-test (λ (r : Outcome). r ≡ Outcome.planned out → Demand3 bytes out) (leb (length bytes) fileLimit)
     (λ q. by-test (λ (r : Outcome). r ≡ Outcome.planned out → Demand3 bytes out) (leb workLimit area) (λ p e. reading-kept bytes room (file bytes) refl out e) (λ p e. absurd (refused≢planned 2 out e)))
     (λ q e. absurd (refused≢planned 1 out e))
 
--- "For every accepted file": a call that returned a length left a plan of that length
-returned-kept : (bytes : List ℕ) (room : ℕ) (o : Outcome) → Ended room o → ((out : List ℕ) → o ≡ Outcome.planned out → Demand3 bytes out)
-    → returned o < 65536 → Demand3 bytes (take (returned o) (buffer room o))
+-- "For every accepted file": a call that returned a length left a plan of that length, and what holds of the plan holds of the buffer's front
+pub returned-front : (P : List ℕ → Type 0) (room : ℕ) (o : Outcome) → Ended room o → ((out : List ℕ) → o ≡ Outcome.planned out → P out)
+    → returned o < 65536 → P (take (returned o) (buffer room o))
 unfolding returned buffer
-returned-kept bytes room _ (Ended.a-plan {bytes = out} s f) h l = subst (Demand3 bytes) (sym (take-at out _ (length out) refl)) (h out refl)
-returned-kept bytes room _ (Ended.a-refusal {n} h) k l = absurd (omega (arith, numbered n h .0, l))
+returned-front P room _ (Ended.a-plan {bytes = out} s f) h l = subst P (sym (take-at out _ (length out) refl)) (h out refl)
+returned-front P room _ (Ended.a-refusal {n} h) k l = absurd (omega (arith, numbered n h .0, l))
 
 pub demand3 : (bytes plan work : List ℕ) → compile bytes plan work .result < 65536 → Demand3 bytes (take (compile bytes plan work .result) (compile bytes plan work .plan))
 unfolding compile compiled
-demand3 bytes plan work = returned-kept bytes (length plan) _ (ended (length plan) bytes (length work)) (outcome-kept bytes (length plan) (length work))
+demand3 bytes plan work = returned-front (Demand3 bytes) (length plan) _ (ended (length plan) bytes (length work)) (outcome-kept bytes (length plan) (length work))

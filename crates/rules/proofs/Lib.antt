@@ -38,3 +38,6 @@ pub mod ReaderCuts
 pub mod ReaderReads
 pub mod ReaderTables
 pub mod ReaderWithin
+pub mod ReaderPlaced
+pub mod ReaderLevels
+pub mod ReaderCompiled
