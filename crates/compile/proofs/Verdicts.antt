@@ -1,4 +1,4 @@
--- From the lent memory and the verdict on a file to the writtenTo rules' outcome.
+-- From the lent memory and the verdict on a file to the written rules' outcome.
 use mathlib.Core.Bool.{Bool, true, false}
 use mathlib.Core.List.{List, []}
 use mathlib.Core.Option.{Option, none, some}

@@ -1,4 +1,4 @@
--- A measured level and the lists: writtenTo where they fit, else the plan is too long.
+-- A measured level and the lists: written where they fit, else the plan is too long.
 use mathlib.Core.Bool.{Bool, true, false}
 use mathlib.Core.List.{List}
 use mathlib.Core.Path.{_≡_, refl, sym, ap, _∙_}

@@ -7,7 +7,7 @@ use Rattle.state.specs.Levels.{writtenTo}
 use Rattle.lists.specs.Lists.{stateWith}
 use Rattle.levels.specs.declared.Written.{Written}
 
--- betweenLevels two levels no level is kept: each begins its own
+-- between two levels no level is kept: each begins its own
 unfoldable pub unleveled : State → State
 unleveled s = state (s .over) (s .ends) newLevel measuring (s .work) (s .plan)
 

@@ -1,4 +1,4 @@
--- Bytes at a place, writtenAt or not.
+-- Bytes at a place, written or not.
 use mathlib.Core.Path.{_≡_, refl, sym, ap, _∙_}
 use mathlib.Core.Bool.{Bool, true, false}
 use mathlib.Core.List.{List, [], _∷_, _++_}
@@ -28,12 +28,12 @@ module _ (p : Place) (bytes w : List ℕ) where
   unfolding writtenAt
   on w' e h = h ∙ sym (ap (λ t. elim t [ true ↦ put w (p .at) bytes | false ↦ w ]) e)
 
-  -- where nothing is writtenAt, the bytes do not matter
+  -- where nothing is written, the bytes do not matter
   pub off-both : (bytes' : List ℕ) → p .write ≡ false → writtenAt p bytes w ≡ writtenAt p bytes' w
   unfolding writtenAt
   off-both bytes' e = ap (λ t. elim t [ true ↦ put w (p .at) bytes | false ↦ w ]) e ∙ sym (ap (λ t. elim t [ true ↦ put w (p .at) bytes' | false ↦ w ]) e)
 
--- bytes that are alike where they are writtenAt
+-- bytes that are alike where they are written
 pub same-on : (p : Place) (xs ys w : List ℕ) → (p .write ≡ true → xs ≡ ys) → writtenAt p xs w ≡ writtenAt p ys w
 same-on p xs ys w e = go (p .write) refl
   where

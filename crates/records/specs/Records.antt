@@ -17,7 +17,7 @@ put w at bytes = sets w at bytes
 abbrev pub reach : ℕ
 reach = 1152921504606846976
 
--- bytes at a place of the plan, if they are to be writtenAt
+-- bytes at a place of the plan, if they are to be written
 unfoldable pub writtenAt : Place → List ℕ → List ℕ → List ℕ
 writtenAt place bytes plan = elim (place .write) [ true ↦ put plan (place .at) bytes | false ↦ plan ]
 
@@ -33,7 +33,7 @@ behind n place = record { write = place .write; joined = place .joined; at = pla
 unfoldable pub headOf : Bool → ℕ → List ℕ
 headOf joined len = elim joined [ true ↦ [] | false ↦ 0 ∷ Plan.u16 len ]
 
--- the place of a part that is no bytes: nothing is writtenAt where it is joined
+-- the place of a part that is no bytes: nothing is written where it is joined
 unfoldable pub apartOf : Place → Place
 apartOf place = elim (place .joined) [ true ↦ record { write = false; joined = true; at = place .at } | false ↦ place ]
 

@@ -1,4 +1,4 @@
-// Records of the plan's form, writtenAt at a place of a lent buffer and read back. A place outside the buffer takes nothing, so no caller
+// Records of the plan's form, written at a place of a lent buffer and read back. A place outside the buffer takes nothing, so no caller
 // has to show that there is room.
 ghost use mathlib.Core.Path.{_≡_};
 ghost use mathlib.Core.Bool.{true, false};

@@ -1,4 +1,4 @@
--- A constant that is bytes: how many, and where they are writtenAt.
+-- A constant that is bytes: how many, and where they are written.
 use mathlib.Core.Path.{_≡_, refl, sym, ap, _∙_}
 use mathlib.Core.Bool.{Bool, false}
 use mathlib.Core.List.{List, []}

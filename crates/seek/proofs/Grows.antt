@@ -97,7 +97,7 @@ module _ (b : SeekBuilder) (plain : Bool) (s : Sums) (at : ℕ) where
   pub grown-at : grownBy plain s at b .place .at ≡ at
   grown-at = grown-by (λ x. x .place .at ≡ at) (λ h. refl) (λ h. refl)
 
-  -- what is writtenAt fits
+  -- what is written fits
   pub grown-fits : grownBy plain s at b .place .write ≡ true → countsFit plain (sumsOf s) ≡ true
   grown-fits = grown-by (λ x. x .place .write ≡ true → countsFit plain (sumsOf s) ≡ true) (λ h w. h) (λ h w. absurd (true≢false (sym w)))
 

@@ -72,7 +72,7 @@ pub text-size : (bytes : List ℕ) → length (Plan.part (SeekKeyPart.Bytes byte
 unfolding Plan.part Plan.text Plan.u16
 text-size bytes = omega arith
 
--- a text's length counts only where it is writtenAt
+-- a text's length counts only where it is written
 pub exact : (m n : ℕ) → SameUpToLimit m n → n ≤ 16384 → m ≡ n
 exact m n e h = omega arith
 

@@ -1,4 +1,4 @@
--- One part or one residual more, and where it is writtenAt.
+-- One part or one residual more, and where it is written.
 use mathlib.Core.Path.{_≡_, refl, sym, ap, _∙_}
 use mathlib.Core.Bool.{Bool, true, false}
 use mathlib.Core.List.{List}
@@ -39,7 +39,7 @@ pub sums-other : (closer : Bool) (text frame : ℕ) (s : Sums) → closer ≡ fa
 unfolding partSums
 sums-other closer text frame s e = ap (λ t. partSums t text frame s) (sym e)
 
--- the counts of the writtenAt state
+-- the counts of the written state
 more-counts : (closer : Bool) (c : Counts) (text frame : ℕ) (k : Kept.Counts) → k ≡ counting closer (countsOf c)
     → sumsOf (partSums closer text frame (summed c)) ≡ counts (k .narrowings) (k .closers) (k .parts + 1) (k .residuals) (k .joined + text) (k .parted + (text + frame)) (k .rest)
 unfolding sumsOf partSums countsOf narrowed closed
@@ -146,7 +146,7 @@ module _ (b : SeekBuilder) where
   pub grown-place : (plain : Bool) (s : Sums) (at : ℕ) (r : Placed) → r ≡ grownBy plain s at b → r .place .at ≡ at
   grown-place plain s at r e = ap (λ (x : Placed). x .place .at) e ∙ grown-at b plain s at
 
-  -- what is writtenAt is no longer than a plan
+  -- what is written is no longer than a plan
   pub part-room : (closer bytes : Bool) (text frame : ℕ) (r : Placed) → r ≡ partBy closer bytes text frame b → r .place .write ≡ true → text ≤ 16384
   unfolding partBy
   part-room closer bytes text frame r e on =
@@ -178,7 +178,7 @@ module _ (b : SeekBuilder) where
         ∙ ap (λ (i : ℕ). grow (resummed plain (partSums closer n frame c) (levelOf T b)) i form st) part-at
         ∙ ap (λ l. grow l (partAt st) (partForm st part) st) (more-level closer bytes (b .counts) n frame part (levelOf T b) eb refl ef)
 
-    -- a level with one part more, and the part writtenAt, is the compiler's
+    -- a level with one part more, and the part written, is the compiler's
     pub part-is : (closer bytes : Bool) (text frame : ℕ) (part : SeekKeyPart) (r : Placed) (q : List ℕ) → r ≡ partBy closer bytes text frame b
         → isBytes part ≡ bytes → SameUpToLimit (length (partText part)) text → length (Plan.part part) ≡ length (partText part) + frame
         → q ≡ writtenAt (r .place) (formOf (r .place .joined) part) p

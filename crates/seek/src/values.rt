@@ -30,7 +30,7 @@ use records::put_head;
 use records::put_path_at;
 use records::put_text_at;
 
-// A constant's bytes at a place, if they are to be writtenAt.
+// A constant's bytes at a place, if they are to be written.
 fn put_constant_at(
     file: &[u8],
     index: &[u16],
@@ -54,7 +54,7 @@ fn put_constant_at(
     put_constant(file, index, plan, place.at, node, ty);
 }
 
-// A prefix's bytes at a place, if they are to be writtenAt.
+// A prefix's bytes at a place, if they are to be written.
 fn put_prefix_at(file: &[u8], index: &[u16], plan: &mut [u8], place: Place, name: usize)
     requires { ⌜ Indexed (now file) (now index) ⌝ }
     requires { ⌜ (name < length (tablesOf (now file) .names)) × (place .at ≤ reach) ⌝ }

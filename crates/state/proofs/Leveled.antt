@@ -1,4 +1,4 @@
--- One level in the memory, measured and then writtenTo: it stands in the plan as the writtenTo rules have it, or the rules' plan is really too long.
+-- One level in the memory, measured and then written: it stands in the plan as the written rules have it, or the rules' plan is really too long.
 use mathlib.Core.Bool.{true, false}
 use mathlib.Core.List.{List, [], _∷_, _++_}
 use mathlib.Core.Path.{_≡_, refl, sym, ap, _∙_, subst}
@@ -79,13 +79,13 @@ bare-plan t base n b e =
     (λ _. sym (λ i. sets (sets base (t .partsAt) (concatMap (formAs (t .joining)) (parts i))) (t .restAt) (concatMap Plan.residual (rest i))))
     (λ _. refl)
 
--- Between levels: the lists in the work area, and the plan writtenTo up to `front`.
+-- Between levels: the lists in the work area, and the plan written up to `front`.
 pub record Between (T : Tables) (base : List ℕ) (l : Lists) (front : List ℕ) (w : Written) : Type 0 where
   pub mem : Mem T l (w .state .ends) (w .state .work)
   pub at : w .at ≡ length front
   pub plan : w .state .plan ≡ sets base 0 front
 
--- After a level: so far writtenTo, or too long. `long` is what the plan would be at least.
+-- After a level: so far written, or too long. `long` is what the plan would be at least.
 pub record After (T : Tables) (base : List ℕ) (l : Lists) (front : List ℕ) (long : ℕ) (w : Written) : Type 0 where
   pub live : w .state .over ≡ false → Between T base l front w
   pub dead : w .state .over ≡ true → min planLimit (length base) < long
@@ -119,7 +119,7 @@ module _ (T : Tables) (S : Sound T) (bounded : Bounded T) where
     adds : Adds l (W .lists)
     adds = walk-keeps T S AddsTo (adds-keeps T) entry (ok .predicate) l fit .0
 
-    -- measured, and then writtenTo
+    -- measured, and then written
     module _ (e : Ends) (at : ℕ) (work : List ℕ) (m : State) (eat : at ≡ length front) (mem : Mem T l e work) (o : m .over ≡ false) (g : Good T measuring (sets base 0 front) (W .lists) (met W) (built T W) m) where
       ends-at : levelEnd at (m .level) ≡ length (front ++ bytes)
       ends-at = omega (arith, eat, ap (levelEnd at) (g .level), level-end at (met W) (built T W), length-append front bytes)

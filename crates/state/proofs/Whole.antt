@@ -1,4 +1,4 @@
--- The memory computes what the writtenTo rules say: for every accepted file the same plan, and refusal 15 exactly where the rules' plan is too long.
+-- The memory computes what the written rules say: for every accepted file the same plan, and refusal 15 exactly where the rules' plan is too long.
 use mathlib.Core.Bool.{Bool, true, false}
 use mathlib.Core.List.{List, [], _∷_, _++_, map, append-nil, append-assoc}
 use mathlib.Core.Option.{none}

@@ -1,4 +1,4 @@
--- A level measured, then writtenTo at its final place in the plan; the list of levels; the four lists after them.
+-- A level measured, then written at its final place in the plan; the list of levels; the four lists after them.
 use mathlib.Core.Bool.{Bool, true, false}
 use mathlib.Core.List.{List, [], _∷_, _++_}
 use mathlib.Core.Option.{Option, none, some}
@@ -38,7 +38,7 @@ joins plain none none none = plain
 unfoldable pub joining : Level → Bool
 joining l = joins (l .plain) (l .range) (l .edges .lo) (l .edges .hi)
 
--- What stands in the plan before a level's parts, rangeOrEdges its parts and its residuals, and after its residuals.
+-- What stands in the plan before a level's parts, between its parts and its residuals, and after its residuals.
 unfoldable pub head : Level → List ℕ
 head l =
     let c = l .counts in
@@ -73,7 +73,7 @@ tailAt at l = restAt at l + l .counts .rest
 unfoldable pub levelEnd : ℕ → Level → ℕ
 levelEnd at l = tailAt at l + length (tail l)
 
--- a plan that is writtenTo up to `at`
+-- a plan that is written up to `at`
 pub record Written : Type 0 where
   pub at : ℕ
   pub state : State
@@ -100,7 +100,7 @@ bare l = both (eqb (l .counts .parts) 0) (eqb (l .counts .residuals) 0)
 unfoldable pub framed : ℕ → State → State
 framed at m = state (m .over) (m .ends) (m .level) (m .target) (m .work) (frame at (m .level) (m .plan))
 
--- Measured, it is walked once more from the lists as they were, and writtenTo. A bare one has nothing more to write, and its lists are made
+-- Measured, it is walked once more from the lists as they were, and written. A bare one has nothing more to write, and its lists are made
 -- already: it is not walked again.
 unfoldable pub rewritten : Tables → LevelEntry → Ends → ℕ → State → State
 rewritten T l e at m =
