@@ -1,6 +1,6 @@
 -- Bytes written as lower-case hex text, with spaces between them where that helps the reader.
 use mathlib.Core.Bool.{true, false}
-use mathlib.Core.List.{List, [], _∷_}
+use mathlib.Core.List.{List, [], _∷_, _++_}
 use Prim.Native.Nat.{ℕ, _+_, _-_, _*_}
 use Prim.Native.String.{String}
 use Prim.Native.String as Text
@@ -23,6 +23,11 @@ pairs (h ∷ l ∷ ds) = (h * 16 + l) ∷ pairs ds
 unfoldable pub hex : String → List ℕ
 hex s = pairs (digits s)
 
+-- the same in several lines
+unfoldable pub lines : List String → List ℕ
+lines [] = []
+lines (s ∷ ss) = hex s ++ lines ss
+
 unfoldable pub openHex : Unit {0}
-unfolding digit digits pairs hex
+unfolding digit digits pairs hex lines
 openHex = tt
