@@ -1,15 +1,12 @@
-//! Finds the archive with the exported function: `rt staticlib compile` at the
+//! Finds the archive with the exported functions: `tools/archive` at the
 //! repository's root proves and builds it, unless SINALVENTO_LIB names a
 //! directory that already holds `libsinalvento.a`.
-//!
-//! The kit calls an archive by its crate's name; the copy beside it and the one
-//! that is linked are called by the project's.
 
 use std::path::{Path, PathBuf};
 use std::process::Command;
 use std::{env, fs};
 
-const CRATE: &str = "compile";
+const TOOL: &str = "tools/archive";
 const LIBRARY: &str = "sinalvento";
 const ARCHIVE: &str = "libsinalvento.a";
 const OF_THE_KIT: &str = "libcompile.a";
@@ -61,27 +58,20 @@ fn built(root: &Path) -> PathBuf {
         target.starts_with("x86_64-") && target.contains("-linux"),
         "the kit's archive is for x86-64 Linux, not for {target}"
     );
-    for source in ["crates", "crates.txt"] {
+    for source in ["crates", "crates.txt", TOOL] {
         println!("cargo::rerun-if-changed={}", root.join(source).display());
     }
-    let output = Command::new("rt")
-        .args(["staticlib", CRATE])
+    let output = Command::new("bash")
+        .arg(TOOL)
         .current_dir(root)
         .output()
-        .unwrap_or_else(|error| {
-            panic!(
-                "rt cannot be run ({error}): put the Rattle kit on the PATH or set SINALVENTO_LIB"
-            )
-        });
+        .unwrap_or_else(|error| panic!("bash cannot be run: {error}"));
     assert!(
         output.status.success(),
-        "rt staticlib {CRATE}: {}\n{}{}",
+        "{TOOL} (put the Rattle kit on the PATH, or set SINALVENTO_LIB): {}\n{}{}",
         output.status,
         String::from_utf8_lossy(&output.stdout),
         String::from_utf8_lossy(&output.stderr)
     );
-    let directory = root.join("target/staticlib");
-    let archive = directory.join(ARCHIVE);
-    copied(&directory.join(OF_THE_KIT), &archive);
-    archive
+    root.join("target/staticlib").join(ARCHIVE)
 }

@@ -80,7 +80,7 @@
 //!
 //! # Building
 //!
-//! The build script runs `rt staticlib compile` at the repository's root, so
+//! The build script runs `tools/archive` at the repository's root, so
 //! the Rattle kit's `rt` must be on the PATH. Where the archive is built
 //! already, SINALVENTO_LIB names the directory that holds `libsinalvento.a`.
 
