@@ -73,6 +73,8 @@ pub fn everyday() -> Vec<Case> {
         case("largest file", &large::largest()),
         case("longest plan", &longest_plan()),
         mix,
+        case("chain of 7 reads", &deep::chain(Read::Key, 7)),
+        case("chain of 2,046 reads", &deep::chain(Read::Key, MOST_READS)),
         front("read and check, no level", &large::without_levels()),
         front("read and check, refused", &large::refused_by_14()),
         front("read and check, wide types", &large::wide_types()),
