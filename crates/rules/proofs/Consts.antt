@@ -1,5 +1,5 @@
 -- A Var's Const is the file's: "a Const is only ever a starting binding and no bound name is bound anew", so what the walk binds changes no answer of
--- `constant`, and reading the file's bindings there is reading the current ones.
+-- `constant`, and reading the file's bindings there is reading the current ones, in the walk and where a comparison is placed.
 use mathlib.Core.Bool.{Bool, true, false}
 use mathlib.Core.List.{List, [], _∷_, _++_}
 use mathlib.Core.Option.{Option, none, some, Option·getD}
@@ -8,18 +8,20 @@ use Prim.Native.Nat.{ℕ, zero, suc, _<_}
 use lib.Dec.{eqb}
 use lib.ListN.{length}
 use Rattle.rules.specs.Base.{Each, done, more, lastOr, _>>=_}
-use Rattle.rules.specs.File.{Tables, Ty, Slot, Binding, Node, LevelEntry, varName, nameAt, typeAt, nodeAt, predicateAt}
-use Rattle.rules.specs.Constant.{Const, lookup, constNode, constOf, standsFor, constantNode, constantBelow, constant}
+use Rattle.rules.specs.File.{Tables, Ty, Slot, Binding, Comparison, Node, LevelEntry, varName, nameAt, typeAt, nodeAt, predicateAt}
+use Rattle.rules.specs.Constant.{Const, bytesOnly, lookup, constNode, constOf, standsFor, constantNode, constantBelow, constant}
 use Rattle.rules.specs.Events.{Narrowing, Event, Lists, Walk, bind, constrained, select, report, emit}
 use Rattle.rules.specs.Walk.{narrowing, walkLevel}
+use Rattle.rules.specs.Placement.{Edges, SeekBuilder, new, withEdges, Compared, isVar, compared, Sided, sided, takeEdge, foldFrom, placeBound, place, placeAll}
 use Rattle.rules.specs.Levels.{Level, starting, levelOf, level, levelsFrom, levels}
-use Rattle.rules.specs.Now.{withBindings, constantNow, nowOps, walkNow, levelsNowFrom, levelsNow}
+use Rattle.rules.specs.Now.{withBindings, constantNow, Placing, onLists, meet, nowOps, walkNow, levelNow, levelsNowFrom, levelsNow}
 use Rattle.rules.proofs.Cases.{by-test, eqb-eq, true≢false}
 use Rattle.rules.proofs.Each.{Any}
 use Rattle.rules.proofs.Sound.{BindingOk, Sound}
 use Rattle.rules.proofs.Keeps.{Keeps}
 use Rattle.rules.proofs.Runs.{Sim, goes-key}
 use Rattle.rules.proofs.Alone.{any-numbers}
+use Rattle.rules.proofs.Kept.{placeAll-append}
 
 -- the Const that a name is bound to
 abbrev pub constBound : List Binding → ℕ → Option ℕ
@@ -103,44 +105,80 @@ module _ (T : Tables) (bs : List Binding) (same : (x : ℕ) → constBound bs x 
   unfolding constantNow constant withBindings
   constant-now n t = below-now (length (T .types)) n t
 
--- the two readings side by side: the same lists and events, and in them the file's Consts
-record Now (T : Tables) (a c : Walk) : Type 0 where
-  same : c ≡ a
+  -- so a comparison's constant is the same, and with it what placement makes of an event
+  sided-now : (x t : ℕ) (c : Comparison) → sided (withBindings T bs) x t c ≡ sided T x t c
+  unfolding sided compared isVar nodeAt withBindings constantNow
+  sided-now x t c =
+      ap (λ (f : Compared → Option Sided). compared T x c >>= f)
+      (fun-ext (λ other. ap (λ (found : Option Const). found >>= λ k. bytesOnly k >>= λ value. some (record { op = other .op; value = value })) (constant-now (other .node) t)))
+
+  fold-now : (x t i : ℕ) (cs : List Comparison) (e : Edges) → foldFrom (withBindings T bs) x t i cs e ≡ foldFrom T x t i cs e
+  unfolding foldFrom
+  fold-now x t i [] e = refl
+  fold-now x t i (c ∷ cs) e =
+      fold-now x t (suc i) cs _
+      ∙ ap (λ (s : Option Sided). foldFrom T x t (suc i) cs (elim s [ none ↦ e | some s′ ↦ takeEdge i (s′ .op) (s′ .value) e ])) (sided-now x t c)
+
+  place-now : (e : Event) (b : SeekBuilder) → place (withBindings T bs) e b ≡ place T e b
+  unfolding place placeBound withBindings
+  place-now (Event.narrow path x) b = refl
+  place-now Event.skip b = refl
+  place-now Event.closer b = refl
+  place-now (Event.bound x t) b =
+      ap (λ (edges : Edges). elim (b .building) [ true ↦ withEdges edges b | false ↦ b ]) (fold-now x t 0 (T .comparisons) (b .edges))
+
+-- the written walk with its events placed
+placed : Tables → Walk → Placing
+placed T a = record { walk = a; built = placeAll T (a .events) new }
+
+-- the two readings side by side: the same lists, events and placements, and in them the file's Consts
+record Now (T : Tables) (a : Walk) (c : Placing) : Type 0 where
+  same : c ≡ placed T a
   consts : (x : ℕ) → constBound (a .lists .bindings) x ≡ constBound (T .bindings) x
 
-now-emit : (T : Tables) (e : Event) (a c : Walk) → Now T a c → Now T (emit e a) (emit e c)
-unfolding emit
-now-emit T e a c r = record { same = ap (emit e) (r .same); consts = r .consts }
+now-meet : (T : Tables) (e : Event) (a : Walk) (c : Placing) → Now T a c → Now T (emit e a) (meet T e c)
+unfolding emit meet placed placeAll
+now-meet T e a c r =
+    record {
+      same =
+          ap (meet T e) (r .same)
+          ∙ ap (λ (b : SeekBuilder). record { walk = emit e a; built = b })
+          (place-now T (a .lists .bindings) (r .consts) e (placeAll T (a .events) new) ∙ sym (placeAll-append T (a .events) (e ∷ []) new));
+      consts = r .consts;
+    }
 
-now-bind : (T : Tables) (x : ℕ) (slot : Slot) (a c : Walk) → lookup (a .lists .bindings) x ≡ none → constNode slot ≡ none → Now T a c → Now T (bind x slot a) (bind x slot c)
-unfolding bind
+now-bind : (T : Tables) (x : ℕ) (slot : Slot) (a : Walk) (c : Placing) → lookup (a .lists .bindings) x ≡ none → constNode slot ≡ none → Now T a c
+    → Now T (bind x slot a) (onLists (bind x slot) c)
+unfolding bind onLists placed
 now-bind T x slot a c e k r =
     record {
-      same = ap (bind x slot) (r .same);
+      same = ap (onLists (bind x slot)) (r .same);
       consts = λ y. const-snoc (a .lists .bindings) (record { name = x; slot = slot }) y e k ∙ r .consts y;
     }
 
 now-runs : (T : Tables) (address : ℕ) → Sim T Any Any (nowOps T) (λ c. false) address SameConsts (Now T)
-unfolding constNode constrained select report
+unfolding constNode constrained select report onLists placed
 now-runs T address =
     record {
       idle = λ c e. absurd (true≢false (sym e));
       stays = λ a a′ c e m r. absurd (true≢false (sym e));
-      lookups = λ a c f e r x. ap (λ (w : Walk). lookup (w .lists .bindings) x) (r .same);
-      reported = λ a b c d e e′ r r′. ap₂ (λ (v w : Walk). eqb (length (v .lists .diagnostics)) (length (w .lists .diagnostics))) (r .same) (r′ .same);
-      constant-is = λ a c r n t. ap (λ (w : Walk). constantNow T (w .lists .bindings) n t) (r .same) ∙ constant-now T (a .lists .bindings) (r .consts) n t;
+      lookups = λ a c f e r x. ap (λ (s : Placing). lookup (s .walk .lists .bindings) x) (r .same);
+      reported = λ a b c d e e′ r r′.
+          ap₂ (λ (v w : Placing). eqb (length (v .walk .lists .diagnostics)) (length (w .walk .lists .diagnostics))) (r .same) (r′ .same);
+      constant-is = λ a c r n t.
+          ap (λ (s : Placing). constantNow T (s .walk .lists .bindings) n t) (r .same) ∙ constant-now T (a .lists .bindings) (r .consts) n t;
       fields = λ x t p a c e n s r. now-bind T x (Slot.Field address p t) a c e refl r;
       keys = λ x t a c e n l r. now-bind T x (Slot.Key address t) a c e refl r;
-      constrains = λ x a c r. record { same = ap (constrained x) (r .same); consts = r .consts };
-      selects = λ n p d a c s r. record { same = ap (select n p d) (r .same); consts = r .consts };
-      reports = λ n code a c r. record { same = ap (report n code) (r .same); consts = r .consts };
-      skips = λ a c r. now-emit T Event.skip a c r;
-      bounds = λ x t a c r. now-emit T Event.skip _ _ (now-emit T (Event.bound x t) a c r);
-      constants = λ n t k p a c e s r. now-emit T (Event.narrow p (narrowing k)) a c r;
-      registers = λ n at p a c s s′ r. now-emit T (Event.narrow p (Narrowing.RegisterField n at)) a c r;
-      facts = λ n p a c s r. now-emit T (Event.narrow p (Narrowing.FactId n)) a c r;
-      tags = λ d p a c s r. now-emit T (Event.narrow p (Narrowing.Tag d)) a c r;
-      closers = λ d p a a′ c c′ s r m on r′. now-emit T Event.closer a′ c′ r′;
+      constrains = λ x a c r. record { same = ap (onLists (constrained x)) (r .same); consts = r .consts };
+      selects = λ n p d a c s r. record { same = ap (onLists (select n p d)) (r .same); consts = r .consts };
+      reports = λ n code a c r. record { same = ap (onLists (report n code)) (r .same); consts = r .consts };
+      skips = λ a c r. now-meet T Event.skip a c r;
+      bounds = λ x t a c r. now-meet T Event.skip _ _ (now-meet T (Event.bound x t) a c r);
+      constants = λ n t k p a c e s r. now-meet T (Event.narrow p (narrowing k)) a c r;
+      registers = λ n at p a c s s′ r. now-meet T (Event.narrow p (Narrowing.RegisterField n at)) a c r;
+      facts = λ n p a c s r. now-meet T (Event.narrow p (Narrowing.FactId n)) a c r;
+      tags = λ d p a c s r. now-meet T (Event.narrow p (Narrowing.Tag d)) a c r;
+      closers = λ d p a a′ c c′ s r m on r′. now-meet T Event.closer a′ c′ r′;
     }
 
 module _ (T : Tables) (S : Sound T) where
@@ -148,23 +186,24 @@ module _ (T : Tables) (S : Sound T) where
   level-now : (l : LevelEntry) → l .predicate < length (T .predicates) → (lists : Lists) → Each (BindingOk T) (lists .bindings)
       → ((x : ℕ) → constBound (lists .bindings) x ≡ constBound (T .bindings) x)
       → Now T (walkLevel T l lists) (walkNow T l lists) × Each (BindingOk T) (walkLevel T l lists .lists .bindings)
-  unfolding walkLevel walkNow
+  unfolding walkLevel walkNow placed placeAll
   level-now l h lists fit same =
       let start : Walk = record { lists = lists; events = [] } in
-      let b = goes-key T S Any Any (any-numbers T) (nowOps T) (λ c. false) (l .address) SameConsts (Now T) (consts-keeps T) (now-runs T (l .address)) (l .node) (predicateAt T (l .predicate) .key) start start (S .keys (l .predicate) h) fit (record { same = refl; consts = same }) in
+      let b = goes-key T S Any Any (any-numbers T) (nowOps T) (λ c. false) (l .address) SameConsts (Now T) (consts-keeps T) (now-runs T (l .address)) (l .node) (predicateAt T (l .predicate) .key) start (record { walk = start; built = new }) (S .keys (l .predicate) h) fit (record { same = refl; consts = same }) in
       (b .rel, b .fit)
 
   levels-now-from : (start : Lists) {entries : List LevelEntry} → Each (λ l. l .predicate < length (T .predicates)) entries → Each (BindingOk T) (start .bindings)
       → ((x : ℕ) → constBound (start .bindings) x ≡ constBound (T .bindings) x)
       → levelsNowFrom T start entries ≡ levelsFrom T start entries
-  unfolding levelsNowFrom levelsFrom level levelOf
+  unfolding levelsNowFrom levelsFrom level levelOf levelNow placed
   levels-now-from start done fit same = refl
   levels-now-from start (more {x = entry} {xs = entries} h hs) fit same =
       let n = level-now entry h start fit same in
-      ap (λ (w : Walk). levelOf T start w ∷ levelsNowFrom T (w .lists) entries) (n .0 .same)
+      ap (λ (s : Placing). levelNow start s ∷ levelsNowFrom T (s .walk .lists) entries) (n .0 .same)
       ∙ ap (λ (ls : List Level). level T entry start ∷ ls) (levels-now-from (walkLevel T entry start .lists) hs (n .1) (n .0 .consts))
 
-  -- A file's whole list of levels: the walk whose `constant` reads the bindings as they stand at each call gives the same events and the same four lists.
+  -- A file's whole list of levels: where `constant` reads the bindings as they stand at each call, in the walk and in placement, the levels have the same
+  -- events, the same four lists and the same placements.
   pub levels-now : levelsNow T ≡ levels T
   unfolding levelsNow levels starting
   levels-now = levels-now-from (starting T) (S .levels) (S .bindings) (λ x. refl)

@@ -136,7 +136,7 @@ pub record Demand3 (bytes out : List ℕ) : Type 0 where
   pub levels : List Level
   pub every-level : length levels ≡ length (tables .levels)
   pub kept : (k : ℕ) → k < length (tables .levels) → LevelKept tables (entryAt tables k) (startOf tables levels k) (levelAt tables levels k)
-  -- the same levels where `constant` reads the bindings as they stand at each call, as the Rust's does
+  -- the same levels where `constant` reads the bindings as they stand at each call, in the walk and in placement, as the Rust's does
   pub as-they-stand : levels ≡ levelsNow tables
   pub plan : Plan
   pub holds : Holds tables levels (startOf tables levels (length levels)) plan
