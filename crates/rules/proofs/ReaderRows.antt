@@ -1,9 +1,8 @@
--- The plan reader by computing: plans of the door table, each cut short, each byte that has no meaning, each rule broken. A row is a plan's bytes, how many and as
--- one number in hex, the first byte first, and what the call gives for them.
+-- The plan reader by computing: each byte that has no meaning, each rule broken. A row is a plan's bytes, how many and as one number in hex, the first byte first,
+-- and what the call gives for them. Crate doors has the plans of the door table.
 use mathlib.Core.List.{List, [], _∷_}
 use mathlib.Core.Path.{_≡_, refl}
 use Prim.Native.Nat.{ℕ, zero, suc, _/_, _%_}
-use lib.ListN.{take}
 use Rattle.rules.specs.Base.{openBase}
 use Rattle.rules.specs.File.{openFile}
 use Rattle.rules.specs.Read.{openRead}
@@ -27,76 +26,24 @@ bytes count n = bytesOf count n []
 unfoldable read : List ℕ → Outcome
 read plan = Reader.outcome plan 16384
 
--- what the call gives for the first n bytes, for each n below a number
-unfoldable cuts : ℕ → List ℕ → List Outcome
-cuts zero plan = []
-cuts (suc n) plan = read (take n plan) ∷ cuts n plan
-
-unfoldable again : ℕ → Outcome → List Outcome
-again zero o = []
-again (suc n) o = o ∷ again n o
-
 unfoldable openRows : Unit {0}
-unfolding openBase openFile openRead openLookup openEvents openPlacement openPlan openCompile openDemand3 openReader bytesOf read cuts again
+unfolding openBase openFile openRead openLookup openEvents openPlacement openPlan openCompile openDemand3 openReader bytesOf read
 openRows = tt
 
--- the empty plan, and plans of the door table
+-- the empty plan
 abbrev empty : List ℕ
 empty = bytes 10 0
-
-abbrev D1 : List ℕ
-D1 = bytes 41 0x0100020000000100020009000280000000000000070200036b01000000000000000000000000000000
-
-abbrev D7 : List ℕ
-D7 = bytes 40 0x01000200010003000100050005000000010105000200000001000000000000000000000000000000
-
-abbrev D8 : List ℕ
-D8 = bytes 47 0x0100000000000000030209000280000000000000030000000001000000010000000300000000000000000000000000
-
-abbrev D9 : List ℕ
-D9 = bytes 49 0x01000200000000000203000370610000000100000001000201000000000100000003000000000000000100000000000000
 
 row-empty : read empty ≡ Outcome.planned empty
 unfolding openRows
 row-empty = refl
-
-row-D1 : read D1 ≡ Outcome.planned D1
-unfolding openRows
-row-D1 = refl
-
-row-D7 : read D7 ≡ Outcome.planned D7
-unfolding openRows
-row-D7 = refl
-
-row-D8 : read D8 ≡ Outcome.planned D8
-unfolding openRows
-row-D8 = refl
-
-row-D9 : read D9 ≡ Outcome.planned D9
-unfolding openRows
-row-D9 = refl
 
 -- slots 0 to 5, as in the rule file
 row-every-slot : read (bytes 51 0x06000000000000ffff00000100000000000002000000000300000000000000000004000000000000050000000000000000) ≡ Outcome.planned (bytes 51 0x06000000000000ffff00000100000000000002000000000300000000000000000004000000000000050000000000000000)
 unfolding openRows
 row-every-slot = refl
 
--- 16: each of these plans, cut short anywhere
-cuts-D1 : cuts 41 D1 ≡ again 41 (Outcome.refused 16)
-unfolding openRows
-cuts-D1 = refl
-
-cuts-D7 : cuts 40 D7 ≡ again 40 (Outcome.refused 16)
-unfolding openRows
-cuts-D7 = refl
-
-cuts-D8 : cuts 47 D8 ≡ again 47 (Outcome.refused 16)
-unfolding openRows
-cuts-D8 = refl
-
-cuts-D9 : cuts 49 D9 ≡ again 49 (Outcome.refused 16)
-unfolding openRows
-cuts-D9 = refl
+-- 16
 
 -- fifteen steps, and none of them there
 early-fifteen-steps : read (bytes 15 0x01000100000000000000000100000f) ≡ Outcome.refused 16
@@ -207,11 +154,7 @@ broken-second-level : read (bytes 38 0x02000000000000000000000000000000000001000
 unfolding openRows
 broken-second-level = refl
 
--- 15 by the lengths alone: no room for the last byte, and so before a byte that has no meaning
-long-D1 : Reader.outcome D1 40 ≡ Outcome.refused 15
-unfolding openRows
-long-D1 = refl
-
+-- 15 by the lengths alone, and so before a byte that has no meaning
 long-unknown : Reader.outcome (bytes 9 0x010000000000000004) 8 ≡ Outcome.refused 15
 unfolding openRows
 long-unknown = refl
