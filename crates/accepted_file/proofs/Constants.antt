@@ -6,14 +6,14 @@ use Prim.Native.Nat.{ℕ, zero, suc, _<_}
 use native.Mathlib.Omega.{arith}
 use lib.Dec.{eqb}
 use lib.ListN.{length}
-use Rattle.rules.specs.Base.{Each, more, _>>=_}
+use Rattle.rules.specs.Base.{Each, more, _whenSome_}
 use Rattle.rules.specs.File.{Tables, FieldTy, Ty, FieldPattern, Node, typeAt, nodeAt, childTypes}
 use Rattle.rules.specs.Constant.{Const, bytesOnly, fieldPattern, alternativeOf, onlyField, encodeRecord, encodeUnion, constantFields, constantRecord, constantNode, constantBelow, constant, standsFor}
 use Rattle.rules.proofs.Each.{each-imply, each-first, each-unmap}
 use Rattle.rules.proofs.Sound.{Sound}
 
-bind-agree : {A B : Type 0} (o : Option A) (f g : A → Option B) → ((a : A) → o ≡ some a → f a ≡ g a) → (o >>= f) ≡ (o >>= g)
-unfolding _>>=_
+bind-agree : {A B : Type 0} (o : Option A) (f g : A → Option B) → ((a : A) → o ≡ some a → f a ≡ g a) → (o whenSome f) ≡ (o whenSome g)
+unfolding _whenSome_
 bind-agree none f g h = refl
 bind-agree (some a) f g h = h a refl
 
@@ -34,11 +34,11 @@ record-agree b b′ patterns Ty.Int h = refl
 record-agree b b′ patterns Ty.Str h = refl
 record-agree b b′ patterns Ty.Bytes h = refl
 record-agree b b′ patterns (Ty.Fact p) h = refl
-record-agree b b′ patterns (Ty.Record fs) h = ap (λ (o : Option (List ℕ)). o >>= λ bytes. some (Const.Bytes (encodeRecord bytes))) (fields-agree b b′ patterns fs h)
+record-agree b b′ patterns (Ty.Record fs) h = ap (λ (o : Option (List ℕ)). o whenSome λ bytes. some (Const.Bytes (encodeRecord bytes))) (fields-agree b b′ patterns fs h)
 record-agree b b′ patterns (Ty.Union alts) h =
     bind-agree (onlyField patterns) _ _
     (λ f q. bind-agree (alternativeOf alts (f .name)) _ _
-    (λ a r. ap (λ (o : Option Const). o >>= λ c. bytesOnly c >>= λ bytes. some (Const.Bytes (encodeUnion (a .disc) bytes)))
+    (λ a r. ap (λ (o : Option Const). o whenSome λ c. bytesOnly c whenSome λ bytes. some (Const.Bytes (encodeUnion (a .disc) bytes)))
     (each-first {P = λ a. (n : ℕ) → b n (a .type) ≡ b′ n (a .type)} (λ a. eqb (a .name) (f .name)) (each-unmap (λ t. (n : ℕ) → b n t ≡ b′ n t) (λ a. a .type) alts h) a r (f .node))))
 
 node-agree : (T : Tables) (b b′ : ℕ → ℕ → Option Const) (node : Node) (ty : Ty) → Agree b b′ (childTypes ty) → constantNode T b node ty ≡ constantNode T b′ node ty

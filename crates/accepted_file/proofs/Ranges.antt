@@ -10,45 +10,16 @@ use native.Mathlib.Omega.{arith}
 use lib.Dec.{ltb, eqb}
 use lib.ListN.{length, getD, take}
 use lib.Seq.{getD-take}
-use Rattle.rules.specs.Base.{Each, more, all, allFrom, both, lastOr, _>>=_}
+use Rattle.rules.specs.Base.{Each, more, all, allFrom, both, lastOr, _whenSome_}
 use Rattle.rules.specs.Limits.{nodeLimit}
 use Rattle.rules.specs.File.{Tables, Ty, FieldTy, Alternative, Node, FieldPattern, Slot, typeAt, nodeAt, varName, childTypes, childNodes, constantOf, constants, isConstant}
-use Rattle.rules.specs.Checks.{checks, isName, isType, isNode, typeIn, predicateIn, nodeIn, slotIn, bindingIn, hoistedIn, constraintIn, comparisonIn, levelIn, numbersIn, childrenLower, slotConstant, constsConstant}
+use Rattle.rules.specs.Checks.{checks, isName, isType, isNode, typeIn, nodeIn, slotIn, bindingIn, childrenLower, slotConstant, constsConstant}
 use Rattle.rules.specs.Constant.{lookup, constNode, constOf, standsFor}
 use Rattle.rules.proofs.Cases.{by-test, ways, true≢false, some≢none, some-injective, ltb-lt, both-left, both-right, bind-some}
 use Rattle.rules.proofs.Each.{each-passes, each-imply, each-both, each-at, each-last, each-unmap}
 use Rattle.rules.proofs.BottomUp.{at-place}
-use Rattle.rules.proofs.Sound.{Passed, Sound, sound, allFrom-at}
+use Rattle.rules.proofs.Sound.{Passed, numbers-in, sound, allFrom-at}
 use Rattle.accepted_file.specs.AcceptedFile.{constantRank, PatternOk, ChildOk}
-
--- 8, for the sections that Sound leaves out
-pub record NumbersIn (T : Tables) : Type 0 where
-  pub types : Each (λ ty. typeIn T ty ≡ true) (T .types)
-  pub nodes : Each (λ node. nodeIn T node ≡ true) (T .nodes)
-  pub bindings : Each (λ b. bindingIn T b ≡ true) (T .bindings)
-  pub hoisted : Each (λ h. hoistedIn T h ≡ true) (T .hoisted)
-  pub constraints : Each (λ c. constraintIn T c ≡ true) (T .constraints)
-  pub comparisons : Each (λ c. comparisonIn T c ≡ true) (T .comparisons)
-  pub levels : Each (λ l. levelIn T l ≡ true) (T .levels)
-
-pub numbers-in : (T : Tables) → Passed T → NumbersIn T
-unfolding numbersIn
-numbers-in T k =
-    let b = both-right (all (typeIn T) (T .types)) _ (k .numbers) in
-    let c = both-right (all (predicateIn T) (T .predicates)) _ b in
-    let d = both-right (all (nodeIn T) (T .nodes)) _ c in
-    let e = both-right (all (bindingIn T) (T .bindings)) _ d in
-    let f = both-right (all (hoistedIn T) (T .hoisted)) _ e in
-    let g = both-right (all (constraintIn T) (T .constraints)) _ f in
-    record {
-      types = each-passes (typeIn T) (T .types) (both-left (all (typeIn T) (T .types)) _ (k .numbers));
-      nodes = each-passes (nodeIn T) (T .nodes) (both-left (all (nodeIn T) (T .nodes)) _ c);
-      bindings = each-passes (bindingIn T) (T .bindings) (both-left (all (bindingIn T) (T .bindings)) _ d);
-      hoisted = each-passes (hoistedIn T) (T .hoisted) (both-left (all (hoistedIn T) (T .hoisted)) _ e);
-      constraints = each-passes (constraintIn T) (T .constraints) (both-left (all (constraintIn T) (T .constraints)) _ f);
-      comparisons = each-passes (comparisonIn T) (T .comparisons) (both-left (all (comparisonIn T) (T .comparisons)) _ g);
-      levels = each-passes (levelIn T) (T .levels) (both-right (all (comparisonIn T) (T .comparisons)) _ g);
-    }
 
 -- constancy among lower nodes
 all-take : (cs : List Bool) (n : ℕ) (fs : List FieldPattern) → Each (λ c. c < n) (map (λ f. f .node) fs) → all (λ f. getD (take n cs) (f .node) false) fs ≡ all (λ f. getD cs (f .node) false) fs
@@ -171,8 +142,8 @@ module _ (T : Tables) (k : Passed T) where
       go (some x) e = absurd (true≢false (sym c ∙ constant-of n h ∙ var-inconstant (constants T) (nodeAt T n) x e))
 
   pub stands-constant : (n : ℕ) → n < length (T .nodes) → isConstant T n ≡ true → standsFor T n ≡ n
-  unfolding standsFor constOf _>>=_
-  stands-constant n h c = ap (λ (o : Option ℕ). Option·getD (o >>= λ x. lookup (T .bindings) x >>= constNode) n) (constant-no-var n h c)
+  unfolding standsFor constOf _whenSome_
+  stands-constant n h c = ap (λ (o : Option ℕ). Option·getD (o whenSome λ x. lookup (T .bindings) x whenSome constNode) n) (constant-no-var n h c)
 
   -- a constant Record's patterns are constant
   pub record-constant : (n : ℕ) (fs : List FieldPattern) → n < length (T .nodes) → nodeAt T n ≡ Node.Record fs → isConstant T n ≡ true → Each (λ f. isConstant T (f .node) ≡ true) fs
@@ -206,7 +177,7 @@ module _ (T : Tables) (k : Passed T) where
         go : (o : Option ℕ) → constOf (T .bindings) (nodeAt T n) ≡ o → Stood n (Option·getD o n)
         go none e = record { in-nodes = h; no-higher = omega arith }
         go (some m) e =
-            let r = bind-some (varName (nodeAt T n)) (λ x. lookup (T .bindings) x >>= constNode) m e in
+            let r = bind-some (varName (nodeAt T n)) (λ x. lookup (T .bindings) x whenSome constNode) m e in
             let s = bind-some (lookup (T .bindings) (r .0)) constNode m (r .2) in
             let c = const-node T (s .0) m (lookup-const (r .0) (s .0) (s .1)) (s .2) in
             let l : m < length (T .nodes) = c .0 in

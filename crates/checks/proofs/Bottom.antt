@@ -17,7 +17,7 @@ use Rattle.rules.specs.Checks.{childrenLower}
 use Rattle.file.proofs.Readers.{lt-or-le}
 use Rattle.file.proofs.Accepted.{sets-in}
 use Rattle.views.specs.Views.{run}
-use Rattle.record_checks.specs.Numbers.{typesLower, nodesLower}
+use Rattle.record_checks.specs.RecordChecks.{typesLower, nodesLower}
 use Rattle.record_checks.proofs.Every.{if-both, both-inv, every-at}
 use Rattle.record_checks.proofs.Seen.{types-lower-every, nodes-lower-every}
 

@@ -27,7 +27,7 @@ use Rattle.views.specs.declared.SlotView.{SlotView}
 use Rattle.views.specs.declared.SlotView.the-variants as Sv
 use Rattle.views.proofs.Runs.{length-run}
 use Rattle.paths.specs.declared.Address.{Address}
-use Rattle.record_checks.specs.Numbers.{recordIn, sectionIn}
+use Rattle.record_checks.specs.RecordChecks.{recordIn, sectionIn}
 use Rattle.record_checks.proofs.Every.{every, if-both, both-inv, every-at, all-every}
 use Rattle.record_checks.proofs.Seen.{numbers-every, section-every, by-slot}
 use Rattle.checks.specs.Checked.{bitOf, flagsAt, flagsOf, slotsFit, fetchedFit}

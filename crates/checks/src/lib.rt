@@ -14,7 +14,7 @@ ghost use Rattle.rules.specs.Checks.{numbersIn, childrenLower, typesShallow, ch
 ghost use Rattle.file.specs.Steps.{wordLimit, word, depthsBase, constantsBase, lastBindingsBase, indexLength};
 ghost use Rattle.file.specs.Tables.{Indexed, tablesOf};
 ghost use Rattle.views.specs.Views.{run, bindingAt};
-ghost use Rattle.record_checks.specs.Numbers.{Words};
+ghost use Rattle.record_checks.specs.RecordChecks.{Words};
 ghost use Rattle.checks.specs.Checked.{bitOf, flagsAt, flagsOf, once, marked, Filled, Numbered, Checked, slotsFit, fetchedFit, lastBindings, laterFault, allFault, checkedIndex, fileVerdict, fileIndex};
 use file::BINDINGS;
 use file::CONSTANTS;

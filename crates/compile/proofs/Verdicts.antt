@@ -17,10 +17,10 @@ use Rattle.rules.specs.Checks.{checks, fault}
 use Rattle.rules.specs.Compile as CompileRules
 use Rattle.rules.specs.Compile.{Outcome, outcome}
 use Rattle.rules.specs.Demand1.{Byte}
-use Rattle.rules.proofs.Cases.{by-test, true≢false}
+use Rattle.rules.proofs.Cases.{by-test, true≢false, pick}
 use Rattle.rules.proofs.Choices.{by-test₂}
 use Rattle.state.specs.State.{state, stop}
-use Rattle.state.specs.Levels as Kept
+use Rattle.state.specs.Levels as StateLevels
 use Rattle.state.specs.Levels.{writtenTo, finished, compiled, lists}
 use Rattle.state.proofs.Whole.{exact-file}
 use Rattle.file.specs.Tables.{tablesOf}
@@ -34,9 +34,6 @@ use Rattle.compile.specs.declared.Ending.the-variants.{Planned, Refused}
 use Rattle.levels.specs.declared.Written.{Written}
 
 -- 1 and 2
-pick : (b c : Bool) (x y : Verdict) → b ≡ c → _≡_ {A = Verdict} (elim b [ true ↦ x | false ↦ y ]) (elim c [ true ↦ x | false ↦ y ])
-pick b c x y e = ap (λ (t : Bool). elim t [ true ↦ x | false ↦ y ]) e
-
 module _ (f : List ℕ) (area : ℕ) where
   pub long-file : fileLimit < length f → callVerdict f area ≡ Ve.Refused 1
   unfolding callVerdict
@@ -99,15 +96,15 @@ ready f ix v e q k =
       last-bindings = filled .last-at;
     }
 
-pub accepted-outcome : (f ix : List ℕ) → Each Byte f → AcceptedFile f ix → (work plan : List ℕ) → length f ≤ fileLimit → workLimit ≤ length work → Kept.writtenOutcome (compiled (tablesOf f) work plan) ≡ outcome f (length plan) (length work)
+pub accepted-outcome : (f ix : List ℕ) → Each Byte f → AcceptedFile f ix → (work plan : List ℕ) → length f ≤ fileLimit → workLimit ≤ length work → StateLevels.writtenOutcome (compiled (tablesOf f) work plan) ≡ outcome f (length plan) (length work)
 accepted-outcome f ix b k work plan short large = exact-file f b (tablesOf f) [] (k .indexed .accepted) (k .accepted) work plan short large
 
 -- a plan that is not too long lies within its buffer
-finished-within : (k : Kept.Written) → finished k .state .over ≡ false → finished k .at ≤ length (finished k .state .plan)
+finished-within : (k : StateLevels.Written) → finished k .state .over ≡ false → finished k .at ≤ length (finished k .state .plan)
 unfolding finished stop
 finished-within k =
-    by-test (λ (r : Kept.Written). r .state .over ≡ false → r .at ≤ length (r .state .plan)) (k .state .over) (λ q e. absurd (true≢false (sym q ∙ e)))
-    (λ q. by-test (λ (r : Kept.Written). r .state .over ≡ false → r .at ≤ length (r .state .plan)) (leb (k .at + length (lists (k .state))) (min planLimit (length (k .state .plan))))
+    by-test (λ (r : StateLevels.Written). r .state .over ≡ false → r .at ≤ length (r .state .plan)) (k .state .over) (λ q e. absurd (true≢false (sym q ∙ e)))
+    (λ q. by-test (λ (r : StateLevels.Written). r .state .over ≡ false → r .at ≤ length (r .state .plan)) (leb (k .at + length (lists (k .state))) (min planLimit (length (k .state .plan))))
     {x = writtenTo (k .at + length (lists (k .state))) (state false (k .state .ends) (k .state .level) (k .state .target) (k .state .work) (sets (k .state .plan) (k .at) (lists (k .state))))}
     (λ t e. omega (arith, leb-true (k .at + length (lists (k .state))) (min planLimit (length (k .state .plan))) t, length-sets (k .state .plan) (k .at) (lists (k .state))))
     (λ t e. absurd (true≢false e)))
@@ -121,20 +118,20 @@ unfolding memoryBy
 refused-memory v n T work plan e = left-by (Ve.Refused n) v T work plan (memory work plan) refl (sym e)
 
 module _ (T : Tables) (work plan work′ plan′ : List ℕ) (w : Written) (e : writtenOf w work′ plan′ ≡ betweenLevels (compiled T work plan)) where
-  same : Kept.writtenOutcome (writtenOf w work′ plan′) ≡ Kept.writtenOutcome (compiled T work plan)
-  unfolding betweenLevels unleveled Kept.writtenOutcome
-  same = ap Kept.writtenOutcome e
+  same : StateLevels.writtenOutcome (writtenOf w work′ plan′) ≡ StateLevels.writtenOutcome (compiled T work plan)
+  unfolding betweenLevels unleveled StateLevels.writtenOutcome
+  same = ap StateLevels.writtenOutcome e
 
   pub kept-memory : memory work′ plan′ ≡ memoryBy Ve.Accepted T work plan
   unfolding writtenOf betweenLevels unleveled memoryBy
-  kept-memory = ap (λ (k : Kept.Written). memory (k .state .work) (k .state .plan)) e
+  kept-memory = ap (λ (k : StateLevels.Written). memory (k .state .work) (k .state .plan)) e
 
-  pub too-long : w .lists .over ≡ true → endingOutcome (Refused 15) plan′ ≡ Kept.writtenOutcome (compiled T work plan)
-  unfolding endingOutcome Kept.writtenOutcome writtenOf
+  pub too-long : w .lists .over ≡ true → endingOutcome (Refused 15) plan′ ≡ StateLevels.writtenOutcome (compiled T work plan)
+  unfolding endingOutcome StateLevels.writtenOutcome writtenOf
   too-long o = ap (λ (b : Bool). elim b [ true ↦ Outcome.refused 15 | false ↦ Outcome.planned (take (w .at) plan′) ]) (sym o) ∙ same
 
-  pub short-enough : w .lists .over ≡ false → (endingOutcome (Planned (w .at)) plan′ ≡ Kept.writtenOutcome (compiled T work plan)) × (w .at ≤ length plan′)
-  unfolding endingOutcome Kept.writtenOutcome writtenOf betweenLevels unleveled compiled
+  pub short-enough : w .lists .over ≡ false → (endingOutcome (Planned (w .at)) plan′ ≡ StateLevels.writtenOutcome (compiled T work plan)) × (w .at ≤ length plan′)
+  unfolding endingOutcome StateLevels.writtenOutcome writtenOf betweenLevels unleveled compiled
   short-enough o = (
     ap (λ (b : Bool). elim b [ true ↦ Outcome.refused 15 | false ↦ Outcome.planned (take (w .at) plan′) ]) (sym o) ∙ same,
     omega (arith, ap (λ k. k .at) e, ap (λ k. length (k .state .plan)) e, finished-within _ (ap (λ k. k .state .over) (sym e) ∙ o)),

@@ -1,13 +1,13 @@
 -- How a call ends, and what that says of the plan buffer and the work area.
 use mathlib.Core.Bool.{true, false}
-use mathlib.Core.List.{List, [], _∷_, _++_}
+use mathlib.Core.List.{List}
 use Prim.Native.Nat.{ℕ, _-_, _*_, _≤_}
 use lib.Dec.{leb}
-use lib.ListN.{length, take, replicate}
+use lib.ListN.{length, take}
 use Rattle.rules.specs.Limits.{fileLimit, workLimit}
 use Rattle.rules.specs.File.{Tables}
 use Rattle.rules.specs.Compile.{Outcome}
-use Rattle.state.specs.Levels as Kept
+use Rattle.state.specs.Levels as StateLevels
 use Rattle.checks.specs.Checked.{fileVerdict}
 use Rattle.checks.specs.declared.Verdict.{Verdict}
 use Rattle.checks.specs.declared.Verdict.the-variants as Ve
@@ -53,5 +53,5 @@ memory work plan = record { work = work; plan = plan }
 
 -- an accepted file leaves what the compiler keeps (crate state), a refused one leaves both as they were
 unfoldable pub memoryBy : Verdict → Tables → List ℕ → List ℕ → Memory
-memoryBy Ve.Accepted T work plan = memory (Kept.compiled T work plan .state .work) (Kept.compiled T work plan .state .plan)
+memoryBy Ve.Accepted T work plan = memory (StateLevels.compiled T work plan .state .work) (StateLevels.compiled T work plan .state .plan)
 memoryBy (Ve.Refused n) T work plan = memory work plan

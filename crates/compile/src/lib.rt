@@ -6,7 +6,7 @@ ghost use Rattle.rules.specs.Limits.{fileLimit, workLimit};
 ghost use Rattle.rules.specs.Compile as CompileRules;
 ghost use Rattle.rules.specs.Demand1.{refusals, Demand1};
 ghost use Rattle.rules.specs.Demand3.{Demand3};
-ghost use Rattle.state.specs.Levels as Kept;
+ghost use Rattle.state.specs.Levels as StateLevels;
 ghost use Rattle.file.specs.Tables.{tablesOf};
 ghost use Rattle.accepted_file.specs.AcceptedFile.{AcceptedFile};
 ghost use Rattle.compile.specs.Endings.{endingOutcome, lengthOf, answerOf, Within, callVerdict, memory};
@@ -33,7 +33,7 @@ fn accepted(file: &[u8], index: &[u16], plan: &mut [u8], work: &mut [u8]) -> End
     requires { ⌜ AcceptedFile (now file) (now index) ⌝ }
     ensures outcome { λ r. ⌜ (
         let T = tablesOf (now (file .entry)) in
-        endingOutcome r (now (plan .exit)) ≡ Kept.writtenOutcome (Kept.compiled T (now (work .entry)) (now (plan .entry)))
+        endingOutcome r (now (plan .exit)) ≡ StateLevels.writtenOutcome (StateLevels.compiled T (now (work .entry)) (now (plan .entry)))
         ) ⌝ }
     ensures within { λ r. ⌜ Within r (now (plan .exit)) ⌝ }
     ensures memory { λ _. ⌜ (

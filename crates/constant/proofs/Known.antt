@@ -9,15 +9,16 @@ use lib.ListN.{length}
 use Rattle.rules.specs.File.{Tables, Ty, Node, FieldPattern, Anchor, nameAt, typeAt, nodeAt}
 use Rattle.rules.specs.Checks.{isName, nodeIn}
 use Rattle.rules.specs.Constant as ConstantRules
-use Rattle.rules.specs.Constant.{atInt, atStr, atBytes, bytesOnly, onlyField, alternativeOf, encodePrefix, encodeRecord, encodeUnion, constantFields, constantRecord, constantNode, standsFor}
+use Rattle.rules.specs.Constant.{bytesOnly, onlyField, alternativeOf, encodePrefix, encodeRecord, encodeUnion, constantFields, constantRecord, constantNode, standsFor}
 use Rattle.rules.specs.Limits.{nodeLimit}
 use Rattle.rules.proofs.Cases.{ltb-lt, some≢none, some-injective, bind-some}
+use Rattle.rules.proofs.Scalars.{same-int, same-str, same-bytes}
 use Rattle.rules.proofs.Sound.{Passed, sound}
 use Rattle.accepted_file.proofs.Ranges.{stands, node-in}
 use Rattle.accepted_file.proofs.Constants.{constant-is}
 use Rattle.constant.specs.Sizes.{cap, viewOf, constView, prefixName, anchorView}
 use Rattle.views.specs.Views.{anchorOf}
-use Rattle.views.specs.declared.Anchor as Views
+use Rattle.views.specs.declared.Anchor as CodeAnchor
 use Rattle.constant.specs.declared.Const.{Const}
 use Rattle.constant.specs.declared.Const.the-variants as Co
 
@@ -53,34 +54,6 @@ module _ (T : Tables) (n t : ℕ) where
       go (some (ConstantRules.Const.Fuzzy x d a)) e = absurd (let h = known-at _ _ e q in let z : _≡_ {A = ℕ} 0 1 = cc in omega arith)
 
 -- a Prefix comes of a Prefix node alone
-module _ (c k : ConstantRules.Const) where
-  at-int : (ty : Ty) → atInt ty c ≡ some k → c ≡ k
-  unfolding atInt
-  at-int Ty.Int e = some-injective c k e
-  at-int Ty.Str e = absurd (some≢none k (sym e))
-  at-int Ty.Bytes e = absurd (some≢none k (sym e))
-  at-int (Ty.Fact p) e = absurd (some≢none k (sym e))
-  at-int (Ty.Record fs) e = absurd (some≢none k (sym e))
-  at-int (Ty.Union alts) e = absurd (some≢none k (sym e))
-
-  at-str : (ty : Ty) → atStr ty c ≡ some k → c ≡ k
-  unfolding atStr
-  at-str Ty.Int e = absurd (some≢none k (sym e))
-  at-str Ty.Str e = some-injective c k e
-  at-str Ty.Bytes e = absurd (some≢none k (sym e))
-  at-str (Ty.Fact p) e = absurd (some≢none k (sym e))
-  at-str (Ty.Record fs) e = absurd (some≢none k (sym e))
-  at-str (Ty.Union alts) e = absurd (some≢none k (sym e))
-
-  at-bytes : (ty : Ty) → atBytes ty c ≡ some k → c ≡ k
-  unfolding atBytes
-  at-bytes Ty.Int e = absurd (some≢none k (sym e))
-  at-bytes Ty.Str e = absurd (some≢none k (sym e))
-  at-bytes Ty.Bytes e = some-injective c k e
-  at-bytes (Ty.Fact p) e = absurd (some≢none k (sym e))
-  at-bytes (Ty.Record fs) e = absurd (some≢none k (sym e))
-  at-bytes (Ty.Union alts) e = absurd (some≢none k (sym e))
-
 other : (a b : List ℕ) → ConstantRules.Const.Bytes a ≡ ConstantRules.Const.Prefix b → ⊥
 other a b e = let z : _≡_ {A = ℕ} 0 1 = cc in omega arith
 
@@ -109,14 +82,14 @@ prefix-injective a b e = cc
 module _ (T : Tables) (b : ℕ → ℕ → Option ConstantRules.Const) (bytes : List ℕ) where
   prefix-node : (node : Node) (ty : Ty) → constantNode T b node ty ≡ some (ConstantRules.Const.Prefix bytes) → nodeIn T node ≡ true → (bytes ≡ encodePrefix (nameAt T (prefixName node))) × (prefixName node < length (T .names))
   unfolding constantNode prefixName nodeIn isName
-  prefix-node (Node.Int raw) ty e h = absurd (other _ _ (at-int _ _ ty e))
-  prefix-node (Node.Str x) ty e h = absurd (other _ _ (at-str _ _ ty e))
-  prefix-node (Node.Bytes raw) ty e h = absurd (other _ _ (at-bytes _ _ ty e))
+  prefix-node (Node.Int raw) ty e h = absurd (other _ _ (same-int ty _ _ e))
+  prefix-node (Node.Str x) ty e h = absurd (other _ _ (same-str ty _ _ e))
+  prefix-node (Node.Bytes raw) ty e h = absurd (other _ _ (same-bytes ty _ _ e))
   prefix-node (Node.Var x) ty e h = absurd (some≢none (ConstantRules.Const.Prefix bytes) (sym e))
   prefix-node Node.Wildcard ty e h = absurd (some≢none (ConstantRules.Const.Prefix bytes) (sym e))
   prefix-node Node.Never ty e h = absurd (some≢none (ConstantRules.Const.Prefix bytes) (sym e))
-  prefix-node (Node.Prefix x) ty e h = (prefix-injective _ _ (sym (at-str _ _ ty e)), ltb-lt _ _ h)
-  prefix-node (Node.Fuzzy x d a) ty e h = absurd (fuzzy _ _ _ _ (at-str _ _ ty e))
+  prefix-node (Node.Prefix x) ty e h = (prefix-injective _ _ (sym (same-str ty _ _ e)), ltb-lt _ _ h)
+  prefix-node (Node.Fuzzy x d a) ty e h = absurd (fuzzy _ _ _ _ (same-str ty _ _ e))
   prefix-node (Node.Record fs) ty e h = absurd (let q = record-bytes b fs ty _ e in other _ _ (q .1))
   prefix-node (Node.Access x n) ty e h = absurd (some≢none (ConstantRules.Const.Prefix bytes) (sym e))
   prefix-node (Node.Value n) ty e h = absurd (some≢none (ConstantRules.Const.Prefix bytes) (sym e))
@@ -157,7 +130,7 @@ anchor-back : (a : Anchor) → anchorOf (anchorView a) ≡ a
 anchor-back Anchor.Prefix = refl
 anchor-back Anchor.Whole = refl
 
-module _ (T : Tables) (n t x d : ℕ) (a : Views.Anchor) where
+module _ (T : Tables) (n t x d : ℕ) (a : CodeAnchor.Anchor) where
   as-fuzzy : (o : Option ConstantRules.Const) → ConstantRules.constant T n t ≡ o → viewOf T n t o ≡ Co.Fuzzy x d a → ConstantRules.constant T n t ≡ some (ConstantRules.Const.Fuzzy x d (anchorOf a))
   as-fuzzy none e q = absurd (let z : _≡_ {A = ℕ} 0 1 = cc in omega arith)
   as-fuzzy (some (ConstantRules.Const.Bytes bytes)) e q = absurd (let z : _≡_ {A = ℕ} 0 1 = cc in omega arith)

@@ -8,7 +8,7 @@ use lib.Dec.{eqb}
 use lib.ListN.{length, length-append}
 use types.Run.{OneOf, miss}
 use denote.Enum.Declared.{tagOf}
-use Rattle.rules.specs.Base.{_>>=_}
+use Rattle.rules.specs.Base.{_whenSome_}
 use Rattle.rules.specs.File.{Tables, Ty}
 use Rattle.rules.specs.File as File
 use Rattle.rules.specs.Constant as ConstantRules
@@ -52,26 +52,26 @@ size-none k none e = refl
 size-none k (some bytes) e = absurd (let z : _≡_ {A = ℕ} 0 1 = cc in omega arith)
 
 -- the length that a constant carries is its bytes'
-only-size : (T : Tables) (n t : ℕ) (o : Option ConstantRules.Const) → sizeOf (viewOf T n t o) ≡ sizeWith 0 (o >>= bytesOnly)
-unfolding _>>=_ bytesOnly sizeWith
+only-size : (T : Tables) (n t : ℕ) (o : Option ConstantRules.Const) → sizeOf (viewOf T n t o) ≡ sizeWith 0 (o whenSome bytesOnly)
+unfolding _whenSome_ bytesOnly sizeWith
 only-size T n t none = refl
 only-size T n t (some (ConstantRules.Const.Bytes bytes)) = let e : min cap (length bytes) ≡ min cap (0 + length bytes) = omega arith in ap Si.Of e
 only-size T n t (some (ConstantRules.Const.Prefix bytes)) = refl
 only-size T n t (some (ConstantRules.Const.Fuzzy x d a)) = refl
 
-pub only-const : (T : Tables) (n t : ℕ) (c : Const) (s : Size) → c ≡ constView T n t → s ≡ sizeOf c → s ≡ sizeWith 0 (ConstantRules.constant T n t >>= bytesOnly)
+pub only-const : (T : Tables) (n t : ℕ) (c : Const) (s : Size) → c ≡ constView T n t → s ≡ sizeOf c → s ≡ sizeWith 0 (ConstantRules.constant T n t whenSome bytesOnly)
 unfolding constView
 only-const T n t c s e q = q ∙ ap sizeOf e ∙ only-size T n t (ConstantRules.constant T n t)
 
 -- A field: the first pattern of its name.
 module _ (b : ℕ → ℕ → Option ConstantRules.Const) (patterns : List File.FieldPattern) (x t : ℕ) where
   pub field-none : (r : Found) → foundOption r ≡ fieldPattern patterns x → r ≡ Fo.Nothing → Si.Nothing ≡ sizeWith 0 (fieldBytes b patterns x t)
-  unfolding fieldBytes _>>=_ sizeWith
-  field-none r e q = ap (λ (o : Option ℕ). sizeWith 0 (o >>= λ p. b p t >>= bytesOnly)) (sym (ap foundOption q) ∙ e)
+  unfolding fieldBytes _whenSome_ sizeWith
+  field-none r e q = ap (λ (o : Option ℕ). sizeWith 0 (o whenSome λ p. b p t whenSome bytesOnly)) (sym (ap foundOption q) ∙ e)
 
-  pub field-some : (r : Found) (p : ℕ) (s : Size) → foundOption r ≡ fieldPattern patterns x → r ≡ Fo.At p → s ≡ sizeWith 0 (b p t >>= bytesOnly) → s ≡ sizeWith 0 (fieldBytes b patterns x t)
-  unfolding fieldBytes _>>=_
-  field-some r p s e q g = g ∙ ap (λ (o : Option ℕ). sizeWith 0 (o >>= λ p. b p t >>= bytesOnly)) (sym (ap foundOption q) ∙ e)
+  pub field-some : (r : Found) (p : ℕ) (s : Size) → foundOption r ≡ fieldPattern patterns x → r ≡ Fo.At p → s ≡ sizeWith 0 (b p t whenSome bytesOnly) → s ≡ sizeWith 0 (fieldBytes b patterns x t)
+  unfolding fieldBytes _whenSome_
+  field-some r p s e q g = g ∙ ap (λ (o : Option ℕ). sizeWith 0 (o whenSome λ p. b p t whenSome bytesOnly)) (sym (ap foundOption q) ∙ e)
 
 -- the pattern that was found
 pub pattern-ok : (f : List ℕ) (T : Tables) (node n at x : ℕ) → Patterns f T node n at → (r : Found) (p : ℕ) → foundOption r ≡ fieldPattern (run (patternAt f) 4 n at) x → r ≡ Fo.At p → (p < length (T .nodes)) × (constantRank T p < constantRank T node)
@@ -96,16 +96,16 @@ module _ (b : ℕ → ℕ → Option ConstantRules.Const) (patterns : List File.
       let m : k ≡ k - 0 = omega arith in
       ap (λ (j : ℕ). constantFields b patterns (run (fieldAt f) 4 k j)) a ∙ ap (λ (j : ℕ). constantFields b patterns (run (fieldAt f) 4 j (from + 4 * 0))) m
 
-  regroup : (o : Option ℕ) (t : ℕ) (rest : Option (List ℕ)) → (o >>= λ p. b p t >>= λ c. bytesOnly c >>= λ bytes. rest >>= λ more. some (bytes ++ more)) ≡ ((o >>= λ p. b p t >>= bytesOnly) >>= λ bytes. rest >>= λ more. some (bytes ++ more))
-  unfolding _>>=_
+  regroup : (o : Option ℕ) (t : ℕ) (rest : Option (List ℕ)) → (o whenSome λ p. b p t whenSome λ c. bytesOnly c whenSome λ bytes. rest whenSome λ more. some (bytes ++ more)) ≡ ((o whenSome λ p. b p t whenSome bytesOnly) whenSome λ bytes. rest whenSome λ more. some (bytes ++ more))
+  unfolding _whenSome_
   regroup none t rest = refl
   regroup (some p) t rest = go (b p t)
     where
-      go : (c : Option ConstantRules.Const) → (c >>= λ c. bytesOnly c >>= λ bytes. rest >>= λ more. some (bytes ++ more)) ≡ ((c >>= bytesOnly) >>= λ bytes. rest >>= λ more. some (bytes ++ more))
+      go : (c : Option ConstantRules.Const) → (c whenSome λ c. bytesOnly c whenSome λ bytes. rest whenSome λ more. some (bytes ++ more)) ≡ ((c whenSome bytesOnly) whenSome λ bytes. rest whenSome λ more. some (bytes ++ more))
       go none = refl
       go (some c) = refl
 
-  pub fields-more : (i : ℕ) (v : FieldTy) → i < k → fieldOf v ≡ fieldAt f (from + 4 * i) → fieldsFrom i ≡ (fieldBytes b patterns (v .name) (v .ty) >>= λ bytes. fieldsFrom (i + 1) >>= λ more. some (bytes ++ more))
+  pub fields-more : (i : ℕ) (v : FieldTy) → i < k → fieldOf v ≡ fieldAt f (from + 4 * i) → fieldsFrom i ≡ (fieldBytes b patterns (v .name) (v .ty) whenSome λ bytes. fieldsFrom (i + 1) whenSome λ more. some (bytes ++ more))
   unfolding fieldsFrom run constantFields fieldBytes
   fields-more i v h e =
       let m : k - i ≡ suc (k - (i + 1)) = omega arith in
@@ -113,7 +113,7 @@ module _ (b : ℕ → ℕ → Option ConstantRules.Const) (patterns : List File.
       ap (λ (j : ℕ). constantFields b patterns (run (fieldAt f) 4 j (from + 4 * i))) m
       ∙ ap (λ (y : File.FieldTy). constantFields b patterns (y ∷ run (fieldAt f) 4 (k - (i + 1)) (from + 4 * i + 4))) (sym e)
       ∙ regroup (fieldPattern patterns (v .name)) (v .ty) (constantFields b patterns (run (fieldAt f) 4 (k - (i + 1)) (from + 4 * i + 4)))
-      ∙ ap (λ (j : ℕ). fieldBytes b patterns (v .name) (v .ty) >>= λ bytes. constantFields b patterns (run (fieldAt f) 4 (k - (i + 1)) j) >>= λ more. some (bytes ++ more)) a
+      ∙ ap (λ (j : ℕ). fieldBytes b patterns (v .name) (v .ty) whenSome λ bytes. constantFields b patterns (run (fieldAt f) 4 (k - (i + 1)) j) whenSome λ more. some (bytes ++ more)) a
 
   pub fields-end : (i : ℕ) → k ≤ i → fieldsFrom i ≡ some []
   unfolding fieldsFrom run constantFields
@@ -128,8 +128,8 @@ module _ (b : ℕ → ℕ → Option ConstantRules.Const) (patterns : List File.
   add-start = record { within = omega arith; small = omega arith; same = ap (sizeWith 0) fields-start }
 
   -- a number of bytes before what is left
-  before : (total l : ℕ) (bytes : List ℕ) (rest : Option (List ℕ)) → l ≡ min cap (0 + length bytes) → sizeWith total (rest >>= λ more. some (bytes ++ more)) ≡ sizeWith (min cap (total + l)) rest
-  unfolding _>>=_ sizeWith
+  before : (total l : ℕ) (bytes : List ℕ) (rest : Option (List ℕ)) → l ≡ min cap (0 + length bytes) → sizeWith total (rest whenSome λ more. some (bytes ++ more)) ≡ sizeWith (min cap (total + l)) rest
+  unfolding _whenSome_ sizeWith
   before total l bytes none e = refl
   before total l bytes (some more) e =
       let n : length (bytes ++ more) ≡ length bytes + length more = length-append bytes more in
@@ -138,13 +138,13 @@ module _ (b : ℕ → ℕ → Option ConstantRules.Const) (patterns : List File.
 
   module _ (total i : ℕ) (a : Adding total i) (v : FieldTy) (h : i < k) (e : fieldOf v ≡ fieldAt f (from + 4 * i)) (s : Size) (q : s ≡ sizeWith 0 (fieldBytes b patterns (v .name) (v .ty))) where
     pub add-none : s ≡ Si.Nothing → Si.Nothing ≡ sizeWith 0 (constantFields b patterns (run (fieldAt f) 4 k from))
-    unfolding _>>=_ sizeWith
+    unfolding _whenSome_ sizeWith
     add-none d =
         sym (a .same ∙ ap (sizeWith total) (fields-more i v h e)
-        ∙ ap (λ (o : Option (List ℕ)). sizeWith total (o >>= λ bytes. fieldsFrom (i + 1) >>= λ more. some (bytes ++ more))) (size-none 0 (fieldBytes b patterns (v .name) (v .ty)) (sym d ∙ q)))
+        ∙ ap (λ (o : Option (List ℕ)). sizeWith total (o whenSome λ bytes. fieldsFrom (i + 1) whenSome λ more. some (bytes ++ more))) (size-none 0 (fieldBytes b patterns (v .name) (v .ty)) (sym d ∙ q)))
 
     pub add-more : (l total′ : ℕ) → s ≡ Si.Of l → total′ ≡ min cap (total + l) → Adding total′ (i + 1)
-    unfolding _>>=_
+    unfolding _whenSome_
     add-more l total′ d g =
         let w = size-is 0 l (fieldBytes b patterns (v .name) (v .ty)) (sym d ∙ q) in
         record {
@@ -152,7 +152,7 @@ module _ (b : ℕ → ℕ → Option ConstantRules.Const) (patterns : List File.
           small = omega arith;
           same =
               a .same ∙ ap (sizeWith total) (fields-more i v h e)
-              ∙ ap (λ (o : Option (List ℕ)). sizeWith total (o >>= λ bytes. fieldsFrom (i + 1) >>= λ more. some (bytes ++ more))) (w .1)
+              ∙ ap (λ (o : Option (List ℕ)). sizeWith total (o whenSome λ bytes. fieldsFrom (i + 1) whenSome λ more. some (bytes ++ more))) (w .1)
               ∙ before total l (w .0) (fieldsFrom (i + 1)) (w .2) ∙ ap (λ (j : ℕ). sizeWith j (fieldsFrom (i + 1))) (sym g);
         }
 
@@ -177,8 +177,8 @@ only-other f at (suc (suc m)) d = refl
 
 module _ (b : ℕ → ℕ → Option ConstantRules.Const) (f : List ℕ) (n at : ℕ) (alts : List File.Alternative) where
   pub payload-many : (n ≡ 1 → ⊥) → Si.Nothing ≡ sizeWith 0 (payloadBytes b (run (patternAt f) 4 n at) alts)
-  unfolding payloadBytes _>>=_ sizeWith
-  payload-many d = sym (ap (λ (o : Option File.FieldPattern). sizeWith 0 (o >>= λ g. ConstantRules.alternativeOf alts (g .name) >>= λ a. b (g .node) (a .type) >>= bytesOnly)) (only-other f at n d))
+  unfolding payloadBytes _whenSome_ sizeWith
+  payload-many d = sym (ap (λ (o : Option File.FieldPattern). sizeWith 0 (o whenSome λ g. ConstantRules.alternativeOf alts (g .name) whenSome λ a. b (g .node) (a .type) whenSome bytesOnly)) (only-other f at n d))
 
   module _ (one : n ≡ 1) (v : FieldPattern) (e : patternOf v ≡ patternAt f (at + 4 * 0)) (r : MaybeAlternative) (q : alternativeOption r ≡ ConstantRules.alternativeOf alts (v .name)) where
     only-one : onlyField (run (patternAt f) 4 n at) ≡ some (patternOf v)
@@ -187,19 +187,19 @@ module _ (b : ℕ → ℕ → Option ConstantRules.Const) (f : List ℕ) (n at :
         let a : at ≡ at + 4 * 0 = omega arith in
         ap (λ (m : ℕ). onlyField (run (patternAt f) 4 m at)) one ∙ ap (λ (j : ℕ). some (patternAt f j)) a ∙ ap some (sym e)
 
-    payload-is : payloadBytes b (run (patternAt f) 4 n at) alts ≡ (alternativeOption r >>= λ a. b (v .node) (a .type) >>= bytesOnly)
-    unfolding payloadBytes _>>=_
+    payload-is : payloadBytes b (run (patternAt f) 4 n at) alts ≡ (alternativeOption r whenSome λ a. b (v .node) (a .type) whenSome bytesOnly)
+    unfolding payloadBytes _whenSome_
     payload-is =
-        ap (λ (o : Option File.FieldPattern). o >>= λ g. ConstantRules.alternativeOf alts (g .name) >>= λ a. b (g .node) (a .type) >>= bytesOnly) only-one
-        ∙ ap (λ (o : Option File.Alternative). o >>= λ a. b (v .node) (a .type) >>= bytesOnly) (sym q)
+        ap (λ (o : Option File.FieldPattern). o whenSome λ g. ConstantRules.alternativeOf alts (g .name) whenSome λ a. b (g .node) (a .type) whenSome bytesOnly) only-one
+        ∙ ap (λ (o : Option File.Alternative). o whenSome λ a. b (v .node) (a .type) whenSome bytesOnly) (sym q)
 
     pub payload-none : r ≡ Ma.Nothing → Si.Nothing ≡ sizeWith 0 (payloadBytes b (run (patternAt f) 4 n at) alts)
-    unfolding _>>=_ sizeWith
-    payload-none d = sym (ap (sizeWith 0) (payload-is ∙ ap (λ (r : MaybeAlternative). alternativeOption r >>= λ a. b (v .node) (a .type) >>= bytesOnly) d))
+    unfolding _whenSome_ sizeWith
+    payload-none d = sym (ap (sizeWith 0) (payload-is ∙ ap (λ (r : MaybeAlternative). alternativeOption r whenSome λ a. b (v .node) (a .type) whenSome bytesOnly) d))
 
-    pub payload-some : (a : Alternative) (s : Size) → r ≡ Ma.Just a → s ≡ sizeWith 0 (b (v .node) (a .ty) >>= bytesOnly) → s ≡ sizeWith 0 (payloadBytes b (run (patternAt f) 4 n at) alts)
-    unfolding _>>=_
-    payload-some a s d g = g ∙ sym (ap (sizeWith 0) (payload-is ∙ ap (λ (r : MaybeAlternative). alternativeOption r >>= λ a. b (v .node) (a .type) >>= bytesOnly) d))
+    pub payload-some : (a : Alternative) (s : Size) → r ≡ Ma.Just a → s ≡ sizeWith 0 (b (v .node) (a .ty) whenSome bytesOnly) → s ≡ sizeWith 0 (payloadBytes b (run (patternAt f) 4 n at) alts)
+    unfolding _whenSome_
+    payload-some a s d g = g ∙ sym (ap (sizeWith 0) (payload-is ∙ ap (λ (r : MaybeAlternative). alternativeOption r whenSome λ a. b (v .node) (a .type) whenSome bytesOnly) d))
 
 -- the only pattern and the alternative that was found
 pub only-ok : (f : List ℕ) (T : Tables) (node n at : ℕ) → Patterns f T node n at → n ≡ 1 → (v : FieldPattern) → patternOf v ≡ patternAt f (at + 4 * 0) → (v .node < length (T .nodes)) × (constantRank T (v .node) < constantRank T node)
@@ -214,8 +214,8 @@ alternative-ok f T k from x o r a e q = each-first (λ a. eqb (a .name) x) (o .e
 
 -- A record or a union around what was measured.
 module _ (T : Tables) (n t : ℕ) (b : ℕ → ℕ → Option ConstantRules.Const) (patterns : List File.FieldPattern) where
-  around : (k : ℕ) (enc : List ℕ → List ℕ) → ((bytes : List ℕ) → length (enc bytes) ≡ k + length bytes) → (o : Option (List ℕ)) → wrapped n t k (sizeWith 0 o) ≡ viewOf T n t (o >>= λ bytes. some (ConstantRules.Const.Bytes (enc bytes)))
-  unfolding _>>=_ sizeWith
+  around : (k : ℕ) (enc : List ℕ → List ℕ) → ((bytes : List ℕ) → length (enc bytes) ≡ k + length bytes) → (o : Option (List ℕ)) → wrapped n t k (sizeWith 0 o) ≡ viewOf T n t (o whenSome λ bytes. some (ConstantRules.Const.Bytes (enc bytes)))
+  unfolding _whenSome_ sizeWith
   around k enc h none = refl
   around k enc h (some bytes) =
       let l : length (enc bytes) ≡ k + length bytes = h bytes in
@@ -231,18 +231,18 @@ module _ (T : Tables) (n t : ℕ) (b : ℕ → ℕ → Option ConstantRules.Cons
   tagged d bytes = omega (arith, length-append bytes (0 ∷ []))
 
   union-view : (alts : List File.Alternative) → wrapped n t 6 (sizeWith 0 (payloadBytes b patterns alts)) ≡ viewOf T n t (constantRecord b patterns (Ty.Union alts))
-  unfolding constantRecord payloadBytes _>>=_ sizeWith
+  unfolding constantRecord payloadBytes _whenSome_ sizeWith
   union-view alts = go (onlyField patterns)
     where
-      last : (d : ℕ) (o : Option ConstantRules.Const) → wrapped n t 6 (sizeWith 0 (o >>= bytesOnly)) ≡ viewOf T n t (o >>= λ c. bytesOnly c >>= λ bytes. some (ConstantRules.Const.Bytes (encodeUnion d bytes)))
+      last : (d : ℕ) (o : Option ConstantRules.Const) → wrapped n t 6 (sizeWith 0 (o whenSome bytesOnly)) ≡ viewOf T n t (o whenSome λ c. bytesOnly c whenSome λ bytes. some (ConstantRules.Const.Bytes (encodeUnion d bytes)))
       last d none = refl
       last d (some c) = around 6 (encodeUnion d) (tagged d) (bytesOnly c)
 
-      among : (g : File.FieldPattern) (o : Option File.Alternative) → wrapped n t 6 (sizeWith 0 (o >>= λ a. b (g .node) (a .type) >>= bytesOnly)) ≡ viewOf T n t (o >>= λ a. b (g .node) (a .type) >>= λ c. bytesOnly c >>= λ bytes. some (ConstantRules.Const.Bytes (encodeUnion (a .disc) bytes)))
+      among : (g : File.FieldPattern) (o : Option File.Alternative) → wrapped n t 6 (sizeWith 0 (o whenSome λ a. b (g .node) (a .type) whenSome bytesOnly)) ≡ viewOf T n t (o whenSome λ a. b (g .node) (a .type) whenSome λ c. bytesOnly c whenSome λ bytes. some (ConstantRules.Const.Bytes (encodeUnion (a .disc) bytes)))
       among g none = refl
       among g (some a) = last (a .disc) (b (g .node) (a .type))
 
-      go : (o : Option File.FieldPattern) → wrapped n t 6 (sizeWith 0 (o >>= λ g. ConstantRules.alternativeOf alts (g .name) >>= λ a. b (g .node) (a .type) >>= bytesOnly)) ≡ viewOf T n t (o >>= λ g. ConstantRules.alternativeOf alts (g .name) >>= λ a. b (g .node) (a .type) >>= λ c. bytesOnly c >>= λ bytes. some (ConstantRules.Const.Bytes (encodeUnion (a .disc) bytes)))
+      go : (o : Option File.FieldPattern) → wrapped n t 6 (sizeWith 0 (o whenSome λ g. ConstantRules.alternativeOf alts (g .name) whenSome λ a. b (g .node) (a .type) whenSome bytesOnly)) ≡ viewOf T n t (o whenSome λ g. ConstantRules.alternativeOf alts (g .name) whenSome λ a. b (g .node) (a .type) whenSome λ c. bytesOnly c whenSome λ bytes. some (ConstantRules.Const.Bytes (encodeUnion (a .disc) bytes)))
       go none = refl
       go (some g) = among g (ConstantRules.alternativeOf alts (g .name))
 

@@ -3,7 +3,7 @@ use Prim.Native.Nat.{ℕ, _+_, _*_, _≤_, _<_, min}
 use mathlib.Core.List.{List}
 use mathlib.Core.Option.{Option, none, some}
 use lib.ListN.{length}
-use Rattle.rules.specs.Base.{Each, _>>=_}
+use Rattle.rules.specs.Base.{Each, _whenSome_ as _>>=_}
 use Rattle.rules.specs.File as File
 use Rattle.rules.specs.File.{Tables, FieldPattern, Ty, Node, nodeAt}
 use Rattle.rules.specs.Constant as ConstantRules

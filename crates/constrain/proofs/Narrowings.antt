@@ -21,7 +21,7 @@ use Rattle.constant.specs.declared.Const.{Const}
 use Rattle.constant.specs.declared.Const.the-variants as Co
 use Rattle.constant.proofs.Known.{known-nothing}
 use Rattle.seek.specs.Narrow.{narrowedBy}
-use Rattle.walk.specs.Step.{diagnosed}
+use Rattle.walk.specs.Walk.{diagnosed}
 use Rattle.constrain.specs.Constrain.{isNothing, isSome, narrowOr}
 
 -- a number past the nodes is no constant

@@ -22,7 +22,7 @@ use Rattle.state.specs.Ops.{ops, bound, constrained, skip}
 use Rattle.views.specs.Views.{anchorOf, nodeOf, constraintOf, constraintAt, SeenNode}
 use Rattle.views.specs.declared.Anchor.{Anchor}
 use Rattle.views.specs.declared.Anchor.the-variants as An
-use Rattle.views.specs.declared.Constraint as Views
+use Rattle.views.specs.declared.Constraint as CodeConstraint
 use Rattle.views.specs.declared.NodeView.{NodeView}
 use Rattle.views.specs.declared.NodeView.the-variants as Nv
 use Rattle.views.proofs.NodeView as NodeViews
@@ -73,7 +73,7 @@ module _ (f : List ℕ) (node : Node) (v : NodeView) (s : SeenNode f node v) whe
   rank-other w = sym (other-rank f v w) ∙ ap rank (s .is)
 
 -- One constraint, by name and rank.
-module _ (T : Tables) (x r : ℕ) (k : Constraint) (v : Views.Constraint) (e : constraintOf v ≡ k) where
+module _ (T : Tables) (x r : ℕ) (k : Constraint) (v : CodeConstraint.Constraint) (e : constraintOf v ≡ k) where
   pub not-named : (v .name ≡ x → ⊥) → none ≡ patternFor T x r k
   unfolding patternFor
   not-named d = sym (ap (patternFor T x r) (sym e) ∙ ap (λ (b : Bool). elim b [ true ↦ elim (eqb (rank (nodeAt T (v .node))) r) [ true ↦ some (v .node) | false ↦ none ] | false ↦ none ]) (ne-eqb _ _ d))
@@ -185,7 +185,7 @@ module _ (T : Tables) (x : ℕ) where
   seek-first = record { low = omega arith; is = refl }
 
   module _ (i : ℕ) (g : Seeking i) where
-    module _ (h : i < length (T .constraints)) (v : Views.Constraint) (e : constraintOf v ≡ constraintAt T i) where
+    module _ (h : i < length (T .constraints)) (v : CodeConstraint.Constraint) (e : constraintOf v ≡ constraintAt T i) where
       here : first named (T .constraints) ≡ elim (named (constraintOf v)) [ true ↦ some (constraintOf v) | false ↦ first named (drop (suc i) (T .constraints)) ]
       unfolding first constraintAt
       here =

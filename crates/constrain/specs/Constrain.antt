@@ -11,7 +11,7 @@ use Rattle.rules.specs.Events.{Code}
 use Rattle.rules.specs.Walk.{narrowBy, rank}
 use Rattle.state.specs.State.{State}
 use Rattle.state.specs.Ops.{ops}
-use Rattle.walk.specs.Step.{diagnosed}
+use Rattle.walk.specs.Walk.{diagnosed}
 use Rattle.constant.specs.declared.Const.{Const}
 use Rattle.constant.specs.declared.Const.the-variants as Co
 

@@ -15,7 +15,7 @@ ghost use Rattle.views.specs.Views.{anchorOf, constraintAt};
 ghost use Rattle.accepted_file.specs.AcceptedFile.{AcceptedFile};
 ghost use Rattle.tables.specs.Tables.{foundOption};
 ghost use Rattle.seek.specs.Narrow.{narrowedBy};
-ghost use Rattle.walk.specs.Step.{walkState};
+ghost use Rattle.walk.specs.Walk.{walkState};
 ghost use Rattle.constrain.specs.Constrain.{isNothing, isSome, narrowOr, patternFor, isConstrained};
 use constant::Const;
 use constant::constant;

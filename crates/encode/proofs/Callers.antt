@@ -5,7 +5,7 @@ use mathlib.Core.List.{List}
 use mathlib.Core.Option.{Option, some}
 use native.Mathlib.Omega.{arith}
 use lib.ListN.{length}
-use Rattle.rules.specs.Base.{_>>=_}
+use Rattle.rules.specs.Base.{_whenSome_}
 use Rattle.rules.specs.File.{Tables}
 use Rattle.rules.specs.Limits.{planLimit}
 use Rattle.rules.specs.Constant as ConstantRules
@@ -18,8 +18,8 @@ use Rattle.encode.specs.Written.{orEmpty, bytesOf, RoomForBytes}
 
 module _ (T : Tables) (n t m s l : ℕ) (e : constView T n t ≡ Co.Bytes m s l) (short : l ≤ planLimit) where
   found : bytesOf T n t ≡ some (known-bytes T n t m s l e .bytes)
-  unfolding bytesOf _>>=_ bytesOnly
-  found = ap (λ (o : Option ConstantRules.Const). o >>= bytesOnly) (known-bytes T n t m s l e .is)
+  unfolding bytesOf _whenSome_ bytesOnly
+  found = ap (λ (o : Option ConstantRules.Const). o whenSome bytesOnly) (known-bytes T n t m s l e .is)
 
   same : orEmpty (bytesOf T n t) ≡ known-bytes T n t m s l e .bytes
   unfolding orEmpty

@@ -7,12 +7,14 @@ use native.Mathlib.Omega.{arith}
 use lib.ListN.{length, length-append}
 use types.Run.{OneOf, miss}
 use denote.Enum.Declared.{tagOf}
-use Rattle.rules.specs.Base.{_>>=_}
+use Rattle.rules.specs.Base.{_whenSome_}
 use Rattle.rules.specs.File.{Tables, Ty, Node, nameAt, typeAt}
 use Rattle.rules.specs.File as File
 use Rattle.rules.specs.Constant as ConstantRules
 use Rattle.rules.specs.Constant.{atInt, atStr, atBytes, bytesOnly, fieldPattern, onlyField, encodeInt, encodeStr, encodeBytes, encodeRecord, encodeUnion, unionTag, bigEndian32, encodePrefix, constantFields, constantRecord, constantNode}
 use Rattle.rules.proofs.Cases.{some≢none, some-injective, bind-some}
+use Rattle.rules.proofs.Each.{Perhaps, perhaps-some}
+use Rattle.rules.proofs.Scalars.{at-int, at-str, at-bytes}
 use Rattle.views.specs.Views.{run, byteAt, fieldAt, alternativeAt, patternAt, fieldOf, alternativeOf, patternOf, nodeOf, SeenType}
 use Rattle.views.specs.declared.FieldTy.{FieldTy}
 use Rattle.views.specs.declared.Alternative.{Alternative}
@@ -54,35 +56,13 @@ wrote-same o o′ at end w w′ a e = subst (λ (q : Option (List ℕ)). Wrote (
 
 -- a scalar's bytes, at whatever type it has them
 module _ (c bytes : List ℕ) where
-  at-int : (ty : Ty) → (atInt ty (ConstantRules.Const.Bytes c) >>= bytesOnly) ≡ some bytes → c ≡ bytes
-  unfolding atInt _>>=_ bytesOnly
-  at-int Ty.Int e = some-injective c bytes e
-  at-int Ty.Str e = absurd (some≢none bytes (sym e))
-  at-int Ty.Bytes e = absurd (some≢none bytes (sym e))
-  at-int (Ty.Fact p) e = absurd (some≢none bytes (sym e))
-  at-int (Ty.Record fs) e = absurd (some≢none bytes (sym e))
-  at-int (Ty.Union alts) e = absurd (some≢none bytes (sym e))
+  alone : (o : Option ConstantRules.Const) → Perhaps (λ k. ConstantRules.Const.Bytes c ≡ k) o → (o whenSome bytesOnly) ≡ some bytes → c ≡ bytes
+  unfolding _whenSome_ bytesOnly
+  alone none h e = absurd (some≢none bytes (sym e))
+  alone (some k) h e = some-injective c bytes (ap bytesOnly (perhaps-some k h refl) ∙ e)
 
-  at-str : (ty : Ty) → (atStr ty (ConstantRules.Const.Bytes c) >>= bytesOnly) ≡ some bytes → c ≡ bytes
-  unfolding atStr _>>=_ bytesOnly
-  at-str Ty.Int e = absurd (some≢none bytes (sym e))
-  at-str Ty.Str e = some-injective c bytes e
-  at-str Ty.Bytes e = absurd (some≢none bytes (sym e))
-  at-str (Ty.Fact p) e = absurd (some≢none bytes (sym e))
-  at-str (Ty.Record fs) e = absurd (some≢none bytes (sym e))
-  at-str (Ty.Union alts) e = absurd (some≢none bytes (sym e))
-
-  at-bytes : (ty : Ty) → (atBytes ty (ConstantRules.Const.Bytes c) >>= bytesOnly) ≡ some bytes → c ≡ bytes
-  unfolding atBytes _>>=_ bytesOnly
-  at-bytes Ty.Int e = absurd (some≢none bytes (sym e))
-  at-bytes Ty.Str e = absurd (some≢none bytes (sym e))
-  at-bytes Ty.Bytes e = some-injective c bytes e
-  at-bytes (Ty.Fact p) e = absurd (some≢none bytes (sym e))
-  at-bytes (Ty.Record fs) e = absurd (some≢none bytes (sym e))
-  at-bytes (Ty.Union alts) e = absurd (some≢none bytes (sym e))
-
-no-prefix : (x : List ℕ) (ty : Ty) → (atStr ty (ConstantRules.Const.Prefix x) >>= bytesOnly) ≡ none
-unfolding atStr _>>=_ bytesOnly
+no-prefix : (x : List ℕ) (ty : Ty) → (atStr ty (ConstantRules.Const.Prefix x) whenSome bytesOnly) ≡ none
+unfolding atStr _whenSome_ bytesOnly
 no-prefix x Ty.Int = refl
 no-prefix x Ty.Str = refl
 no-prefix x Ty.Bytes = refl
@@ -90,8 +70,8 @@ no-prefix x (Ty.Fact p) = refl
 no-prefix x (Ty.Record fs) = refl
 no-prefix x (Ty.Union alts) = refl
 
-no-fuzzy : (x d : ℕ) (a : File.Anchor) (ty : Ty) → (atStr ty (ConstantRules.Const.Fuzzy x d a) >>= bytesOnly) ≡ none
-unfolding atStr _>>=_ bytesOnly
+no-fuzzy : (x d : ℕ) (a : File.Anchor) (ty : Ty) → (atStr ty (ConstantRules.Const.Fuzzy x d a) whenSome bytesOnly) ≡ none
+unfolding atStr _whenSome_ bytesOnly
 no-fuzzy x d a Ty.Int = refl
 no-fuzzy x d a Ty.Str = refl
 no-fuzzy x d a Ty.Bytes = refl
@@ -100,8 +80,8 @@ no-fuzzy x d a (Ty.Record fs) = refl
 no-fuzzy x d a (Ty.Union alts) = refl
 
 -- a node that has no bytes
-no-bytes : (T : Tables) (b : ℕ → ℕ → Option ConstantRules.Const) (f : List ℕ) (v : NodeView) (ty : Ty) → OneOf (3 ∷ 4 ∷ 5 ∷ 6 ∷ 7 ∷ 9 ∷ 10 ∷ 11 ∷ 12 ∷ 13 ∷ 14 ∷ 15 ∷ 16 ∷ []) (tagOf NodeViews.the-type v) → (constantNode T b (nodeOf f v) ty >>= bytesOnly) ≡ none
-unfolding constantNode _>>=_
+no-bytes : (T : Tables) (b : ℕ → ℕ → Option ConstantRules.Const) (f : List ℕ) (v : NodeView) (ty : Ty) → OneOf (3 ∷ 4 ∷ 5 ∷ 6 ∷ 7 ∷ 9 ∷ 10 ∷ 11 ∷ 12 ∷ 13 ∷ 14 ∷ 15 ∷ 16 ∷ []) (tagOf NodeViews.the-type v) → (constantNode T b (nodeOf f v) ty whenSome bytesOnly) ≡ none
+unfolding constantNode _whenSome_
 no-bytes T b f (Nv.Int at) ty w = absurd (miss (3 ∷ 4 ∷ 5 ∷ 6 ∷ 7 ∷ 9 ∷ 10 ∷ 11 ∷ 12 ∷ 13 ∷ 14 ∷ 15 ∷ 16 ∷ []) 0 tt w)
 no-bytes T b f (Nv.Str x) ty w = absurd (miss (3 ∷ 4 ∷ 5 ∷ 6 ∷ 7 ∷ 9 ∷ 10 ∷ 11 ∷ 12 ∷ 13 ∷ 14 ∷ 15 ∷ 16 ∷ []) 1 tt w)
 no-bytes T b f (Nv.Bytes n at) ty w = absurd (miss (3 ∷ 4 ∷ 5 ∷ 6 ∷ 7 ∷ 9 ∷ 10 ∷ 11 ∷ 12 ∷ 13 ∷ 14 ∷ 15 ∷ 16 ∷ []) 2 tt w)
@@ -121,22 +101,22 @@ no-bytes T b f Nv.Arith ty w = refl
 no-bytes T b f Nv.Error ty w = refl
 
 module _ (f : List ℕ) (T : Tables) (n t : ℕ) (v : NodeView) (k : ConstantSeen f T n t v) where
-  node-bytes : (w : NodeView) → v ≡ w → bytesOf T n t ≡ (constantNode T (ConstantRules.constant T) (nodeOf f w) (typeAt T t) >>= bytesOnly)
+  node-bytes : (w : NodeView) → v ≡ w → bytesOf T n t ≡ (constantNode T (ConstantRules.constant T) (nodeOf f w) (typeAt T t) whenSome bytesOnly)
   unfolding bytesOf
-  node-bytes w e = ap (λ (o : Option ConstantRules.Const). o >>= bytesOnly) (k .is ∙ ap (λ (y : Node). constantNode T (ConstantRules.constant T) y (typeAt T t)) (sym (k .node) ∙ ap (nodeOf f) e))
+  node-bytes w e = ap (λ (o : Option ConstantRules.Const). o whenSome bytesOnly) (k .is ∙ ap (λ (y : Node). constantNode T (ConstantRules.constant T) y (typeAt T t)) (sym (k .node) ∙ ap (nodeOf f) e))
 
   module _ (at : ℕ) (h : RoomForBytes (bytesOf T n t) at) (end : ℕ) (w w′ : List ℕ) where
     pub put-int : (p : ℕ) → v ≡ Nv.Int p → Wrote (encodeInt (run (byteAt f) 1 8 p)) at w end w′ → Wrote (orEmpty (bytesOf T n t)) at w end w′
     unfolding constantNode
-    put-int p e a = wrote-as _ _ at end w w′ a (at-int (encodeInt (run (byteAt f) 1 8 p)) (orEmpty (bytesOf T n t)) (typeAt T t) (sym (node-bytes (Nv.Int p) e) ∙ h .is))
+    put-int p e a = wrote-as _ _ at end w w′ a (alone (encodeInt (run (byteAt f) 1 8 p)) (orEmpty (bytesOf T n t)) (atInt (typeAt T t) _) (at-int _ (typeAt T t) _ refl) (sym (node-bytes (Nv.Int p) e) ∙ h .is))
 
     pub put-text : (x : ℕ) → v ≡ Nv.Str x → Wrote (encodeStr (nameAt T x)) at w end w′ → Wrote (orEmpty (bytesOf T n t)) at w end w′
     unfolding constantNode
-    put-text x e a = wrote-as _ _ at end w w′ a (at-str (encodeStr (nameAt T x)) (orEmpty (bytesOf T n t)) (typeAt T t) (sym (node-bytes (Nv.Str x) e) ∙ h .is))
+    put-text x e a = wrote-as _ _ at end w w′ a (alone (encodeStr (nameAt T x)) (orEmpty (bytesOf T n t)) (atStr (typeAt T t) _) (at-str _ (typeAt T t) _ refl) (sym (node-bytes (Nv.Str x) e) ∙ h .is))
 
     pub put-raw : (i p : ℕ) → v ≡ Nv.Bytes i p → Wrote (encodeBytes (run (byteAt f) 1 i p)) at w end w′ → Wrote (orEmpty (bytesOf T n t)) at w end w′
     unfolding constantNode
-    put-raw i p e a = wrote-as _ _ at end w w′ a (at-bytes (encodeBytes (run (byteAt f) 1 i p)) (orEmpty (bytesOf T n t)) (typeAt T t) (sym (node-bytes (Nv.Bytes i p) e) ∙ h .is))
+    put-raw i p e a = wrote-as _ _ at end w w′ a (alone (encodeBytes (run (byteAt f) 1 i p)) (orEmpty (bytesOf T n t)) (atBytes (typeAt T t) _) (at-bytes _ (typeAt T t) _ refl) (sym (node-bytes (Nv.Bytes i p) e) ∙ h .is))
 
   pub pairs-bytes : (i p : ℕ) → v ≡ Nv.Record i p → bytesOf T n t ≡ recordBytes (ConstantRules.constant T) (run (patternAt f) 4 i p) (typeAt T t)
   unfolding constantNode recordBytes
@@ -148,12 +128,12 @@ module _ (f : List ℕ) (T : Tables) (n t : ℕ) (v : NodeView) (k : ConstantSee
 -- A field's bytes are those of its pattern.
 module _ (T : Tables) (patterns : List File.FieldPattern) (x t : ℕ) (r : Found) (e : foundOption r ≡ fieldPattern patterns x) where
   pub field-bytes : (p : ℕ) → r ≡ Fo.At p → fieldBytes (ConstantRules.constant T) patterns x t ≡ bytesOf T p t
-  unfolding fieldBytes bytesOf _>>=_
-  field-bytes p q = sym (ap (λ (o : Option ℕ). o >>= λ p. ConstantRules.constant T p t >>= bytesOnly) (sym (ap foundOption q) ∙ e))
+  unfolding fieldBytes bytesOf _whenSome_
+  field-bytes p q = sym (ap (λ (o : Option ℕ). o whenSome λ p. ConstantRules.constant T p t whenSome bytesOnly) (sym (ap foundOption q) ∙ e))
 
   pub field-missing : (at : ℕ) → RoomForBytes (fieldBytes (ConstantRules.constant T) patterns x t) at → r ≡ Fo.Nothing → ⊥
-  unfolding fieldBytes _>>=_
-  field-missing at h q = nowhere _ at h (sym (ap (λ (o : Option ℕ). o >>= λ p. ConstantRules.constant T p t >>= bytesOnly) (sym (ap foundOption q) ∙ e)))
+  unfolding fieldBytes _whenSome_
+  field-missing at h q = nowhere _ at h (sym (ap (λ (o : Option ℕ). o whenSome λ p. ConstantRules.constant T p t whenSome bytesOnly) (sym (ap foundOption q) ∙ e)))
 
 -- The fields, one after another.
 module _ (b : ℕ → ℕ → Option ConstantRules.Const) (patterns : List File.FieldPattern) (f : List ℕ) (k from : ℕ) where
@@ -167,7 +147,7 @@ module _ (b : ℕ → ℕ → Option ConstantRules.Const) (patterns : List File.
       let x = fieldBytes b patterns (v .name) (v .ty) in
       let y = fieldsFrom b patterns f k from (i + 1) in
       let all = orEmpty (fieldsFrom b patterns f k from i) in
-      let p = bind-some x (λ bytes. y >>= λ more. some (bytes ++ more)) all (sym (fields-more b patterns f k from i v h e) ∙ g) in
+      let p = bind-some x (λ bytes. y whenSome λ more. some (bytes ++ more)) all (sym (fields-more b patterns f k from i v h e) ∙ g) in
       let q = bind-some y (λ more. some (p .0 ++ more)) all (p .2) in
       record {
         first = there x (p .0) (p .1);
@@ -203,10 +183,10 @@ module _ (b : ℕ → ℕ → Option ConstantRules.Const) (patterns : List File.
 -- A record around its fields.
 module _ (b : ℕ → ℕ → Option ConstantRules.Const) (patterns : List File.FieldPattern) where
   record-parts : (fs : List File.FieldTy) (bytes : List ℕ) → recordBytes b patterns (Ty.Record fs) ≡ some bytes → (constantFields b patterns fs ≡ some (orEmpty (constantFields b patterns fs))) × (bytes ≡ encodeRecord (orEmpty (constantFields b patterns fs)))
-  unfolding recordBytes constantRecord bytesOnly _>>=_
+  unfolding recordBytes constantRecord bytesOnly _whenSome_
   record-parts fs bytes e =
       let o = constantFields b patterns fs in
-      let p = bind-some (o >>= λ bs. some (ConstantRules.Const.Bytes (encodeRecord bs))) bytesOnly bytes e in
+      let p = bind-some (o whenSome λ bs. some (ConstantRules.Const.Bytes (encodeRecord bs))) bytesOnly bytes e in
       let q = bind-some o (λ bs. some (ConstantRules.Const.Bytes (encodeRecord bs))) (p .0) (p .1) in
       (there o (q .0) (q .1), some-injective _ _ (sym (p .2) ∙ ap bytesOnly (sym (some-injective _ _ (q .2)))) ∙ ap encodeRecord (sym (full o (q .0) (q .1))))
 
@@ -233,8 +213,8 @@ module _ (b : ℕ → ℕ → Option ConstantRules.Const) (patterns : List File.
     union-same k from e = ap (recordBytes b patterns) (sym (subst (SeenType f ty) e s .is))
 
     pub put-neither : OneOf (0 ∷ 1 ∷ 2 ∷ 3 ∷ []) (tagOf TypeViews.the-type v) → ⊥
-    unfolding recordBytes _>>=_
-    put-neither w = nowhere _ at h (ap (λ (o : Option ConstantRules.Const). o >>= bytesOnly) (sym (ap (constantRecord b patterns) (s .is)) ∙ neither (record { names = []; types = []; predicates = []; nodes = []; bindings = []; hoisted = []; fetched = []; constraints = []; comparisons = []; levels = [] }) 0 0 b patterns f v w))
+    unfolding recordBytes _whenSome_
+    put-neither w = nowhere _ at h (ap (λ (o : Option ConstantRules.Const). o whenSome bytesOnly) (sym (ap (constantRecord b patterns) (s .is)) ∙ neither (record { names = []; types = []; predicates = []; nodes = []; bindings = []; hoisted = []; fetched = []; constraints = []; comparisons = []; levels = [] }) 0 0 b patterns f v w))
 
 -- A union around its payload.
 tag-size : (at d : ℕ) → at + 5 ≡ at + length (unionTag d)
@@ -265,7 +245,7 @@ module _ (T : Tables) (f : List ℕ) (n pairs : ℕ) (alts : List File.Alternati
       whole : orEmpty (recordBytes (ConstantRules.constant T) (run (patternAt f) 4 n pairs) (Ty.Union alts)) ≡ encodeUnion (alternative .disc) payload
 
     parts-of : Parts
-    unfolding recordBytes constantRecord bytesOnly bytesOf _>>=_
+    unfolding recordBytes constantRecord bytesOnly bytesOf _whenSome_
     parts-of =
         let all = orEmpty (recordBytes (ConstantRules.constant T) (run (patternAt f) 4 n pairs) (Ty.Union alts)) in
         let p = bind-some (constantRecord (ConstantRules.constant T) (run (patternAt f) 4 n pairs) (Ty.Union alts)) bytesOnly all (h .is) in
@@ -273,7 +253,7 @@ module _ (T : Tables) (f : List ℕ) (n pairs : ℕ) (alts : List File.Alternati
         let o = only-first f n pairs (q .0) (q .1) in
         let z : pairs ≡ pairs + 4 * 0 = omega arith in
         let g : q .0 ≡ patternOf v = sym (o .1) ∙ ap (patternAt f) z ∙ sym e in
-        let m = subst (λ (y : File.FieldPattern). (ConstantRules.alternativeOf alts (y .name) >>= λ alt. ConstantRules.constant T (y .node) (alt .type) >>= λ c. bytesOnly c >>= λ bytes. some (ConstantRules.Const.Bytes (encodeUnion (alt .disc) bytes))) ≡ some (p .0)) g (q .2) in
+        let m = subst (λ (y : File.FieldPattern). (ConstantRules.alternativeOf alts (y .name) whenSome λ alt. ConstantRules.constant T (y .node) (alt .type) whenSome λ c. bytesOnly c whenSome λ bytes. some (ConstantRules.Const.Bytes (encodeUnion (alt .disc) bytes))) ≡ some (p .0)) g (q .2) in
         let r = bind-some (ConstantRules.alternativeOf alts (v .name)) _ (p .0) m in
         let s = bind-some (ConstantRules.constant T (v .node) (r .0 .type)) _ (p .0) (r .2) in
         let u = bind-some (bytesOnly (s .0)) _ (p .0) (s .2) in
@@ -281,7 +261,7 @@ module _ (T : Tables) (f : List ℕ) (n pairs : ℕ) (alts : List File.Alternati
           alternative = r .0;
           named = r .1;
           payload = u .0;
-          is = ap (λ (o : Option ConstantRules.Const). o >>= bytesOnly) (s .1) ∙ u .1;
+          is = ap (λ (o : Option ConstantRules.Const). o whenSome bytesOnly) (s .1) ∙ u .1;
           whole = some-injective _ _ (sym (p .2) ∙ ap bytesOnly (sym (some-injective _ _ (u .2))));
         }
 

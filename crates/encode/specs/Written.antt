@@ -4,7 +4,7 @@ use mathlib.Core.Path.{_≡_}
 use mathlib.Core.List.{List, [], _∷_}
 use mathlib.Core.Option.{Option, none, some}
 use lib.ListN.{length}
-use Rattle.rules.specs.Base.{_>>=_}
+use Rattle.rules.specs.Base.{_whenSome_}
 use Rattle.rules.specs.File.{Tables, FieldPattern, Ty}
 use Rattle.rules.specs.Constant as ConstantRules
 use Rattle.rules.specs.Constant.{bytesOnly, constantRecord}
@@ -17,11 +17,11 @@ orEmpty (some bytes) = bytes
 
 -- the bytes of node n at type t, where its constant is bytes
 unfoldable pub bytesOf : Tables → ℕ → ℕ → Option (List ℕ)
-bytesOf T n t = ConstantRules.constant T n t >>= bytesOnly
+bytesOf T n t = ConstantRules.constant T n t whenSome bytesOnly
 
 -- the bytes of a Record's patterns at a type
 unfoldable pub recordBytes : (ℕ → ℕ → Option ConstantRules.Const) → List FieldPattern → Ty → Option (List ℕ)
-recordBytes below patterns ty = constantRecord below patterns ty >>= bytesOnly
+recordBytes below patterns ty = constantRecord below patterns ty whenSome bytesOnly
 
 -- there are bytes, and they end where no sum of places wraps
 pub record RoomForBytes (o : Option (List ℕ)) (at : ℕ) : Type 0 where

@@ -12,19 +12,19 @@ use Rattle.rules.specs.Events.{Code}
 use Rattle.state.specs.State.{State}
 use Rattle.state.specs.Ops.{report, skip}
 use Rattle.views.specs.Views.{run, patternAt, alternativeAt, patternOf}
-use Rattle.views.specs.declared.FieldPattern as Code
+use Rattle.views.specs.declared.FieldPattern as CodePattern
 use Rattle.views.specs.declared.Alternative as Found
 use Rattle.tables.specs.Tables.{SeenRun, alternativeOption}
 use Rattle.tables.specs.declared.MaybeAlternative.{MaybeAlternative}
 use Rattle.tables.specs.declared.MaybeAlternative.the-variants as Ma
 use Rattle.tables.specs.declared.Run.{Run}
 use Rattle.tables.specs.declared.Run.the-variants as Ru
-use Rattle.walk.specs.Step.{walkState}
+use Rattle.walk.specs.Walk.{walkState}
 use Rattle.walk.specs.declared.Walk.{Walk}
 use Rattle.seek.specs.Narrow.{narrowedBy}
 use Rattle.constrain.specs.Constrain.{isSome}
 use Rattle.constrain.proofs.Narrowings.{after-constant, after-none}
-use Rattle.field_cases.specs.Begin.{Choosing, unchosen, choosingOf, namedChoice, onlyChoice, alternativeChoice, choosing}
+use Rattle.field_cases.specs.FieldCases.{Choosing, unchosen, choosingOf, namedChoice, onlyChoice, alternativeChoice, choosing}
 use Rattle.field_cases.specs.declared.Choice.the-variants as Ch
 use Rattle.field_cases.specs.declared.Chosen.{Chosen}
 
@@ -77,7 +77,7 @@ module _ (T : Tables) (n t : ℕ) where
         unfolding onlyChoice
         arity d s′ q = ap unchosen q ∙ ap (λ o. onlyChoice o (run (alternativeAt f) 8 m from) n s) (sym (only-none k d)) ∙ both-are
 
-        module _ (one : k ≡ 1) (p : Code.FieldPattern) (e : patternOf p ≡ patternAt f (at + 4 * 0)) (found : MaybeAlternative) (ef : alternativeOption found ≡ alternativeOf (run (alternativeAt f) 8 m from) (p .name)) where
+        module _ (one : k ≡ 1) (p : CodePattern.FieldPattern) (e : patternOf p ≡ patternAt f (at + 4 * 0)) (found : MaybeAlternative) (ef : alternativeOption found ≡ alternativeOf (run (alternativeAt f) 8 m from) (p .name)) where
           only-is : some (patternOf p) ≡ onlyField (run (patternAt f) 4 k at)
           unfolding onlyField run
           only-is =

@@ -26,8 +26,8 @@ use Rattle.state.specs.Ops.{ops, bind, narrow, closer}
 use Rattle.state.proofs.Stopped.{stopped}
 use Rattle.file.proofs.Readers.{lt-or-le}
 use Rattle.field_cases.specs.Pieces.{Lower}
-use Rattle.field_cases.specs.Begin as Begin
-use Rattle.field_cases.specs.Begin.{isInjection, Start, piecesStart, readStart, placeStart, variableStart, nodeStart, start, Meeting, meeting, Payload, Choosing, namedChoice, onlyChoice, alternativeChoice, choosing, injectFields, injectAt}
+use Rattle.field_cases.specs.FieldCases as Begin
+use Rattle.field_cases.specs.FieldCases.{isInjection, Start, piecesStart, readStart, placeStart, variableStart, nodeStart, start, Meeting, meeting, Payload, Choosing, namedChoice, onlyChoice, alternativeChoice, choosing, injectFields, injectAt}
 
 -- a walk of the types below that leaves a state as it is once the plan is too long, as every walk does
 pub record StaysWhenOver (below : FieldWalk State) : Type 0 where

@@ -23,13 +23,13 @@ use Rattle.slots.specs.Slots.{slotOf, slotWith}
 use Rattle.slots.specs.declared.Slot.{Slot}
 use Rattle.slots.specs.declared.SlotKind.{SlotKind}
 use Rattle.slots.specs.declared.SlotKind.the-variants as Sk
-use Rattle.walk.specs.Step.{walkState}
+use Rattle.walk.specs.Walk.{walkState}
 use Rattle.walk.specs.declared.Walk.{Walk}
 use Rattle.tables.specs.declared.Found.the-variants as Fo
 use Rattle.seek.specs.Narrow.{narrowedBy}
 use Rattle.constrain.specs.Constrain.{isSome}
 use Rattle.constrain.proofs.Narrowings.{after-constant, after-none}
-use Rattle.field_cases.specs.Begin.{still, Meeting, settled, meetingOf, meeting}
+use Rattle.field_cases.specs.FieldCases.{still, Meeting, settled, meetingOf, meeting}
 use Rattle.field_cases.specs.declared.Met.{Met}
 
 -- a row's predicate

@@ -29,10 +29,10 @@ use Rattle.seek.specs.Seek.{stateOf}
 use Rattle.lists.specs.declared.Lists.{Lists}
 use Rattle.resolve.specs.Resolved.{given, Answers}
 use Rattle.resolve.specs.declared.Answer.{Answer}
-use Rattle.walk.specs.Step.{walkState, listsOf, withLists}
+use Rattle.walk.specs.Walk.{walkState, listsOf, withLists}
 use Rattle.walk.proofs.Parts.{lists-of, lists-are}
 use Rattle.walk.specs.declared.Walk.{Walk}
-use Rattle.field_cases.specs.Begin.{Start, startOf, slotBeside, doneWith, piecesStart, readStart}
+use Rattle.field_cases.specs.FieldCases.{Start, startOf, slotBeside, doneWith, piecesStart, readStart}
 use Rattle.field_cases.specs.declared.Next.the-variants as Nx
 use Rattle.field_cases.specs.declared.Begun.{Begun}
 

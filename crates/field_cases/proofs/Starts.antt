@@ -26,11 +26,11 @@ use Rattle.tables.specs.declared.Run.the-variants as Ru
 use Rattle.seek.specs.Seek.{stateOf}
 use Rattle.lists.specs.Lists.{stateWith}
 use Rattle.lists.specs.declared.Lists.{Lists}
-use Rattle.walk.specs.Step.{walkState, listsOf}
+use Rattle.walk.specs.Walk.{walkState, listsOf}
 use Rattle.walk.specs.declared.Walk.{Walk}
 use Rattle.walk.proofs.Parts.{lists-of}
 use Rattle.field_cases.proofs.Reading.{tidy-there}
-use Rattle.field_cases.specs.Begin.{isInjection, still, Start, readStart, placeStart, variableStart, nodeStart, start}
+use Rattle.field_cases.specs.FieldCases.{isInjection, still, Start, readStart, placeStart, variableStart, nodeStart, start}
 
 -- a name looked up, whatever the level
 pub looked-up : (T : Tables) (x : ℕ) (m : MaybeSlot) (w : Walk) (l : Lists) (work plan : List ℕ) → l ≡ listsOf w → ((level : Level) (g : Target) (p : List ℕ) → IsSlot (ops T .lookup (stateWith l level g work p) x) m) → slotOption m ≡ ops T .lookup (walkState T w work plan) x

@@ -10,7 +10,7 @@ use borrow.Author.Tests.{eq-eqb, ne-eqb}
 use lib.Dec.{eqb}
 use lib.ListN.{length, getD, drop, drop-of-length-le}
 use lib.Seq.{drop-cons}
-use Rattle.rules.specs.Base.{first, _>>=_}
+use Rattle.rules.specs.Base.{first, _whenSome_}
 use Rattle.rules.specs.File.{Tables, Ty, FieldTy, FieldPath, Hoisted, Fetched}
 use Rattle.rules.specs.Lookup.{fieldFrom, fieldOf, fetchedRegister}
 use Rattle.views.specs.Views.{run, typeOf, TypeInside, SeenType, hoistedAt, fetchedAt}
@@ -74,7 +74,7 @@ fields-inside {f} n at s e = subst (TypeInside f) e (s .inside)
 
 -- the file's hoisted entries from entry j on
 unfoldable pub hoistedFrom : Tables → ℕ → ℕ → Option ℕ
-hoistedFrom T n j = first (λ (h : Hoisted). eqb (h .node) n) (drop j (T .hoisted)) >>= λ h. some (h .name)
+hoistedFrom T n j = first (λ (h : Hoisted). eqb (h .node) n) (drop j (T .hoisted)) whenSome λ h. some (h .name)
 
 module _ (T : Tables) (n i : ℕ) where
   pub hoisted-start : hoistedName T n ≡ hoistedFrom T n 0
@@ -83,20 +83,20 @@ module _ (T : Tables) (n i : ℕ) where
 
   pub hoisted-more : (h : Hoisted) → h ≡ hoistedAt T i → i < length (T .hoisted) → (h .node ≡ n → ⊥) → hoistedFrom T n i ≡ hoistedFrom T n (i + 1)
   unfolding hoistedAt hoistedFrom
-  hoisted-more h e l d = ap (λ (o : Option Hoisted). o >>= λ h. some (h .name)) (first-more (T .hoisted) _ i _ l (ap (λ (h : Hoisted). eqb (h .node) n) (sym e) ∙ ne-eqb _ _ d))
+  hoisted-more h e l d = ap (λ (o : Option Hoisted). o whenSome λ h. some (h .name)) (first-more (T .hoisted) _ i _ l (ap (λ (h : Hoisted). eqb (h .node) n) (sym e) ∙ ne-eqb _ _ d))
 
   pub hoisted-here : (h : Hoisted) → h ≡ hoistedAt T i → i < length (T .hoisted) → h .node ≡ n → hoistedFrom T n i ≡ some (h .name)
-  unfolding hoistedAt hoistedFrom _>>=_
+  unfolding hoistedAt hoistedFrom _whenSome_
   hoisted-here h e l d =
-      ap (λ (o : Option Hoisted). o >>= λ h. some (h .name)) (first-here (T .hoisted) _ i _ l (ap (λ (h : Hoisted). eqb (h .node) n) (sym e) ∙ eq-eqb _ _ d)) ∙ ap (λ (h : Hoisted). some (h .name)) (sym e)
+      ap (λ (o : Option Hoisted). o whenSome λ h. some (h .name)) (first-here (T .hoisted) _ i _ l (ap (λ (h : Hoisted). eqb (h .node) n) (sym e) ∙ eq-eqb _ _ d)) ∙ ap (λ (h : Hoisted). some (h .name)) (sym e)
 
   pub hoisted-end : length (T .hoisted) ≤ i → hoistedFrom T n i ≡ none
-  unfolding hoistedFrom _>>=_
-  hoisted-end l = ap (λ (o : Option Hoisted). o >>= λ h. some (h .name)) (first-end (T .hoisted) (record { node = 0; name = 0 }) i _ l)
+  unfolding hoistedFrom _whenSome_
+  hoisted-end l = ap (λ (o : Option Hoisted). o whenSome λ h. some (h .name)) (first-end (T .hoisted) (record { node = 0; name = 0 }) i _ l)
 
 -- the file's fetched entries from entry j on
 unfoldable pub fetchedFrom : Tables → ℕ → FieldPath → ℕ → Option ℕ
-fetchedFrom T a p j = first (fetches a p) (drop j (T .fetched)) >>= λ f. some (f .register)
+fetchedFrom T a p j = first (fetches a p) (drop j (T .fetched)) whenSome λ f. some (f .register)
 
 module _ (T : Tables) (a : ℕ) (p : FieldPath) (i : ℕ) where
   pub fetched-start : fetchedRegister T a p ≡ fetchedFrom T a p 0
@@ -105,13 +105,13 @@ module _ (T : Tables) (a : ℕ) (p : FieldPath) (i : ℕ) where
 
   pub fetched-more : (f : Fetched) → f ≡ fetchedAt T i → i < length (T .fetched) → fetches a p f ≡ false → fetchedFrom T a p i ≡ fetchedFrom T a p (i + 1)
   unfolding fetchedAt fetchedFrom
-  fetched-more f e l d = ap (λ (o : Option Fetched). o >>= λ f. some (f .register)) (first-more (T .fetched) _ i (fetches a p) l (ap (fetches a p) (sym e) ∙ d))
+  fetched-more f e l d = ap (λ (o : Option Fetched). o whenSome λ f. some (f .register)) (first-more (T .fetched) _ i (fetches a p) l (ap (fetches a p) (sym e) ∙ d))
 
   pub fetched-here : (f : Fetched) → f ≡ fetchedAt T i → i < length (T .fetched) → fetches a p f ≡ true → fetchedFrom T a p i ≡ some (f .register)
-  unfolding fetchedAt fetchedFrom _>>=_
+  unfolding fetchedAt fetchedFrom _whenSome_
   fetched-here f e l d =
-      ap (λ (o : Option Fetched). o >>= λ f. some (f .register)) (first-here (T .fetched) _ i (fetches a p) l (ap (fetches a p) (sym e) ∙ d)) ∙ ap (λ (f : Fetched). some (f .register)) (sym e)
+      ap (λ (o : Option Fetched). o whenSome λ f. some (f .register)) (first-here (T .fetched) _ i (fetches a p) l (ap (fetches a p) (sym e) ∙ d)) ∙ ap (λ (f : Fetched). some (f .register)) (sym e)
 
   pub fetched-end : length (T .fetched) ≤ i → fetchedFrom T a p i ≡ none
-  unfolding fetchedFrom _>>=_
-  fetched-end l = ap (λ (o : Option Fetched). o >>= λ f. some (f .register)) (first-end (T .fetched) (record { address = 0; path = p; register = 0 }) i (fetches a p) l)
+  unfolding fetchedFrom _whenSome_
+  fetched-end l = ap (λ (o : Option Fetched). o whenSome λ f. some (f .register)) (first-end (T .fetched) (record { address = 0; path = p; register = 0 }) i (fetches a p) l)

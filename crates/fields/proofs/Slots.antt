@@ -6,7 +6,7 @@ use mathlib.Core.Option.{Option, none, some}
 use native.Mathlib.Omega.{arith}
 use lib.ListN.{length}
 use lib.Seq.{length-take-le}
-use Rattle.rules.specs.Base.{_>>=_}
+use Rattle.rules.specs.Base.{_whenSome_}
 use Rattle.rules.specs.Limits.{stepLimit}
 use Rattle.rules.specs.File as File
 use Rattle.rules.specs.File.{Tables, Ty, FieldPattern, typeAt, predicateAt, nodeAt, factTy, recordFields, fieldPath}
@@ -31,55 +31,55 @@ fact-seen {f} w s e = ap (λ (w : TypeView). factTy (typeOf f w)) (sym e) ∙ ap
 
 module _ (a : Address) (place : ℕ → File.FieldPath) {o : Option FieldAt} {r : MaybeSlot} where
   pub no-field : r ≡ noSlot → o ≡ none → IsSlot (slotAt (a .0) place o) r
-  unfolding slotAt _>>=_
+  unfolding slotAt _whenSome_
   no-field h e = slot-as (no-slot h) (ap (slotAt (a .0) place) (sym e))
 
   pub field-at : {s : Slot} {q : FieldPath} (i t : ℕ) → r ≡ justSlot s → s ≡ fieldSlot a q t → pathOf q ≡ place i → o ≡ some (record { index = i; type = t }) → IsSlot (slotAt (a .0) place o) r
-  unfolding slotAt _>>=_
+  unfolding slotAt _whenSome_
   field-at {s} {q} i t h k l e = slot-as (field-is s a q t h k) (ap (λ (q : File.FieldPath). some (File.Slot.Field (a .0) q t)) l ∙ ap (slotAt (a .0) place) (sym e))
 
 module _ (T : Tables) (a : ℕ) {o : Option ℕ} {r : MaybeSlot} where
   pub no-row-field : (x : ℕ) → r ≡ noSlot → o ≡ none → IsSlot (rowField T a o x) r
-  unfolding rowField _>>=_
+  unfolding rowField _whenSome_
   no-row-field x h e = slot-as (no-slot h) (ap (λ (o : Option ℕ). rowField T a o x) (sym e))
 
   pub row-field-is : (x p : ℕ) (entry : File.Predicate) → IsSlot (slotAt a fieldPath (fieldOf (typeAt T (entry .key)) x)) r → entry ≡ predicateAt T p → o ≡ some p → IsSlot (rowField T a o x) r
-  unfolding rowField _>>=_
+  unfolding rowField _whenSome_
   row-field-is x p entry h k e = slot-as h (ap (λ (q : File.Predicate). slotAt a fieldPath (fieldOf (typeAt T (q .key)) x)) k ∙ ap (λ (o : Option ℕ). rowField T a o x) (sym e))
 
   pub no-row-value : r ≡ noSlot → o ≡ none → IsSlot (rowValue T a o) r
-  unfolding rowValue _>>=_
+  unfolding rowValue _whenSome_
   no-row-value h e = slot-as (no-slot h) (ap (rowValue T a) (sym e))
 
   pub row-value-is : (p : ℕ) (entry : File.Predicate) → IsSlot (valueSide a (entry .value)) r → entry ≡ predicateAt T p → o ≡ some p → IsSlot (rowValue T a o) r
-  unfolding rowValue _>>=_
+  unfolding rowValue _whenSome_
   row-value-is p entry h k e = slot-as h (ap (λ (q : File.Predicate). valueSide a (q .value)) k ∙ ap (rowValue T a) (sym e))
 
 module _ (a : ℕ) {o : Option ℕ} {r : MaybeSlot} where
   pub no-value : r ≡ noSlot → o ≡ none → IsSlot (valueSide a o) r
-  unfolding _>>=_
+  unfolding _whenSome_
   no-value h e = slot-as (no-slot h) (ap (valueSide a) (sym e))
 
   pub value-is : (t : ℕ) → IsSlot (some (File.Slot.Value a t)) r → o ≡ some t → IsSlot (valueSide a o) r
-  unfolding _>>=_
+  unfolding _whenSome_
   value-is t h e = slot-as h (ap (valueSide a) (sym e))
 
 module _ (T : Tables) (n x : ℕ) where
   pub folded-is : {r : Option ℕ} (fs : List FieldPattern) → r ≡ fieldPattern fs x → some fs ≡ recordFields (nodeAt T n) → r ≡ foldedField T n x
-  unfolding foldedField _>>=_
-  folded-is fs h e = h ∙ ap (λ (o : Option (List FieldPattern)). o >>= λ fs. fieldPattern fs x) e
+  unfolding foldedField _whenSome_
+  folded-is fs h e = h ∙ ap (λ (o : Option (List FieldPattern)). o whenSome λ fs. fieldPattern fs x) e
 
   pub no-folded : none ≡ recordFields (nodeAt T n) → none ≡ foldedField T n x
-  unfolding foldedField _>>=_
-  no-folded e = ap (λ (o : Option (List FieldPattern)). o >>= λ fs. fieldPattern fs x) e
+  unfolding foldedField _whenSome_
+  no-folded e = ap (λ (o : Option (List FieldPattern)). o whenSome λ fs. fieldPattern fs x) e
 
   pub no-folded-slot : {r : MaybeSlot} → r ≡ noSlot → none ≡ foldedField T n x → IsSlot (foldedSlot T n x) r
-  unfolding foldedSlot _>>=_
-  no-folded-slot h e = slot-as (no-slot h) (ap (λ (o : Option ℕ). o >>= λ m. some (File.Slot.Const m)) e)
+  unfolding foldedSlot _whenSome_
+  no-folded-slot h e = slot-as (no-slot h) (ap (λ (o : Option ℕ). o whenSome λ m. some (File.Slot.Const m)) e)
 
   pub folded-slot-is : {r : MaybeSlot} (m : ℕ) → IsSlot (some (File.Slot.Const m)) r → some m ≡ foldedField T n x → IsSlot (foldedSlot T n x) r
-  unfolding foldedSlot _>>=_
-  folded-slot-is m h e = slot-as h (ap (λ (o : Option ℕ). o >>= λ m. some (File.Slot.Const m)) e)
+  unfolding foldedSlot _whenSome_
+  folded-slot-is m h e = slot-as h (ap (λ (o : Option ℕ). o whenSome λ m. some (File.Slot.Const m)) e)
 
 -- how many steps a path counts
 pub counts : (room : ℕ) (q : FieldPath) → q .count ≤ room → length (q .steps) ≡ room → length (pathOf q .steps) ≡ q .count

@@ -3,7 +3,7 @@ use Prim.Native.Nat.{ℕ}
 use mathlib.Core.Bool.{Bool}
 use mathlib.Core.Option.{Option, none, some}
 use lib.Dec.{eqb}
-use Rattle.rules.specs.Base.{both, _>>=_, first}
+use Rattle.rules.specs.Base.{both, _whenSome_ as _>>=_, first}
 use Rattle.rules.specs.File.{Tables, FieldPath, Fetched, Slot}
 use Rattle.rules.specs.Lookup as Lookup
 use Rattle.fields.specs.declared.FieldAt.{FieldAt}

@@ -17,10 +17,10 @@ use Rattle.slots.specs.Slots.{slotOf, maybe}
 use Rattle.lists.specs.declared.Lists.{Lists}
 use Rattle.resolve.specs.Resolved.{Answers}
 use Rattle.resolve.specs.declared.Answer.{Answer}
-use Rattle.walk.specs.Step.{walkState, listsOf, withLists}
+use Rattle.walk.specs.Walk.{walkState, listsOf, withLists}
 use Rattle.walk.specs.declared.Walk.{Walk}
 use Rattle.field_cases.proofs.Reading.{answer-is}
-use Rattle.key.specs.Walks.{Gives, wholeField}
+use Rattle.key.specs.Cycle.{Gives, wholeField}
 
 -- building falls where there is no slot
 abbrev goOn : (File.Slot → State → State) → ResolveRules.Answer State → State

@@ -18,7 +18,7 @@ use Rattle.tables.specs.declared.Found.{Found}
 use Rattle.tables.specs.declared.Found.the-variants as Fo
 use Rattle.field_cases.specs.Pieces.{patternsOf, fieldsFor, noField, Pieced}
 use Rattle.field_cases.specs.declared.Piece.{Piece}
-use Rattle.key.specs.Walks.{Walks}
+use Rattle.key.specs.Cycle.{Walks}
 use Rattle.key.proofs.Fields.{turn, each-more, each-end}
 
 -- the fields from i, walked by `field` below m

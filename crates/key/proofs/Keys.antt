@@ -18,7 +18,7 @@ use Rattle.tables.specs.Tables.{SeenRun}
 use Rattle.tables.specs.declared.Run.{Run}
 use Rattle.tables.specs.declared.Run.the-variants as Ru
 use Rattle.field_cases.specs.Pieces.{Fits, patternsOf, openFields, fieldsFor}
-use Rattle.key.specs.Walks.{Walks, fieldsOf}
+use Rattle.key.specs.Cycle.{Walks, fieldsOf}
 use Rattle.key.proofs.Going.{Going, going-end}
 
 -- a path of no step has room for every type

@@ -17,13 +17,13 @@ use Rattle.seek.specs.Seek.{levelOf, stateOf}
 use Rattle.tables.specs.Tables.{foundOption}
 use Rattle.tables.specs.declared.Found.{Found}
 use Rattle.tables.specs.declared.Found.the-variants as Fo
-use Rattle.walk.specs.Step.{walkState}
+use Rattle.walk.specs.Walk.{walkState}
 use Rattle.walk.specs.declared.Walk.{Walk}
 use Rattle.field_cases.specs.Pieces.{Lower, patternsOf, fieldsFor}
 use Rattle.rules.proofs.Sound.{Sound}
 use Rattle.rules.proofs.Idle.{idle-fieldBelow}
 use Rattle.state.proofs.Stopped.{stopped}
-use Rattle.field_cases.specs.Begin.{injectAt, Start, startWith, startOf, start, Meeting, meetingOf, meeting, Choosing, payloadOf, choosingOf, choosing}
+use Rattle.field_cases.specs.FieldCases.{injectAt, Start, startWith, startOf, start, Meeting, meetingOf, meeting, Choosing, payloadOf, choosingOf, choosing}
 use Rattle.field_cases.proofs.Finishes.{StaysWhenOver, finish, start-finished, opened, meeting-finished, injected, choosing-finished, choosing-lower}
 use Rattle.field_cases.specs.declared.Next.{Next}
 use Rattle.field_cases.specs.declared.Next.the-variants as Nx
@@ -32,7 +32,7 @@ use Rattle.field_cases.specs.declared.Choice.the-variants as Ch
 use Rattle.field_cases.specs.declared.Begun.{Begun}
 use Rattle.field_cases.specs.declared.Met.{Met}
 use Rattle.field_cases.specs.declared.Chosen.{Chosen}
-use Rattle.key.specs.Walks.{Walks, Gives}
+use Rattle.key.specs.Cycle.{Walks, Gives}
 use Rattle.key.proofs.Fields.{partial-opens}
 use Rattle.key.proofs.Going.{Going, going-end}
 

@@ -32,7 +32,7 @@ use Rattle.tables.specs.Tables.{SeenRun}
 use Rattle.tables.specs.declared.Run.{Run}
 use Rattle.tables.specs.declared.Run.the-variants as Ru
 use Rattle.field_cases.specs.Pieces.{noField}
-use Rattle.key.specs.Walks.{fieldsOf, wholeField}
+use Rattle.key.specs.Cycle.{fieldsOf, wholeField}
 use Rattle.key.proofs.Fields.{none-left}
 
 -- the fields in turn, of which i are matched

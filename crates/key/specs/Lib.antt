@@ -1,2 +1,2 @@
 -- What the cycle's members give.
-pub mod Walks
+pub mod Cycle

@@ -11,7 +11,7 @@ use Rattle.rules.specs.Constant.{encodePrefix}
 use Rattle.rules.specs.Placement.{Range, RangeEdge}
 use Rattle.rules.specs.Plan as Plan
 use Rattle.rules.specs.Plan.{u16}
-use Rattle.state.specs.Levels as Kept
+use Rattle.state.specs.Levels as StateLevels
 use Rattle.state.specs.Levels.{seekOf, joining, head, rangeOrEdges, middle, tail, partsAt, middleAt, tailAt}
 use Rattle.paths.specs.Paths.{pathOf}
 use Rattle.constant.specs.Sizes.{cap}
@@ -21,7 +21,7 @@ use Rattle.records.specs.Records.{put}
 use Rattle.records.proofs.Stores.{put-none}
 use Rattle.seek.specs.Seek.{sumsOf, countsOf, setIn, kept, guideOf, rangeOf, edgeOf, edgesOf, levelOf}
 use Rattle.seek.specs.declared.SeekBuilder.{SeekBuilder}
-use Rattle.level_frame.specs.Frames.{betweenOf, frameOf}
+use Rattle.level_frame.specs.LevelFrame.{betweenOf, frameOf}
 use Rattle.level_frame.specs.declared.Frame.{Frame}
 use Rattle.level_frame.proofs.Seeks.{seekBits, edge, seek-is}
 use Rattle.level_frame.proofs.Places as Places
@@ -140,8 +140,8 @@ module _ (T : Tables) (l : SeekBuilder) where
       record { parts = at + eh i; middle = at + eh i + ep i; rest = at + eh i + ep i + em i; tail = at + eh i + ep i + em i + er i; end = at + eh i + ep i + em i + er i + et i }
 
   pub put-frame : (at : ℕ) (f : Frame) → f ≡ frameOf at (levelOf T l) → f .end ≤ planLimit → (w w1 w2 w3 : List ℕ) → w1 ≡ put w at (head (levelOf T l))
-      → w2 ≡ put w1 (f .middle) (middle (levelOf T l)) → w3 ≡ put w2 (f .tail) (tail (levelOf T l)) → w3 ≡ Kept.frame at (levelOf T l) w
-  unfolding Kept.frame put
+      → w2 ≡ put w1 (f .middle) (middle (levelOf T l)) → w3 ≡ put w2 (f .tail) (tail (levelOf T l)) → w3 ≡ StateLevels.frame at (levelOf T l) w
+  unfolding StateLevels.frame put
   put-frame at f ef h w w1 w2 w3 e1 e2 e3 =
       e3 ∙ ap (λ (k : ℕ). put w2 k (tail (levelOf T l))) (tail-is at (levelOf T l) f ef h)
       ∙ ap (λ (x : List ℕ). put x (tailAt at (levelOf T l)) (tail (levelOf T l)))

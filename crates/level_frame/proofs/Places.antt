@@ -10,7 +10,7 @@ use Rattle.rules.specs.Limits.{planLimit}
 use Rattle.state.specs.State.{Level}
 use Rattle.state.specs.Levels.{middle, tail, partsAt, middleAt, restAt, tailAt, levelEnd}
 use Rattle.constant.specs.Sizes.{cap}
-use Rattle.level_frame.specs.Frames.{frameOf}
+use Rattle.level_frame.specs.LevelFrame.{frameOf}
 use Rattle.level_frame.specs.declared.Frame.{Frame}
 
 module _ (at : ℕ) (l : Level) (f : Frame) (ef : f ≡ frameOf at l) where

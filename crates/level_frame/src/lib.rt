@@ -6,14 +6,14 @@ ghost use Rattle.rules.specs.Limits.{planLimit};
 ghost use Rattle.rules.specs.File.{Tables};
 ghost use Rattle.rules.specs.Plan as Plan;
 ghost use Rattle.state.specs.Levels.{seekOf, head, middle, tail};
-ghost use Rattle.state.specs.Levels as Kept;
+ghost use Rattle.state.specs.Levels as StateLevels;
 ghost use Rattle.file.specs.Tables.{tablesOf};
 ghost use Rattle.accepted_file.specs.AcceptedFile.{AcceptedFile};
 ghost use Rattle.constant.specs.Sizes.{cap};
 ghost use Rattle.encode.specs.Written.{Wrote};
 ghost use Rattle.records.specs.Records.{put};
 ghost use Rattle.seek.specs.Seek.{guideOf, kept, levelOf};
-ghost use Rattle.level_frame.specs.Frames.{betweenOf, partsLen, frameOf};
+ghost use Rattle.level_frame.specs.LevelFrame.{betweenOf, partsLen, frameOf};
 use constant::capped;
 use records::anchor_byte;
 use records::path_size;
@@ -250,7 +250,7 @@ pub fn measure(file: &[u8], index: &[u16], at: usize, l: SeekBuilder) -> Frame
 pub fn put_frame(file: &[u8], index: &[u16], plan: &mut [u8], at: usize, f: Frame, l: SeekBuilder)
     requires { ⌜ AcceptedFile (now file) (now index) ⌝ }
     requires { ⌜ (f ≡ frameOf at (levelOf (tablesOf (now file)) l)) × (f .end ≤ planLimit) ⌝ }
-    ensures { λ _. ⌜ now (plan .exit) ≡ Kept.frame at (levelOf (tablesOf (now (file .entry))) l) (now (plan .entry)) ⌝ }
+    ensures { λ _. ⌜ now (plan .exit) ≡ StateLevels.frame at (levelOf (tablesOf (now (file .entry))) l) (now (plan .entry)) ⌝ }
 {
     put_head(plan, at, l);
     put_middle(file, index, plan, f.middle, l);

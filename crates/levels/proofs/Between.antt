@@ -9,41 +9,41 @@ use lib.Seq.{drop-cons}
 use Rattle.rules.specs.Limits.{planLimit}
 use Rattle.rules.specs.File.{Tables, LevelEntry}
 use Rattle.rules.proofs.Cases.{by-test, true≢false}
-use Rattle.state.specs.Levels as Kept
+use Rattle.state.specs.Levels as StateLevels
 use Rattle.state.specs.Levels.{begin, level, levels}
 use Rattle.views.specs.Views.{levelEntryAt}
 use Rattle.levels.specs.Written.{unleveled, betweenLevels, writtenOf}
 use Rattle.levels.specs.declared.Written.{Written}
 
-level-between : (T : Tables) (l : LevelEntry) (w : Kept.Written) → level T l (betweenLevels w) ≡ level T l w
+level-between : (T : Tables) (l : LevelEntry) (w : StateLevels.Written) → level T l (betweenLevels w) ≡ level T l w
 unfolding level begin betweenLevels unleveled
 level-between T l w = refl
 
-levels-between : (T : Tables) (ls : List LevelEntry) (w : Kept.Written) → betweenLevels (levels T ls (betweenLevels w)) ≡ betweenLevels (levels T ls w)
+levels-between : (T : Tables) (ls : List LevelEntry) (w : StateLevels.Written) → betweenLevels (levels T ls (betweenLevels w)) ≡ betweenLevels (levels T ls w)
 unfolding levels betweenLevels unleveled
 levels-between T [] w = refl
 levels-between T (l ∷ ls) w = go (w .state .over)
   where
     go : (o : Bool) → betweenLevels (elim o [ true ↦ betweenLevels w | false ↦ levels T ls (level T l (betweenLevels w)) ]) ≡ betweenLevels (elim o [ true ↦ w | false ↦ levels T ls (level T l w) ])
     go true = refl
-    go false = ap (λ (x : Kept.Written). betweenLevels (levels T ls x)) (level-between T l w)
+    go false = ap (λ (x : StateLevels.Written). betweenLevels (levels T ls x)) (level-between T l w)
 
 pub settled : (w : Written) (work plan : List ℕ) → betweenLevels (writtenOf w work plan) ≡ writtenOf w work plan
 unfolding betweenLevels unleveled writtenOf
 settled w work plan = refl
 
-levels-over : (T : Tables) (ls : List LevelEntry) (w : Kept.Written) → w .state .over ≡ true → levels T ls w ≡ w
+levels-over : (T : Tables) (ls : List LevelEntry) (w : StateLevels.Written) → w .state .over ≡ true → levels T ls w ≡ w
 unfolding levels
 levels-over T [] w e = refl
-levels-over T (l ∷ ls) w e = by-test (λ (r : Kept.Written). r ≡ w) (w .state .over) (λ q. refl) (λ q. absurd (true≢false (sym e ∙ q)))
+levels-over T (l ∷ ls) w e = by-test (λ (r : StateLevels.Written). r ≡ w) (w .state .over) (λ q. refl) (λ q. absurd (true≢false (sym e ∙ q)))
 
-levels-live : (T : Tables) (l : LevelEntry) (ls : List LevelEntry) (w : Kept.Written) → w .state .over ≡ false → levels T (l ∷ ls) w ≡ levels T ls (level T l w)
+levels-live : (T : Tables) (l : LevelEntry) (ls : List LevelEntry) (w : StateLevels.Written) → w .state .over ≡ false → levels T (l ∷ ls) w ≡ levels T ls (level T l w)
 unfolding levels
-levels-live T l ls w e = by-test (λ (r : Kept.Written). r ≡ levels T ls (level T l w)) (w .state .over) (λ q. absurd (true≢false (sym q ∙ e))) (λ q. refl)
+levels-live T l ls w e = by-test (λ (r : StateLevels.Written). r ≡ levels T ls (level T l w)) (w .state .over) (λ q. absurd (true≢false (sym q ∙ e))) (λ q. refl)
 
 -- The levels from k on, of what the first k left, make what all make of the start.
 module _ (T : Tables) (start : Written) (work₀ plan₀ : List ℕ) where
-  abbrev all : Kept.Written
+  abbrev all : StateLevels.Written
   all = betweenLevels (levels T (T .levels) (writtenOf start work₀ plan₀))
 
   pub record Going (k : ℕ) (w : Written) (work plan : List ℕ) : Type 0 where
@@ -56,13 +56,13 @@ module _ (T : Tables) (start : Written) (work₀ plan₀ : List ℕ) where
   going-start h = record { left = refl; near = h; work-size = refl; plan-size = refl }
 
   module _ (k : ℕ) (w : Written) (work plan : List ℕ) (g : Going k w work plan) where
-    abbrev here : Kept.Written
+    abbrev here : StateLevels.Written
     here = writtenOf w work plan
 
-    going-left : (x : Kept.Written) → k < length (T .levels) → w .lists .over ≡ false → x ≡ betweenLevels (level T (levelEntryAt T k) here) → betweenLevels (levels T (drop (k + 1) (T .levels)) x) ≡ all
+    going-left : (x : StateLevels.Written) → k < length (T .levels) → w .lists .over ≡ false → x ≡ betweenLevels (level T (levelEntryAt T k) here) → betweenLevels (levels T (drop (k + 1) (T .levels)) x) ≡ all
     unfolding levelEntryAt writtenOf
     going-left x h o e =
-        ap (λ (y : Kept.Written). betweenLevels (levels T (drop (k + 1) (T .levels)) y)) e
+        ap (λ (y : StateLevels.Written). betweenLevels (levels T (drop (k + 1) (T .levels)) y)) e
         ∙ levels-between T (drop (k + 1) (T .levels)) (level T (levelEntryAt T k) here)
         ∙ ap (λ (j : ℕ). betweenLevels (levels T (drop j (T .levels)) (level T (levelEntryAt T k) here))) (add-one k)
         ∙ sym (ap betweenLevels (levels-live T (levelEntryAt T k) (drop (suc k) (T .levels)) here o))

@@ -18,7 +18,7 @@ use Rattle.rules.proofs.Sound.{Sound}
 use Rattle.state.specs.State.{State, Level, state, newLevel, measuring}
 use Rattle.state.specs.State as Memory
 use Rattle.state.specs.Ops.{ops}
-use Rattle.state.specs.Levels as Kept
+use Rattle.state.specs.Levels as StateLevels
 use Rattle.file.specs.Tables.{tablesOf}
 use Rattle.views.specs.Views.{levelEntryAt, predicateOf}
 use Rattle.views.specs.Views as Views
@@ -31,10 +31,10 @@ use Rattle.seek.specs.declared.SeekBuilder.{SeekBuilder}
 use Rattle.lists.specs.Lists.{endsOf, stateWith}
 use Rattle.lists.specs.declared.Ends.{Ends}
 use Rattle.lists.specs.declared.Lists.{Lists}
-use Rattle.walk.specs.Step.{walkState, listsOf, withLists}
+use Rattle.walk.specs.Walk.{walkState, listsOf, withLists}
 use Rattle.walk.proofs.Parts.{lists-are}
 use Rattle.walk.specs.declared.Walk.{Walk}
-use Rattle.level_frame.specs.Frames.{frameOf}
+use Rattle.level_frame.specs.LevelFrame.{frameOf}
 use Rattle.level_frame.specs.declared.Frame.{Frame}
 use Rattle.level_frame.proofs.Seeks.{joining-is}
 use Rattle.level_frame.proofs.Places.{parts-is, rest-is}
@@ -52,8 +52,8 @@ module _ (T : Tables) (v : LevelEntry) (l : File.LevelEntry) (p : Predicate) (el
   key-is : p .key ≡ predicateAt T (l .predicate) .key
   key-is = ap (λ (q : File.Predicate). q .key) ep ∙ ap (λ (m : File.LevelEntry). predicateAt T (m .predicate) .key) el
 
-  pub walked-is : (s r : State) → r ≡ WalkRules.key (ops T) T (v .address .0) (v .node) (p .key) s → r ≡ Kept.walked T l s
-  unfolding Kept.walked
+  pub walked-is : (s r : State) → r ≡ WalkRules.key (ops T) T (v .address .0) (v .node) (p .key) s → r ≡ StateLevels.walked T l s
+  unfolding StateLevels.walked
   walked-is s r e =
       e ∙ ap (λ (k : ℕ). WalkRules.key (ops T) T (v .address .0) (v .node) k s) key-is
       ∙ ap (λ (m : File.LevelEntry). WalkRules.key (ops T) T (m .address) (m .node) (predicateAt T (l .predicate) .key) s) el
@@ -69,7 +69,7 @@ begun-is T o e b t w p q =
     ∙ ap (λ (s : State). state o (endsOf e) (s .level) (s .target) w p) q
 
 -- a level's place in the plan
-pub target-is : (T : Tables) (l : SeekBuilder) (s parts rest : ℕ) → s ≡ Kept.seekOf (levelOf T l) → place (eqb s 0) parts rest ≡ place (Kept.joining (levelOf T l)) parts rest
+pub target-is : (T : Tables) (l : SeekBuilder) (s parts rest : ℕ) → s ≡ StateLevels.seekOf (levelOf T l) → place (eqb s 0) parts rest ≡ place (StateLevels.joining (levelOf T l)) parts rest
 target-is T l s parts rest e =
     ap (λ (j : Bool). place j parts rest) (ap (λ (n : ℕ). eqb n 0) e ∙ sym (joining-is l T))
 
@@ -85,34 +85,34 @@ some-parts n r h = ap (λ (b : Bool). both b (eqb r 0)) (sym (ne-eqb n 0 (λ e. 
 no-parts : (n r : ℕ) → n ≤ 0 → eqb r 0 ≡ both (eqb n 0) (eqb r 0)
 no-parts n r h = ap (λ (b : Bool). both b (eqb r 0)) (sym (eq-eqb n 0 (omega (arith, h))))
 
-pub parted-is : (T : Tables) (l : SeekBuilder) → 0 < l .counts .closers + l .counts .others → false ≡ Kept.bare (levelOf T l)
-unfolding Kept.bare levelOf countsOf sumsOf
+pub parted-is : (T : Tables) (l : SeekBuilder) → 0 < l .counts .closers + l .counts .others → false ≡ StateLevels.bare (levelOf T l)
+unfolding StateLevels.bare levelOf countsOf sumsOf
 parted-is T l h = some-parts (l .counts .closers + l .counts .others) (l .counts .residuals) h
 
-pub bare-is : (T : Tables) (l : SeekBuilder) → l .counts .closers + l .counts .others ≤ 0 → eqb (l .counts .residuals) 0 ≡ Kept.bare (levelOf T l)
-unfolding Kept.bare levelOf countsOf sumsOf
+pub bare-is : (T : Tables) (l : SeekBuilder) → l .counts .closers + l .counts .others ≤ 0 → eqb (l .counts .residuals) 0 ≡ StateLevels.bare (levelOf T l)
+unfolding StateLevels.bare levelOf countsOf sumsOf
 bare-is T l h = no-parts (l .counts .closers + l .counts .others) (l .counts .residuals) h
 
 -- a bare level: its frame written, the lists as the walk left them
-pub framed-is : (T : Tables) (v : File.LevelEntry) (e : Memory.Ends) (at : ℕ) (m : Walk) (x : Lists) (work plan plan₁ : List ℕ) → x ≡ listsOf m → plan₁ ≡ Kept.frame at (levelOf T (m .level)) plan → Kept.bare (levelOf T (m .level)) ≡ true
-    → stateWith x newLevel measuring work plan₁ ≡ unleveled (Kept.rewritten T v e at (walkState T m work plan))
-unfolding Kept.rewritten Kept.framed walkState stateOf unleveled
+pub framed-is : (T : Tables) (v : File.LevelEntry) (e : Memory.Ends) (at : ℕ) (m : Walk) (x : Lists) (work plan plan₁ : List ℕ) → x ≡ listsOf m → plan₁ ≡ StateLevels.frame at (levelOf T (m .level)) plan → StateLevels.bare (levelOf T (m .level)) ≡ true
+    → stateWith x newLevel measuring work plan₁ ≡ unleveled (StateLevels.rewritten T v e at (walkState T m work plan))
+unfolding StateLevels.rewritten StateLevels.framed walkState stateOf unleveled
 framed-is T v e at m x work plan plan₁ ex ep q =
     ap (λ (y : Lists). stateWith y newLevel measuring work plan₁) ex
     ∙ ap (stateWith (listsOf m) newLevel measuring work) ep
-    ∙ by-test (λ (r : State). stateWith (listsOf m) newLevel measuring work (Kept.frame at (levelOf T (m .level)) plan) ≡ unleveled r) (Kept.bare (levelOf T (m .level))) (λ _. refl) (λ p. absurd (true≢false (sym q ∙ p)))
+    ∙ by-test (λ (r : State). stateWith (listsOf m) newLevel measuring work (StateLevels.frame at (levelOf T (m .level)) plan) ≡ unleveled r) (StateLevels.bare (levelOf T (m .level))) (λ _. refl) (λ p. absurd (true≢false (sym q ∙ p)))
 
 -- the second walk
 module _ (T : Tables) (at : ℕ) (m : Walk) (f : Frame) (ef : f ≡ frameOf at (levelOf T (m .level))) (h : f .end ≤ planLimit) where
   abbrev l : Level
   l = levelOf T (m .level)
 
-  pub rewritten-is : (v : File.LevelEntry) (e : Memory.Ends) (work plan plan₁ : List ℕ) → plan₁ ≡ Kept.frame at l plan → Kept.bare l ≡ false
-      → (t : Memory.Target) → t ≡ place (Kept.joining l) (f .parts) (f .rest) → (b r : State) → b ≡ state (m .level .over) e newLevel t work plan₁ → r ≡ Kept.walked T v b
-      → unleveled r ≡ unleveled (Kept.rewritten T v e at (walkState T m work plan))
-  unfolding Kept.rewritten Kept.framed Kept.begin walkState stateOf
+  pub rewritten-is : (v : File.LevelEntry) (e : Memory.Ends) (work plan plan₁ : List ℕ) → plan₁ ≡ StateLevels.frame at l plan → StateLevels.bare l ≡ false
+      → (t : Memory.Target) → t ≡ place (StateLevels.joining l) (f .parts) (f .rest) → (b r : State) → b ≡ state (m .level .over) e newLevel t work plan₁ → r ≡ StateLevels.walked T v b
+      → unleveled r ≡ unleveled (StateLevels.rewritten T v e at (walkState T m work plan))
+  unfolding StateLevels.rewritten StateLevels.framed StateLevels.begin walkState stateOf
   rewritten-is v e work plan plan₁ ep q t et b r eb er =
-      ap unleveled (er ∙ ap (Kept.walked T v) (eb ∙ ap (λ (x : Memory.Target). state (m .level .over) e newLevel x work plan₁)
-      (et ∙ ap (λ (k : ℕ). place (Kept.joining l) k (f .rest)) (parts-is at l f ef) ∙ ap (λ (k : ℕ). place (Kept.joining l) (Kept.partsAt at l) k) (rest-is at l f ef h))
-      ∙ ap (λ (p : List ℕ). state (m .level .over) e newLevel (place (Kept.joining l) (Kept.partsAt at l) (Kept.restAt at l)) work p) ep)
-      ∙ by-test (λ (x : State). Kept.walked T v (state (m .level .over) e newLevel (place (Kept.joining l) (Kept.partsAt at l) (Kept.restAt at l)) work (Kept.frame at l plan)) ≡ x) (Kept.bare l) (λ p. absurd (true≢false (sym p ∙ q))) (λ _. refl))
+      ap unleveled (er ∙ ap (StateLevels.walked T v) (eb ∙ ap (λ (x : Memory.Target). state (m .level .over) e newLevel x work plan₁)
+      (et ∙ ap (λ (k : ℕ). place (StateLevels.joining l) k (f .rest)) (parts-is at l f ef) ∙ ap (λ (k : ℕ). place (StateLevels.joining l) (StateLevels.partsAt at l) k) (rest-is at l f ef h))
+      ∙ ap (λ (p : List ℕ). state (m .level .over) e newLevel (place (StateLevels.joining l) (StateLevels.partsAt at l) (StateLevels.restAt at l)) work p) ep)
+      ∙ by-test (λ (x : State). StateLevels.walked T v (state (m .level .over) e newLevel (place (StateLevels.joining l) (StateLevels.partsAt at l) (StateLevels.restAt at l)) work (StateLevels.frame at l plan)) ≡ x) (StateLevels.bare l) (λ p. absurd (true≢false (sym p ∙ q))) (λ _. refl))

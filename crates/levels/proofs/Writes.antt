@@ -14,15 +14,15 @@ use Rattle.rules.specs.Plan.{u16}
 use Rattle.rules.proofs.Cases.{by-test, true≢false}
 use Rattle.state.specs.State.{State, Level, state, stop, noEnds, newLevel, measuring}
 use Rattle.state.specs.State as Memory
-use Rattle.state.specs.Levels as Kept
+use Rattle.state.specs.Levels as StateLevels
 use Rattle.state.specs.Levels.{writtenTo}
 use Rattle.records.specs.Records.{put}
 use Rattle.records.proofs.Stores.{put-sets}
 use Rattle.lists.specs.Lists.{endsOf, stateWith, overrun}
 use Rattle.lists.specs.declared.Lists.{Lists}
 use Rattle.seek.specs.Seek.{levelOf, targetOf, stateOf}
-use Rattle.plan_lists.specs.Runs.{listsIn}
-use Rattle.walk.specs.Step.{walkState, listsOf}
+use Rattle.plan_lists.specs.PlanLists.{listsIn}
+use Rattle.walk.specs.Walk.{walkState, listsOf}
 use Rattle.walk.specs.declared.Walk.{Walk}
 use Rattle.levels.specs.Written.{unleveled, betweenLevels, writtenOf}
 use Rattle.levels.specs.declared.Written.{Written}
@@ -34,25 +34,25 @@ unfolding writtenOf betweenLevels unleveled stop
 stopped-is r l at work plan level t e = ap (λ (x : Written). writtenOf x work plan) e
 
 module _ (T : Tables) (v : LevelEntry) (e : Memory.Ends) (at : ℕ) where
-  measured-over : (m : State) → m .over ≡ true → Kept.measured T v e at m ≡ writtenTo at m
-  unfolding Kept.measured
-  measured-over m o = by-test (λ (r : Kept.Written). r ≡ writtenTo at m) (m .over) (λ q. refl) (λ q. absurd (true≢false (sym o ∙ q)))
+  measured-over : (m : State) → m .over ≡ true → StateLevels.measured T v e at m ≡ writtenTo at m
+  unfolding StateLevels.measured
+  measured-over m o = by-test (λ (r : StateLevels.Written). r ≡ writtenTo at m) (m .over) (λ q. refl) (λ q. absurd (true≢false (sym o ∙ q)))
 
-  measured-live : (m : State) → m .over ≡ false → Kept.measured T v e at m ≡ elim (leb (Kept.levelEnd at (m .level)) (min planLimit (length (m .plan)))) [ true ↦ writtenTo (Kept.levelEnd at (m .level)) (Kept.rewritten T v e at m) | false ↦ writtenTo at (stop m) ]
-  unfolding Kept.measured
+  measured-live : (m : State) → m .over ≡ false → StateLevels.measured T v e at m ≡ elim (leb (StateLevels.levelEnd at (m .level)) (min planLimit (length (m .plan)))) [ true ↦ writtenTo (StateLevels.levelEnd at (m .level)) (StateLevels.rewritten T v e at m) | false ↦ writtenTo at (stop m) ]
+  unfolding StateLevels.measured
   measured-live m o =
-      by-test (λ (r : Kept.Written). r ≡ elim (leb (Kept.levelEnd at (m .level)) (min planLimit (length (m .plan)))) [ true ↦ writtenTo (Kept.levelEnd at (m .level)) (Kept.rewritten T v e at m) | false ↦ writtenTo at (stop m) ]) (m .over)
+      by-test (λ (r : StateLevels.Written). r ≡ elim (leb (StateLevels.levelEnd at (m .level)) (min planLimit (length (m .plan)))) [ true ↦ writtenTo (StateLevels.levelEnd at (m .level)) (StateLevels.rewritten T v e at m) | false ↦ writtenTo at (stop m) ]) (m .over)
       (λ q. absurd (true≢false (sym q ∙ o))) (λ q. refl)
 
-  measured-long : (m : State) → m .over ≡ false → leb (Kept.levelEnd at (m .level)) (min planLimit (length (m .plan))) ≡ false → Kept.measured T v e at m ≡ writtenTo at (stop m)
+  measured-long : (m : State) → m .over ≡ false → leb (StateLevels.levelEnd at (m .level)) (min planLimit (length (m .plan))) ≡ false → StateLevels.measured T v e at m ≡ writtenTo at (stop m)
   measured-long m o b =
       measured-live m o
-      ∙ by-test (λ (r : Kept.Written). r ≡ writtenTo at (stop m)) (leb (Kept.levelEnd at (m .level)) (min planLimit (length (m .plan)))) (λ q. absurd (true≢false (sym q ∙ b))) (λ q. refl)
+      ∙ by-test (λ (r : StateLevels.Written). r ≡ writtenTo at (stop m)) (leb (StateLevels.levelEnd at (m .level)) (min planLimit (length (m .plan)))) (λ q. absurd (true≢false (sym q ∙ b))) (λ q. refl)
 
-  measured-fits : (m : State) → m .over ≡ false → leb (Kept.levelEnd at (m .level)) (min planLimit (length (m .plan))) ≡ true → Kept.measured T v e at m ≡ writtenTo (Kept.levelEnd at (m .level)) (Kept.rewritten T v e at m)
+  measured-fits : (m : State) → m .over ≡ false → leb (StateLevels.levelEnd at (m .level)) (min planLimit (length (m .plan))) ≡ true → StateLevels.measured T v e at m ≡ writtenTo (StateLevels.levelEnd at (m .level)) (StateLevels.rewritten T v e at m)
   measured-fits m o b =
       measured-live m o
-      ∙ by-test (λ (r : Kept.Written). r ≡ writtenTo (Kept.levelEnd at (m .level)) (Kept.rewritten T v e at m)) (leb (Kept.levelEnd at (m .level)) (min planLimit (length (m .plan)))) (λ q. refl) (λ q. absurd (true≢false (sym b ∙ q)))
+      ∙ by-test (λ (r : StateLevels.Written). r ≡ writtenTo (StateLevels.levelEnd at (m .level)) (StateLevels.rewritten T v e at m)) (leb (StateLevels.levelEnd at (m .level)) (min planLimit (length (m .plan)))) (λ q. refl) (λ q. absurd (true≢false (sym b ∙ q)))
 
   -- a walk that was measured, in the code's form
   module _ (m : Walk) (work plan : List ℕ) where
@@ -60,39 +60,39 @@ module _ (T : Tables) (v : LevelEntry) (e : Memory.Ends) (at : ℕ) where
     seen = walkState T m work plan
 
     abbrev room : Bool
-    room = leb (Kept.levelEnd at (levelOf T (m .level))) (min planLimit (length plan))
+    room = leb (StateLevels.levelEnd at (levelOf T (m .level))) (min planLimit (length plan))
 
     module _ (l : Lists) (el : l ≡ listsOf m) where
       over-of : (b : Bool) → l .over ≡ b → seen .over ≡ b
       unfolding walkState stateOf
       over-of b o = ap (λ (x : Lists). x .over) (sym el) ∙ o
 
-      pub over-left : l .over ≡ true → writtenOf (record { at = at; lists = l }) work plan ≡ betweenLevels (Kept.measured T v e at seen)
+      pub over-left : l .over ≡ true → writtenOf (record { at = at; lists = l }) work plan ≡ betweenLevels (StateLevels.measured T v e at seen)
       unfolding walkState stateOf writtenOf betweenLevels unleveled
       over-left o = ap (λ (x : Lists). writtenTo at (stateWith x newLevel measuring work plan)) el ∙ ap betweenLevels (sym (measured-over seen (over-of true o)))
 
-      pub long-left : (r : Written) → l .over ≡ false → room ≡ false → r ≡ record { at = at; lists = overrun l } → writtenOf r work plan ≡ betweenLevels (Kept.measured T v e at seen)
+      pub long-left : (r : Written) → l .over ≡ false → room ≡ false → r ≡ record { at = at; lists = overrun l } → writtenOf r work plan ≡ betweenLevels (StateLevels.measured T v e at seen)
       unfolding walkState stateOf
       long-left r o b s =
           stopped-is r l at work plan (levelOf T (m .level)) (targetOf (m .level .target)) s
           ∙ ap (λ (x : Lists). betweenLevels (writtenTo at (stop (stateWith x (levelOf T (m .level)) (targetOf (m .level .target)) work plan)))) el
           ∙ ap betweenLevels (sym (measured-long seen (over-of false o) b))
 
-      pub fits-left : (r : Written) (work₁ plan₁ : List ℕ) → l .over ≡ false → room ≡ true → r .at ≡ Kept.levelEnd at (levelOf T (m .level))
-          → stateWith (r .lists) newLevel measuring work₁ plan₁ ≡ unleveled (Kept.rewritten T v e at seen)
-          → writtenOf r work₁ plan₁ ≡ betweenLevels (Kept.measured T v e at seen)
+      pub fits-left : (r : Written) (work₁ plan₁ : List ℕ) → l .over ≡ false → room ≡ true → r .at ≡ StateLevels.levelEnd at (levelOf T (m .level))
+          → stateWith (r .lists) newLevel measuring work₁ plan₁ ≡ unleveled (StateLevels.rewritten T v e at seen)
+          → writtenOf r work₁ plan₁ ≡ betweenLevels (StateLevels.measured T v e at seen)
       unfolding walkState stateOf writtenOf betweenLevels
       fits-left r work₁ plan₁ o b ea s =
           ap (λ (k : ℕ). writtenTo k (stateWith (r .lists) newLevel measuring work₁ plan₁)) ea
-          ∙ ap (writtenTo (Kept.levelEnd at (levelOf T (m .level)))) s
+          ∙ ap (writtenTo (StateLevels.levelEnd at (levelOf T (m .level)))) s
           ∙ ap betweenLevels (sym (measured-fits seen (over-of false o) b))
 
 -- a level from what the one before left
-pub level-is : (T : Tables) (v : LevelEntry) (w : Written) (work plan : List ℕ) (b m : State) (r : Kept.Written) → b ≡ state (w .lists .over) (endsOf (w .lists .ends)) newLevel (record { writing = false; joining = false; partsAt = 0; restAt = 0 }) work plan → m ≡ Kept.walked T v b
-    → r ≡ betweenLevels (Kept.measured T v (endsOf (w .lists .ends)) (w .at) m) → r ≡ betweenLevels (Kept.level T v (writtenOf w work plan))
-unfolding Kept.level Kept.begin writtenOf measuring
+pub level-is : (T : Tables) (v : LevelEntry) (w : Written) (work plan : List ℕ) (b m : State) (r : StateLevels.Written) → b ≡ state (w .lists .over) (endsOf (w .lists .ends)) newLevel (record { writing = false; joining = false; partsAt = 0; restAt = 0 }) work plan → m ≡ StateLevels.walked T v b
+    → r ≡ betweenLevels (StateLevels.measured T v (endsOf (w .lists .ends)) (w .at) m) → r ≡ betweenLevels (StateLevels.level T v (writtenOf w work plan))
+unfolding StateLevels.level StateLevels.begin writtenOf measuring
 level-is T v w work plan b m r eb em er =
-    er ∙ ap (λ (x : State). betweenLevels (Kept.measured T v (endsOf (w .lists .ends)) (w .at) x)) (em ∙ ap (Kept.walked T v) eb)
+    er ∙ ap (λ (x : State). betweenLevels (StateLevels.measured T v (endsOf (w .lists .ends)) (w .at) x)) (em ∙ ap (StateLevels.walked T v) eb)
 
 -- the lists after the levels
 module _ (w : Written) (work plan : List ℕ) where
@@ -102,41 +102,41 @@ module _ (w : Written) (work plan : List ℕ) where
   abbrev before : State
   before = stateWith (w .lists) newLevel measuring work plan
 
-  finished-live : w .lists .over ≡ false → Kept.finished (writtenOf w work plan) ≡ elim (leb (w .at + length bytes) (min planLimit (length plan))) [ true ↦ writtenTo (w .at + length bytes) (state false (endsOf (w .lists .ends)) newLevel measuring work (sets plan (w .at) bytes)) | false ↦ writtenTo (w .at) (stop before) ]
-  unfolding Kept.finished Kept.lists writtenOf
+  finished-live : w .lists .over ≡ false → StateLevels.finished (writtenOf w work plan) ≡ elim (leb (w .at + length bytes) (min planLimit (length plan))) [ true ↦ writtenTo (w .at + length bytes) (state false (endsOf (w .lists .ends)) newLevel measuring work (sets plan (w .at) bytes)) | false ↦ writtenTo (w .at) (stop before) ]
+  unfolding StateLevels.finished StateLevels.lists writtenOf
   finished-live o =
-      by-test (λ (r : Kept.Written). r ≡ elim (leb (w .at + length bytes) (min planLimit (length plan))) [ true ↦ writtenTo (w .at + length bytes) (state false (endsOf (w .lists .ends)) newLevel measuring work (sets plan (w .at) bytes)) | false ↦ writtenTo (w .at) (stop before) ]) (w .lists .over)
+      by-test (λ (r : StateLevels.Written). r ≡ elim (leb (w .at + length bytes) (min planLimit (length plan))) [ true ↦ writtenTo (w .at + length bytes) (state false (endsOf (w .lists .ends)) newLevel measuring work (sets plan (w .at) bytes)) | false ↦ writtenTo (w .at) (stop before) ]) (w .lists .over)
       (λ q. absurd (true≢false (sym q ∙ o))) (λ q. refl)
 
-  pub finished-over : w .lists .over ≡ true → writtenOf w work plan ≡ betweenLevels (Kept.finished (writtenOf w work plan))
-  unfolding Kept.finished writtenOf
+  pub finished-over : w .lists .over ≡ true → writtenOf w work plan ≡ betweenLevels (StateLevels.finished (writtenOf w work plan))
+  unfolding StateLevels.finished writtenOf
   finished-over o =
       sym (settled w work plan)
-      ∙ ap betweenLevels (by-test (λ (r : Kept.Written). writtenOf w work plan ≡ r) (writtenOf w work plan .state .over) (λ q. refl) (λ q. absurd (true≢false (sym o ∙ q))))
+      ∙ ap betweenLevels (by-test (λ (r : StateLevels.Written). writtenOf w work plan ≡ r) (writtenOf w work plan .state .over) (λ q. refl) (λ q. absurd (true≢false (sym o ∙ q))))
 
-  pub finished-long : (r : Written) (n : ℕ) → n ≡ length bytes → w .lists .over ≡ false → min planLimit (length plan) < w .at + n → r ≡ record { at = w .at; lists = overrun (w .lists) } → writtenOf r work plan ≡ betweenLevels (Kept.finished (writtenOf w work plan))
+  pub finished-long : (r : Written) (n : ℕ) → n ≡ length bytes → w .lists .over ≡ false → min planLimit (length plan) < w .at + n → r ≡ record { at = w .at; lists = overrun (w .lists) } → writtenOf r work plan ≡ betweenLevels (StateLevels.finished (writtenOf w work plan))
   finished-long r n en o h s =
       stopped-is r (w .lists) (w .at) work plan newLevel measuring s
-      ∙ ap betweenLevels (sym (finished-live o ∙ by-test (λ (r : Kept.Written). r ≡ writtenTo (w .at) (stop before)) (leb (w .at + length bytes) (min planLimit (length plan)))
+      ∙ ap betweenLevels (sym (finished-live o ∙ by-test (λ (r : StateLevels.Written). r ≡ writtenTo (w .at) (stop before)) (leb (w .at + length bytes) (min planLimit (length plan)))
       (λ q. absurd (true≢false (sym q ∙ lt-leb (w .at + length bytes) (min planLimit (length plan)) (omega (arith, h, en))))) (λ q. refl)))
 
-  pub finished-fits : (n : ℕ) (plan₁ : List ℕ) → n ≡ length bytes → w .lists .over ≡ false → w .at + n ≤ min planLimit (length plan) → plan₁ ≡ put plan (w .at) bytes → writtenOf (record { at = w .at + n; lists = w .lists }) work plan₁ ≡ betweenLevels (Kept.finished (writtenOf w work plan))
+  pub finished-fits : (n : ℕ) (plan₁ : List ℕ) → n ≡ length bytes → w .lists .over ≡ false → w .at + n ≤ min planLimit (length plan) → plan₁ ≡ put plan (w .at) bytes → writtenOf (record { at = w .at + n; lists = w .lists }) work plan₁ ≡ betweenLevels (StateLevels.finished (writtenOf w work plan))
   unfolding writtenOf betweenLevels unleveled
   finished-fits n plan₁ en o h ep =
       ap (λ (x : Bool). writtenTo (w .at + n) (state x (endsOf (w .lists .ends)) newLevel measuring work plan₁)) o
       ∙ ap (λ (k : ℕ). writtenTo (w .at + k) (state false (endsOf (w .lists .ends)) newLevel measuring work plan₁)) en
       ∙ ap (λ (p : List ℕ). writtenTo (w .at + length bytes) (state false (endsOf (w .lists .ends)) newLevel measuring work p)) (ep ∙ put-sets plan (w .at) bytes)
-      ∙ ap betweenLevels (sym (finished-live o ∙ by-test (λ (r : Kept.Written). r ≡ writtenTo (w .at + length bytes) (state false (endsOf (w .lists .ends)) newLevel measuring work (sets plan (w .at) bytes))) (leb (w .at + length bytes) (min planLimit (length plan)))
+      ∙ ap betweenLevels (sym (finished-live o ∙ by-test (λ (r : StateLevels.Written). r ≡ writtenTo (w .at + length bytes) (state false (endsOf (w .lists .ends)) newLevel measuring work (sets plan (w .at) bytes))) (leb (w .at + length bytes) (min planLimit (length plan)))
       (λ q. refl) (λ q. absurd (true≢false (sym (le-leb (w .at + length bytes) (min planLimit (length plan)) (omega (arith, h, en))) ∙ q)))))
 
-finished-between : (w : Kept.Written) → betweenLevels (Kept.finished (betweenLevels w)) ≡ betweenLevels (Kept.finished w)
-unfolding Kept.finished Kept.lists betweenLevels unleveled stop
-finished-between w = go (w .state .over) (leb (w .at + length (Kept.lists (w .state))) (min planLimit (length (w .state .plan))))
+finished-between : (w : StateLevels.Written) → betweenLevels (StateLevels.finished (betweenLevels w)) ≡ betweenLevels (StateLevels.finished w)
+unfolding StateLevels.finished StateLevels.lists betweenLevels unleveled stop
+finished-between w = go (w .state .over) (leb (w .at + length (StateLevels.lists (w .state))) (min planLimit (length (w .state .plan))))
   where
     s : State
     s = w .state
 
-    go : (o b : Bool) → betweenLevels (elim o [ true ↦ betweenLevels w | false ↦ elim b [ true ↦ writtenTo (w .at + length (Kept.lists s)) (state false (s .ends) newLevel measuring (s .work) (sets (s .plan) (w .at) (Kept.lists s))) | false ↦ writtenTo (w .at) (stop (unleveled s)) ] ]) ≡ betweenLevels (elim o [ true ↦ w | false ↦ elim b [ true ↦ writtenTo (w .at + length (Kept.lists s)) (state false (s .ends) (s .level) (s .target) (s .work) (sets (s .plan) (w .at) (Kept.lists s))) | false ↦ writtenTo (w .at) (stop s) ] ])
+    go : (o b : Bool) → betweenLevels (elim o [ true ↦ betweenLevels w | false ↦ elim b [ true ↦ writtenTo (w .at + length (StateLevels.lists s)) (state false (s .ends) newLevel measuring (s .work) (sets (s .plan) (w .at) (StateLevels.lists s))) | false ↦ writtenTo (w .at) (stop (unleveled s)) ] ]) ≡ betweenLevels (elim o [ true ↦ w | false ↦ elim b [ true ↦ writtenTo (w .at + length (StateLevels.lists s)) (state false (s .ends) (s .level) (s .target) (s .work) (sets (s .plan) (w .at) (StateLevels.lists s))) | false ↦ writtenTo (w .at) (stop s) ] ])
     go true b = refl
     go false true = refl
     go false false = refl
@@ -146,10 +146,10 @@ abbrev begins : Written
 begins = record { at = 2; lists = record { over = false; ends = record { bindings = 0; «binding_count» = 0; constrained = 16384; selects = 32768; «select_count» = 0; diagnostics = 49152 } } }
 
 pub write-is : (T : Tables) (n : ℕ) (w r : Written) (work plan plan₁ work₂ plan₂ plan₃ : List ℕ) → n ≡ length (T .levels) → plan₁ ≡ put plan 0 (u16 n)
-    → writtenOf w work₂ plan₂ ≡ betweenLevels (Kept.levels T (T .levels) (writtenOf begins work plan₁)) → writtenOf r work₂ plan₃ ≡ betweenLevels (Kept.finished (writtenOf w work₂ plan₂)) → writtenOf r work₂ plan₃ ≡ betweenLevels (Kept.compiled T work plan)
-unfolding Kept.compiled Kept.started writtenOf noEnds
+    → writtenOf w work₂ plan₂ ≡ betweenLevels (StateLevels.levels T (T .levels) (writtenOf begins work plan₁)) → writtenOf r work₂ plan₃ ≡ betweenLevels (StateLevels.finished (writtenOf w work₂ plan₂)) → writtenOf r work₂ plan₃ ≡ betweenLevels (StateLevels.compiled T work plan)
+unfolding StateLevels.compiled StateLevels.started writtenOf noEnds
 write-is T n w r work plan plan₁ work₂ plan₂ plan₃ en ep ew er =
-    er ∙ ap (λ (x : Kept.Written). betweenLevels (Kept.finished x)) ew
-    ∙ finished-between (Kept.levels T (T .levels) (writtenOf begins work plan₁))
-    ∙ ap (λ (p : List ℕ). betweenLevels (Kept.finished (Kept.levels T (T .levels) (writtenTo 2 (state false noEnds newLevel measuring work p)))))
+    er ∙ ap (λ (x : StateLevels.Written). betweenLevels (StateLevels.finished x)) ew
+    ∙ finished-between (StateLevels.levels T (T .levels) (writtenOf begins work plan₁))
+    ∙ ap (λ (p : List ℕ). betweenLevels (StateLevels.finished (StateLevels.levels T (T .levels) (writtenTo 2 (state false noEnds newLevel measuring work p)))))
     (ep ∙ put-sets plan 0 (u16 n) ∙ ap (λ (k : ℕ). sets plan 0 (u16 k)) en)

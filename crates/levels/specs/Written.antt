@@ -2,7 +2,7 @@
 use mathlib.Core.List.{List}
 use Prim.Native.Nat.{ℕ}
 use Rattle.state.specs.State.{newLevel, measuring, State, state}
-use Rattle.state.specs.Levels as Kept
+use Rattle.state.specs.Levels as StateLevels
 use Rattle.state.specs.Levels.{writtenTo}
 use Rattle.lists.specs.Lists.{stateWith}
 use Rattle.levels.specs.declared.Written.{Written}
@@ -11,8 +11,8 @@ use Rattle.levels.specs.declared.Written.{Written}
 unfoldable pub unleveled : State → State
 unleveled s = state (s .over) (s .ends) newLevel measuring (s .work) (s .plan)
 
-unfoldable pub betweenLevels : Kept.Written → Kept.Written
+unfoldable pub betweenLevels : StateLevels.Written → StateLevels.Written
 betweenLevels w = writtenTo (w .at) (unleveled (w .state))
 
-unfoldable pub writtenOf : Written → List ℕ → List ℕ → Kept.Written
+unfoldable pub writtenOf : Written → List ℕ → List ℕ → StateLevels.Written
 writtenOf w work plan = writtenTo (w .at) (stateWith (w .lists) newLevel measuring work plan)

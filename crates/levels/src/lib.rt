@@ -8,14 +8,14 @@ ghost use lib.ListN.{length};
 ghost use Rattle.rules.specs.Limits.{planLimit};
 ghost use Rattle.rules.specs.File.{Tables};
 ghost use Rattle.state.specs.State.{newLevel, measuring, state};
-ghost use Rattle.state.specs.Levels as Kept;
+ghost use Rattle.state.specs.Levels as StateLevels;
 ghost use Rattle.file.specs.Tables.{tablesOf};
 ghost use Rattle.views.specs.Views.{levelEntryAt};
 ghost use Rattle.accepted_file.specs.AcceptedFile.{AcceptedFile};
 ghost use Rattle.seek.specs.Seek.{levelOf, targetOf};
 ghost use Rattle.lists.specs.Lists.{endsOf, stateWith, overrun};
-ghost use Rattle.level_frame.specs.Frames.{frameOf};
-ghost use Rattle.walk.specs.Step.{walkState};
+ghost use Rattle.level_frame.specs.LevelFrame.{frameOf};
+ghost use Rattle.walk.specs.Walk.{walkState};
 ghost use Rattle.levels.specs.Written.{unleveled, betweenLevels, writtenOf};
 use entries::predicate_of;
 use key::key;
@@ -60,7 +60,7 @@ fn walked(file: &[u8], index: &[u16], work: &mut [u8], plan: &mut [u8], k: usize
         let T = tablesOf (now (file .entry)) in
         let before = walkState T w (now (work .entry)) (now (plan .entry)) in
         let after = walkState T r (now (work .exit)) (now (plan .exit)) in
-        after ≡ Kept.walked T (levelEntryAt T k) before
+        after ≡ StateLevels.walked T (levelEntryAt T k) before
         ) ⌝ }
 {
     let e = level_at(file, index, k);
@@ -74,7 +74,7 @@ fn writing(f: Frame, l: SeekBuilder) -> Target
     requires { ⌜ (f .parts < 65536) × (f .rest < 65536) ⌝ }
     ensures { λ r. ⌜ (
         (T : Tables) →
-        let joining = Kept.joining (levelOf T l) in
+        let joining = StateLevels.joining (levelOf T l) in
         targetOf r ≡ record { writing = true; joining = joining; partsAt = f .parts; restAt = f .rest }
         ) ⌝ }
 {
@@ -88,7 +88,7 @@ fn writing(f: Frame, l: SeekBuilder) -> Target
 
 // Whether a level has neither parts nor residuals: then its frame is all of its bytes.
 fn bare(l: SeekBuilder) -> bool
-    ensures { λ r. ⌜ ((T : Tables) → r ≡ Kept.bare (levelOf T l)) ⌝ }
+    ensures { λ r. ⌜ ((T : Tables) → r ≡ StateLevels.bare (levelOf T l)) ⌝ }
 {
     let c = l.counts;
     if wide32(c.closers) + wide32(c.others) > 0 {
@@ -116,7 +116,7 @@ fn rewritten(
         let T = tablesOf (now (file .entry)) in
         let before = walkState T m (now (work .entry)) (now (plan .entry)) in
         let after = stateWith r newLevel measuring (now (work .exit)) (now (plan .exit)) in
-        after ≡ unleveled (Kept.rewritten T (levelEntryAt T k) (endsOf ends) at before)
+        after ≡ unleveled (StateLevels.rewritten T (levelEntryAt T k) (endsOf ends) at before)
         ) ⌝ }
 {
     let l = m.level;
@@ -155,7 +155,7 @@ fn measured(
         let T = tablesOf (now (file .entry)) in
         let before = walkState T m (now (work .entry)) (now (plan .entry)) in
         let after = writtenOf r (now (work .exit)) (now (plan .exit)) in
-        after ≡ betweenLevels (Kept.measured T (levelEntryAt T k) (endsOf ends) at before)
+        after ≡ betweenLevels (StateLevels.measured T (levelEntryAt T k) (endsOf ends) at before)
         ) ⌝ }
     ensures bounded { λ r. ⌜ r .at ≤ planLimit ⌝ }
 {
@@ -194,7 +194,7 @@ fn level(
         let T = tablesOf (now (file .entry)) in
         let before = writtenOf w (now (work .entry)) (now (plan .entry)) in
         let after = writtenOf r (now (work .exit)) (now (plan .exit)) in
-        after ≡ betweenLevels (Kept.level T (levelEntryAt T k) before)
+        after ≡ betweenLevels (StateLevels.level T (levelEntryAt T k) before)
         ) ⌝ }
     ensures bounded { λ r. ⌜ r .at ≤ planLimit ⌝ }
 {
@@ -218,7 +218,7 @@ fn levels(file: &[u8], index: &[u16], work: &mut [u8], plan: &mut [u8], start: W
         let T = tablesOf (now (file .entry)) in
         let before = writtenOf start (now (work .entry)) (now (plan .entry)) in
         let after = writtenOf r (now (work .exit)) (now (plan .exit)) in
-        after ≡ betweenLevels (Kept.levels T (T .levels) before)
+        after ≡ betweenLevels (StateLevels.levels T (T .levels) before)
         ) ⌝ }
     ensures bounded { λ r. ⌜ r .at ≤ planLimit ⌝ }
 {
@@ -242,7 +242,7 @@ fn finished(work: &[u8], plan: &mut [u8], w: Written) -> Written
     ensures { λ r. ⌜ (
         let before = writtenOf w (now (work .entry)) (now (plan .entry)) in
         let after = writtenOf r (now (work .entry)) (now (plan .exit)) in
-        after ≡ betweenLevels (Kept.finished before)
+        after ≡ betweenLevels (StateLevels.finished before)
         ) ⌝ }
 {
     let lists = w.lists;
@@ -268,7 +268,7 @@ pub fn write(file: &[u8], index: &[u16], work: &mut [u8], plan: &mut [u8]) -> Wr
     ensures { λ r. ⌜ (
         let T = tablesOf (now (file .entry)) in
         let after = writtenOf r (now (work .exit)) (now (plan .exit)) in
-        after ≡ betweenLevels (Kept.compiled T (now (work .entry)) (now (plan .entry)))
+        after ≡ betweenLevels (StateLevels.compiled T (now (work .entry)) (now (plan .entry)))
         ) ⌝ }
 {
     put16(plan, 0, count_of(file, index, file::LEVELS));

@@ -1,5 +1,5 @@
 -- Digits, hex byte by byte, and hex read back.
-use mathlib.Core.Bool.{Bool, true, false}
+use mathlib.Core.Bool.{true, false}
 use mathlib.Core.List.{List, [], _∷_}
 use mathlib.Core.Path.{_≡_, refl, sym, ap, _∙_}
 use Prim.Native.Nat.{ℕ, suc, _+_, _-_, _*_, _/_, _%_, _≤_, _<_}
@@ -9,10 +9,8 @@ use lib.Dec.{ltb}
 use native.Mathlib.Nat.{not-suc-le-zero, le-of-suc-le-suc}
 use lib.ListN.{length, getD, set, drop, drop-of-length-le, length-drop}
 use lib.Seq.{sets, drop-cons}
+use Rattle.rules.proofs.Cases.{pick}
 use Rattle.lines.specs.Lines.{digit, hex, decimal, refusal, value, byte, unhex}
-
-pick : {A : Type 0} (b c : Bool) (x y : A) → b ≡ c → _≡_ {A = A} (elim b [ true ↦ x | false ↦ y ]) (elim c [ true ↦ x | false ↦ y ])
-pick b c x y e = ap (λ (t : Bool). elim t [ true ↦ x | false ↦ y ]) e
 
 pub digit-low : (n : ℕ) → n < 10 → 48 + n ≡ digit n
 unfolding digit

@@ -8,7 +8,7 @@ use native.Mathlib.Omega.{arith}
 use lib.Dec.{eqb}
 use lib.ListN.{length, take}
 use lib.Seq.{take-all}
-use Rattle.rules.specs.Base.{lastOr, _>>=_}
+use Rattle.rules.specs.Base.{lastOr, _whenSome_}
 use Rattle.rules.specs.File.{Tables, Slot, Binding}
 use Rattle.rules.specs.Constant.{lookup}
 use Rattle.rules.proofs.Cases.{some≢none}
@@ -59,18 +59,18 @@ module _ (x : ℕ) where
     both = last-append none as′ bs ∙ last-from (last none as′) bs
 
     newer : (s : Slot) → some s ≡ lookup bs x → lookup (as′ ++ bs) x ≡ some s
-    unfolding lookup last _>>=_
-    newer s e = ap (λ (o : Option Binding). o >>= λ b. some (b .slot)) both ∙ go (last none bs) (sym e)
+    unfolding lookup last _whenSome_
+    newer s e = ap (λ (o : Option Binding). o whenSome λ b. some (b .slot)) both ∙ go (last none bs) (sym e)
       where
-        go : (o : Option Binding) → (o >>= λ b. some (b .slot)) ≡ some s → (orElse o (last none as′) >>= λ b. some (b .slot)) ≡ some s
+        go : (o : Option Binding) → (o whenSome λ b. some (b .slot)) ≡ some s → (orElse o (last none as′) whenSome λ b. some (b .slot)) ≡ some s
         go none h = absurd (some≢none s (sym h))
         go (some b) h = h
 
     older : none ≡ lookup bs x → lookup (as′ ++ bs) x ≡ lookup as′ x
-    unfolding lookup last _>>=_
-    older e = ap (λ (o : Option Binding). o >>= λ b. some (b .slot)) both ∙ go (last none bs) (sym e)
+    unfolding lookup last _whenSome_
+    older e = ap (λ (o : Option Binding). o whenSome λ b. some (b .slot)) both ∙ go (last none bs) (sym e)
       where
-        go : (o : Option Binding) → (o >>= λ b. some (b .slot)) ≡ none → (orElse o (last none as′) >>= λ b. some (b .slot)) ≡ (last none as′ >>= λ b. some (b .slot))
+        go : (o : Option Binding) → (o whenSome λ b. some (b .slot)) ≡ none → (orElse o (last none as′) whenSome λ b. some (b .slot)) ≡ (last none as′ whenSome λ b. some (b .slot))
         go none h = refl
         go (some b) h = absurd (some≢none (b .slot) h)
 

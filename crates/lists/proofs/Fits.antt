@@ -55,10 +55,6 @@ module _ (T : Tables) (p : MaybePredicate) where
   unfolding noneOr isPredicate
   some-predicate id n b e g h = h ∙ ap (λ (m : ℕ). ltb m (length (T .predicates))) g ∙ ap (λ (q : MaybePredicate). noneOr (isPredicate T) (predicateOption q)) (sym e)
 
-pub both-true : (b c : Bool) → b ≡ c → b ≡ both c true
-both-true b true e = e
-both-true b false e = e
-
 -- how many steps the path at a place has
 steps-at : (f : List ℕ) (at : ℕ) → length (pathAt f at .steps) ≡ getD f (at + 2) 0
 unfolding pathAt byteAt

@@ -8,7 +8,7 @@ use native.Mathlib.Omega.{arith}
 use borrow.Author.Tests.{eq-eqb, ne-eqb}
 use lib.Dec.{eqb}
 use lib.ListN.{length, drop, length-drop, drop-of-length-le}
-use Rattle.rules.specs.Base.{lastOr, _>>=_}
+use Rattle.rules.specs.Base.{lastOr, _whenSome_}
 use Rattle.rules.specs.File.{Slot, Binding}
 use Rattle.rules.specs.Read as Read
 use Rattle.rules.specs.Read.{pure, follow, u16, u8, slot, binding}
@@ -47,10 +47,10 @@ module _ (f : List ℕ) (p : ℕ) (x : Readable f p) where
   there = binding-read f p (x .value) (x .rest) (x .reads)
 
   pub seen-view : (v : SlotView) → slotViewed f v ≡ there .value → SlotInside f v → SeenView f (slotFrom f p) v
-  unfolding slotAt bindingAt _>>=_
+  unfolding slotAt bindingAt _whenSome_
   seen-view v e i =
       record {
-        is = ap some (e ∙ ap (λ (b : Binding). b .slot) (there .is)) ∙ sym (ap (λ (r : Read.Read Binding). bindingRead r >>= λ b. some (b .slot)) (x .reads));
+        is = ap some (e ∙ ap (λ (b : Binding). b .slot) (there .is)) ∙ sym (ap (λ (r : Read.Read Binding). bindingRead r whenSome λ b. some (b .slot)) (x .reads));
         inside = i;
       }
 
@@ -63,7 +63,7 @@ module _ (f : List ℕ) (o : Option Slot) (r : Found) (s : SeenAt f o r) where
   found-slot p v e w = record { is = w .is ∙ ap (slotAt f) (sym e) ∙ s .is; inside = w .inside }
 
   pub found-none : r ≡ Fo.Nothing → SeenSlot f o Ms.Nothing
-  unfolding slotAt bindingAt _>>=_
+  unfolding slotAt bindingAt _whenSome_
   found-none e = record { is = ap (slotAt f) (sym e) ∙ s .is; inside = tt }
 
 pub seen-as : (f : List ℕ) (o : Option Slot) (r found : Found) → r ≡ found → SeenAt f o found → SeenAt f o r
@@ -141,7 +141,7 @@ module _ (f : List ℕ) (x : ℕ) where
   module _ (p : ℕ) (found : Found) (s : Scanning p found) where
     seen : all ≡ bindingAt f found → SeenAt f (lookup (bindingsIn (length f) f) x) found
     unfolding slotAt lookup
-    seen e = record { is = ap (λ (o : Option Binding). o >>= λ b. some (b .slot)) (sym e); reads = s .reads }
+    seen e = record { is = ap (λ (o : Option Binding). o whenSome λ b. some (b .slot)) (sym e); reads = s .reads }
 
     stopped : (k : ℕ) → Read.binding (drop p f) ≡ refused k → SeenAt f (lookup (bindingsIn (length f) f) x) found
     unfolding lastOr

@@ -7,7 +7,7 @@ use mathlib.Core.Option.{Option, none, some}
 use lib.Bits.{bitOr, bitXor}
 use lib.Dec.{eqb}
 use lib.ListN.{getD}
-use Rattle.rules.specs.Base.{_>>=_}
+use Rattle.rules.specs.Base.{_whenSome_}
 use Rattle.rules.specs.Limits.{stepLimit}
 use Rattle.rules.specs.File.{Tables, Slot, Binding}
 use Rattle.state.specs.Ops.{roomy}
@@ -17,7 +17,7 @@ use Rattle.rules.specs.Read.Read.{got, refused}
 use Rattle.file.specs.Steps.{word, readAt}
 use Rattle.file.specs.declared.Step.{Step}
 use Rattle.file.specs.declared.Step.the-variants.{Next, Refused}
-use Rattle.state.specs.State as Kept
+use Rattle.state.specs.State as InState
 use Rattle.state.specs.State.{Level, Target, State, state, ends}
 use Rattle.views.specs.Views.{slotViewed, SlotInside}
 use Rattle.views.specs.declared.SlotView.{SlotView}
@@ -29,7 +29,7 @@ use Rattle.lists.specs.declared.Lists.{Lists}
 use Rattle.lists.specs.declared.Code.{Code}
 use Rattle.lists.specs.declared.Code.the-variants as Co
 
-abbrev pub endsOf : Ends → Kept.Ends
+abbrev pub endsOf : Ends → InState.Ends
 endsOf e = ends (e .bindings) (e .«binding_count») (e .constrained) (e .selects) (e .«select_count») (e .diagnostics)
 
 abbrev pub stateWith : Lists → Level → Target → List ℕ → List ℕ → State
@@ -62,7 +62,7 @@ bindingAt f Fo.Nothing = none
 bindingAt f (Fo.At p) = bindingRead (readAt f Read.binding p)
 
 unfoldable pub slotAt : List ℕ → Found → Option Slot
-slotAt f r = bindingAt f r >>= λ b. some (b .slot)
+slotAt f r = bindingAt f r whenSome λ b. some (b .slot)
 
 -- the slot of the binding that is read at p
 abbrev pub slotFrom : List ℕ → ℕ → Option Slot

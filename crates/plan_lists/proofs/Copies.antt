@@ -15,7 +15,7 @@ use Rattle.state.specs.Levels.{lists}
 use Rattle.encode.specs.Written.{Wrote}
 use Rattle.encode.proofs.Puts.{wrote-one, wrote-then, wrote-as, Going, going-start, going-more, going-end}
 use Rattle.records.specs.Records.{put}
-use Rattle.plan_lists.specs.Runs.{listsIn}
+use Rattle.plan_lists.specs.PlanLists.{listsIn}
 
 pub run-size : (w : List ℕ) (from to m r : ℕ) → m ≡ min to (length w) → r ≡ m - from → (r ≡ length (slice from to w)) × (r ≤ to)
 run-size w from to m r em er = (er ∙ ap (λ (k : ℕ). k - from) (em ∙ sym (length-take to w)) ∙ sym (length-drop from (take to w)), omega arith)

@@ -8,7 +8,7 @@ ghost use lib.Seq.{slice};
 ghost use Rattle.rules.specs.Plan as Plan;
 ghost use Rattle.lists.specs.Lists.{endsOf};
 ghost use Rattle.encode.specs.Written.{Wrote};
-ghost use Rattle.plan_lists.specs.Runs.{listsIn};
+ghost use Rattle.plan_lists.specs.PlanLists.{listsIn};
 use lists::Ends;
 use records::put8;
 use records::put16;

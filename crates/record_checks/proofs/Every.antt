@@ -13,7 +13,7 @@ use borrow.Author.Tests.{lt-ltb, le-ltb, eq-eqb, ne-eqb}
 use Rattle.rules.specs.Base.{both, all, allFrom, first, distinct}
 use Rattle.file.specs.Steps.{word}
 use Rattle.views.specs.Views.{run, long}
-use Rattle.record_checks.specs.Numbers.{Words, pairsIn, numberAt, among}
+use Rattle.record_checks.specs.RecordChecks.{Words, pairsIn, numberAt, among}
 
 -- n numbers from t on pass
 unfoldable pub every : (ℕ → Bool) → ℕ → ℕ → Bool
@@ -23,10 +23,6 @@ every q (suc n) t = both (q t) (every q n (suc t))
 pub if-both : (b c : Bool) → elim b as (λ _. Bool) [ true ↦ c | false ↦ false ] ≡ both b c
 if-both true c = refl
 if-both false c = refl
-
-pub both-true : (b : Bool) → both b true ≡ b
-both-true true = refl
-both-true false = refl
 
 pub both-no : (b c : Bool) → c ≡ false → both b c ≡ false
 both-no true c e = e

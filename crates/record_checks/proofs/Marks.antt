@@ -11,9 +11,10 @@ use lib.ListN.{length, getD, set, replicate, length-replicate, getD-replicate, L
 use lib.Seq.{getD-set-same, getD-set-other}
 use borrow.Author.Tests.{eq-eqb, ne-eqb, eqb-true, eqb-false}
 use Rattle.rules.specs.Base.{both, all, first, distinct}
+use Rattle.rules.proofs.Cases.{both-unit}
 use Rattle.file.proofs.Readers.{lt-or-le, down}
 use Rattle.views.specs.Views.{run}
-use Rattle.record_checks.proofs.Every.{if-both, both-true, both-no}
+use Rattle.record_checks.proofs.Every.{if-both, both-no}
 
 unfoldable pub absent : ℕ → List ℕ → Bool
 absent c l = elim (first (eqb c) l) [ none ↦ true | some y ↦ false ]
@@ -78,7 +79,7 @@ fresh m l = both (distinct l) (clear m l)
 
 pub fresh-zeros : (n : ℕ) (l : List ℕ) → distinct l ≡ fresh (replicate {A = ℕ} n 0) l
 unfolding fresh
-fresh-zeros n l = sym (ap (both (distinct l)) (clear-zeros n l) ∙ both-true (distinct l))
+fresh-zeros n l = sym (ap (both (distinct l)) (clear-zeros n l) ∙ both-unit (distinct l))
 
 pub fresh-none : (m : List ℕ) → fresh m [] ≡ true
 unfolding fresh distinct all

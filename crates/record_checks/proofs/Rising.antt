@@ -8,7 +8,7 @@ use lib.Dec.{ltb}
 use borrow.Author.Tests.{lt-ltb, le-ltb, ltb-true, ne-eqb}
 use Rattle.rules.specs.Base.{both, first, distinct}
 use Rattle.views.specs.Views.{run}
-use Rattle.record_checks.specs.Numbers.{rising}
+use Rattle.record_checks.specs.RecordChecks.{rising}
 use Rattle.record_checks.proofs.Every.{if-both, both-inv}
 use Rattle.record_checks.proofs.Marks.{absent, absent-cons, distinct-cons, run-is}
 

@@ -13,6 +13,7 @@ use Rattle.rules.specs.Limits.{fileLimit}
 use Rattle.rules.specs.File as File
 use Rattle.rules.specs.File.{Tables, Ty, Node, Slot, typeAt, predicateAt, nodeAt, childTypes, childNodes}
 use Rattle.rules.specs.Checks.{isName, isType, isPredicate, isNode, noneOr, typeIn, predicateIn, nodeIn, slotIn, bindingIn, hoistedIn, constraintIn, comparisonIn, levelIn, numbersIn, typeDistinct, typesDistinct}
+use Rattle.rules.proofs.Cases.{both-unit}
 use Rattle.file.specs.Steps.{word}
 use Rattle.views.specs.Views.{sizeOf, run, long, fieldAt, alternativeAt, patternAt, typeOf, nodeOf, slotViewed, predicateOf, typeOption, predicateOption, SeenType, SeenNode, SeenBinding, bindingAt, hoistedAt, constraintAt, comparisonAt, levelEntryAt}
 use Rattle.views.specs.declared.TypeView.{TypeView}
@@ -24,8 +25,8 @@ use Rattle.paths.specs.declared.Address.{Address}
 use Rattle.views.specs.declared.BindingView.{BindingView}
 use Rattle.views.specs.declared.MaybeType.{MaybeType}
 use Rattle.views.specs.declared.Predicate.{Predicate}
-use Rattle.record_checks.specs.Numbers.{Words, pairsIn, recordIn, sectionIn, typesLower, nodesLower}
-use Rattle.record_checks.proofs.Every.{every, both-true, allFrom-every, all-every, pairs-law, run-map}
+use Rattle.record_checks.specs.RecordChecks.{Words, pairsIn, recordIn, sectionIn, typesLower, nodesLower}
+use Rattle.record_checks.proofs.Every.{every, allFrom-every, all-every, pairs-law, run-map}
 
 -- any function of the entry, by the view
 module _ {X : Type 0} {f : List ℕ} where
@@ -122,7 +123,7 @@ pub numbers-every : (T : Tables) → numbersIn T ≡ every (sectionIn T) 10 0
 unfolding numbersIn sectionIn every
 numbers-every T =
     ap (λ (b : Bool). both (sectionIn T 1) (both (sectionIn T 2) (both (sectionIn T 3) (both (sectionIn T 4) (both (sectionIn T 5) (both (sectionIn T 7) (both (sectionIn T 8) b)))))))
-    (sym (both-true (sectionIn T 9)))
+    (sym (both-unit (sectionIn T 9)))
 
 -- 9
 module _ (T : Tables) where

@@ -9,7 +9,7 @@ ghost use Rattle.rules.specs.Checks.{typeIn, predicateIn, nodeIn, bindingIn, ho
 ghost use Rattle.file.specs.Steps.{word, sectionCount};
 ghost use Rattle.file.specs.Tables.{Indexed, tablesOf};
 ghost use Rattle.views.specs.Views.{sizeOf, run, bindingAt, hoistedAt, constraintAt, comparisonAt, levelEntryAt};
-ghost use Rattle.record_checks.specs.Numbers.{Words, pairsIn, numberAt, among, rising, recordIn, sectionIn, typesLower, nodesLower};
+ghost use Rattle.record_checks.specs.RecordChecks.{Words, pairsIn, numberAt, among, rising, recordIn, sectionIn, typesLower, nodesLower};
 use file::BINDINGS;
 use file::COMPARISONS;
 use file::CONSTRAINTS;

@@ -12,7 +12,7 @@ use lib.Seq.{sets, take-all, take-length, length-take-le}
 use Rattle.rules.specs.Base.{both}
 use Rattle.rules.specs.Limits.{planLimit, workLimit}
 use Rattle.rules.specs.Compile.{outcome}
-use Rattle.rules.proofs.Cases.{by-test, ways, true≢false, eqb-eq, both-left, both-right}
+use Rattle.rules.proofs.Cases.{by-test, ways, true≢false, eqb-eq, both-left, both-right, pick}
 use Rattle.bytes.specs.Bytes.{indexOf, slice}
 use Rattle.lines.specs.Lines.{line, unhex}
 use Rattle.lines.proofs.Fronts.{front, length-unhex}
@@ -34,9 +34,6 @@ same-eq (x ∷ xs) (y ∷ ys) e = ap₂ (λ (z : ℕ) (zs : List ℕ). z ∷ zs)
 same-is : (a b : List ℕ) (r : Bool) → (r ≡ true → a ≡ b) → (a ≡ b → r ≡ true) → r ≡ same a b
 same-is a b true f g = sym (ap (same a) (sym (f refl)) ∙ same-self a)
 same-is a b false f g = ways (same a b) (false ≡ same a b) (λ q. absurd (true≢false (sym (g (same-eq a b q))))) (λ q. sym q)
-
-pick : {A : Type 0} (b c : Bool) (x y : A) → b ≡ c → _≡_ {A = A} (elim b [ true ↦ x | false ↦ y ]) (elim c [ true ↦ x | false ↦ y ])
-pick b c x y e = ap (λ (t : Bool). elim t [ true ↦ x | false ↦ y ]) e
 
 -- from a place to the end
 to-end : (l : List ℕ) (at : ℕ) → take (length l - at) (drop at l) ≡ drop at l

@@ -9,14 +9,14 @@ use mathlib.Core.Logic.{⊎-elim}
 use lib.Dec.{eqb}
 use lib.ListN.{length, List·getD-eq-default}
 use Rattle.rules.specs.Limits.{stepLimit}
-use Rattle.rules.specs.Base.{Each, more, first, _>>=_ as _>>_}
+use Rattle.rules.specs.Base.{Each, more, first, _whenSome_}
 use Rattle.rules.specs.File as File
 use Rattle.rules.specs.File.{Tables, Node, Alternative, Hoisted, typeAt, nodeAt, childNodes, constants, isConstant, factTy, unionTy, then, payload}
 use Rattle.rules.specs.Constant.{alternativeOf}
 use Rattle.rules.specs.Lookup.{fieldOf, slotAt, fetchedRegister, hoistedSlot}
 use Rattle.rules.specs.Events.{Code}
 use Rattle.rules.specs.Resolve as ResolveRules
-use Rattle.rules.specs.Resolve.{Resolver, follow, _>>=_, give, declined, fetchedRow, dereference, fieldOfRow, fieldSlot, valueSlot, selected, selectSlot, resolveNode, resolve}
+use Rattle.rules.specs.Resolve.{Resolver, follow, _whenFound_, give, declined, fetchedRow, dereference, fieldOfRow, fieldSlot, valueSlot, selected, selectSlot, resolveNode, resolve}
 use Rattle.state.specs.State.{Level, Target, State, newLevel, measuring}
 use Rattle.state.specs.Ops as Ops
 use Rattle.state.specs.Ops.{ops}
@@ -60,7 +60,7 @@ abbrev below : Tables → ℕ → ℕ → File.FieldPath → ℕ → ℕ → Opt
 below T n a p t x o =
     elim o [
       | none ↦ give (slotAt a (then p) (fieldOf (typeAt T t) x))
-      | some q ↦ dereference (ops T) T n (File.Slot.Field a p t) >>= λ row. fieldOfRow (ops T) T x row
+      | some q ↦ dereference (ops T) T n (File.Slot.Field a p t) whenFound λ row. fieldOfRow (ops T) T x row
     ]
 
 abbrev alternative : Tables → ℕ → ℕ → File.FieldPath → ℕ → Option (List Alternative) → Resolver State
@@ -146,7 +146,7 @@ module _ {l : Lists} {w : List ℕ} {r : Answer} {w′ : List ℕ} where
     unfolding fieldSlot
     plain-below a p t x e h = subst (λ (o : Option ℕ). Answers (below T n a p t x o) l w r w′) (sym e) h
 
-    pub fact-below : (a : ℕ) (p : File.FieldPath) (t x q : ℕ) → factTy (typeAt T t) ≡ some q → Answers (dereference (ops T) T n (File.Slot.Field a p t) >>= fieldOfRow (ops T) T x) l w r w′ → Answers (fieldSlot (ops T) T n (File.Slot.Field a p t) x) l w r w′
+    pub fact-below : (a : ℕ) (p : File.FieldPath) (t x q : ℕ) → factTy (typeAt T t) ≡ some q → Answers (dereference (ops T) T n (File.Slot.Field a p t) whenFound fieldOfRow (ops T) T x) l w r w′ → Answers (fieldSlot (ops T) T n (File.Slot.Field a p t) x) l w r w′
     unfolding fieldSlot
     fact-below a p t x q e h = subst (λ (o : Option ℕ). Answers (below T n a p t x o) l w r w′) (sym e) h
 
@@ -167,8 +167,8 @@ module _ {l : Lists} {w : List ℕ} {r : Answer} {w′ : List ℕ} where
   value-at T e h = subst (λ (x : File.Slot). Answers (valueSlot (ops T) T x) l w r w′) (sym e) h
 
   -- one read after another
-  pub next-is : {g : Resolver State} {h : File.Slot → Resolver State} (a : Answer) {v : List ℕ} → Answers g l w a v → Follows h a v r w′ → Answers (g >>= h) l w r w′
-  unfolding _>>=_
+  pub next-is : {g : Resolver State} {h : File.Slot → Resolver State} (a : Answer) {v : List ℕ} → Answers g l w a v → Follows h a v r w′ → Answers (g whenFound h) l w r w′
+  unfolding _whenFound_
   next-is {g} {h} a e k = record { is = λ level target plan. k .is level target plan ∙ ap (λ (a : ResolveRules.Answer State). follow a h) (e .is level target plan); tidy = k .tidy }
 
 -- a node that reads of no other
@@ -208,10 +208,10 @@ rooms-of T a e h = h (slotOf (a .slot)) (ap (λ (b : Bool). maybe b (slotOf (a .
 -- a node by what it reads of
 abbrev pub stepBy : Tables → (ℕ → Resolver State) → ℕ → Node → Base → Resolver State
 stepBy T f n node Bs.Nothing = λ s. record { slot = leafSlot T (ops T .lookup s) n node; walk = s }
-stepBy T f n node (Bs.Of read b) = f b >>= readPast T n read
+stepBy T f n node (Bs.Of read b) = f b whenFound readPast T n read
 
 by-base : (T : Tables) (f : ℕ → Resolver State) (n : ℕ) (node : Node) (s : State) → stepBy T f n node (baseOf node) s ≡ resolveNode (ops T) T f n node s
-unfolding baseOf leafSlot resolveNode give _>>=_
+unfolding baseOf leafSlot resolveNode give _whenFound_
 by-base T f n (Node.Int bytes) s = refl
 by-base T f n (Node.Str x) s = refl
 by-base T f n (Node.Bytes bytes) s = refl
@@ -247,11 +247,11 @@ module _ {f : List ℕ} {node : Node} {v : NodeView} (w : NodeView) where
   leaf-seen T lookup n s e = ap (λ (w : NodeView). leafSlot T lookup n (nodeOf f w)) (sym e) ∙ ap (leafSlot T lookup n) (s .is)
 
 -- the row of a hoisted node, by the name that was found
-pub hoisted-by : (T : Tables) (lookup : ℕ → Option File.Slot) (n : ℕ) (o : Option ℕ) → o ≡ hoistedName T n → (o >> lookup) ≡ hoistedSlot T lookup n
-unfolding hoistedName hoistedSlot _>>_
-hoisted-by T lookup n o e = ap (λ (o : Option ℕ). o >> lookup) e ∙ go (first (λ h. eqb (h .node) n) (T .hoisted))
+pub hoisted-by : (T : Tables) (lookup : ℕ → Option File.Slot) (n : ℕ) (o : Option ℕ) → o ≡ hoistedName T n → (o whenSome lookup) ≡ hoistedSlot T lookup n
+unfolding hoistedName hoistedSlot _whenSome_
+hoisted-by T lookup n o e = ap (λ (o : Option ℕ). o whenSome lookup) e ∙ go (first (λ h. eqb (h .node) n) (T .hoisted))
   where
-    go : (x : Option Hoisted) → ((x >> λ h. some (h .name)) >> lookup) ≡ (x >> λ h. lookup (h .name))
+    go : (x : Option Hoisted) → ((x whenSome λ h. some (h .name)) whenSome lookup) ≡ (x whenSome λ h. lookup (h .name))
     go none = refl
     go (some h) = refl
 

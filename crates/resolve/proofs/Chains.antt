@@ -10,7 +10,7 @@ use lib.ListN.{length, getD, set, take, length-set, List·getD-eq-default}
 use lib.Seq.{sets, sets-eq, length-sets, take-suc, take-append-seam}
 use Rattle.rules.specs.File.{Tables, Node, nodeAt, isConstant}
 use Rattle.rules.specs.Resolve as ResolveRules
-use Rattle.rules.specs.Resolve.{_>>=_, give, resolve}
+use Rattle.rules.specs.Resolve.{_whenFound_, give, resolve}
 use Rattle.rules.proofs.Cases.{by-test, some≢none}
 use Rattle.rules.proofs.Sound.{Sound}
 use Rattle.file.proofs.Readers.{lt-or-le}
@@ -242,7 +242,7 @@ module _ (T : Tables) where
 
     -- a node reads of the node below it what `resolve` gives there; one that reads of no other is a leaf
     up-step : (n : ℕ) (read : Read) (b : ℕ) (s : State) → readOf T n ≡ Bs.Of read b → readUp T n (resolve (ops T) T b s) ≡ resolve (ops T) T n s
-    unfolding readUp _>>=_
+    unfolding readUp _whenFound_
     up-step n read b s e =
         let r = reader n read b e in
         ap (λ (x : Base). readBy T n x (resolve (ops T) T b s)) (r .1) ∙ ap (λ (x : Base). stepBy T (resolve (ops T) T) n (nodeAt T n) x s) (sym (r .1))

@@ -7,14 +7,14 @@ use mathlib.Core.Logic.{⊎-elim}
 use Prim.Native.Nat.{ℕ, zero, suc, _<_}
 use native.Mathlib.Omega.{arith}
 use lib.ListN.{length, length-append, List·getD-eq-default}
-use Rattle.rules.specs.Base.{_>>=_ as _>>_}
+use Rattle.rules.specs.Base.{_whenSome_}
 use Rattle.rules.specs.Limits.{stepLimit}
 use Rattle.rules.specs.File.{Tables, Alternative, Ty, Node, FieldPath, Slot, typeAt, predicateAt, nodeAt, isConstant, factTy, recordTy, unionTy, fieldPath, then, payload}
 use Rattle.rules.specs.Checks.{isType}
 use Rattle.rules.specs.Constant.{alternativeOf}
 use Rattle.rules.specs.Lookup.{FieldAt, fieldOf, slotAt, rowField, rowValue, foldedField, foldedSlot, hoistedSlot, fetchedRegister}
 use Rattle.rules.specs.Events.{Code, Ops}
-use Rattle.rules.specs.Resolve.{Answer, Resolver, follow, _>>=_, give, declined, fetchedRow, dereference, fieldOfRow, fieldSlot, valueSlot, selected, selectSlot, resolveNode, resolveBelow, resolve}
+use Rattle.rules.specs.Resolve.{Answer, Resolver, follow, _whenFound_, give, declined, fetchedRow, dereference, fieldOfRow, fieldSlot, valueSlot, selected, selectSlot, resolveNode, resolveBelow, resolve}
 use Rattle.rules.proofs.Cases.{by-test, by-option, some≢none, some-injective, leb-le, ltb-lt, both-left, both-right, bind-some}
 use Rattle.rules.proofs.Each.{each-first}
 use Rattle.rules.proofs.Sound.{Child, Sound}
@@ -46,7 +46,7 @@ fitting-room T (some slot) s e =
 module _ {T : Tables} (W : Sound T) where
   -- a type past the last has neither fields nor alternatives
   has-fields : (t x : ℕ) (f : FieldAt) → fieldOf (typeAt T t) x ≡ some f → t < length (T .types)
-  unfolding typeAt fieldOf recordTy _>>_
+  unfolding typeAt fieldOf recordTy _whenSome_
   has-fields t x f e =
       ⊎-elim (λ h. h) (λ h. absurd (some≢none f (sym e ∙ ap (λ (ty : Ty). fieldOf ty x) (List·getD-eq-default (T .types) Ty.Int h)))) (lt-or-le t (length (T .types)))
 
@@ -143,7 +143,7 @@ module _ {T : Tables} (W : Sound T) where
     row-room x (Slot.Const c) w = gives _ w given-none
 
     pub field-room : (n : ℕ) (s : Slot) (x : ℕ) (w : S) → SlotRoom T s → Gives (fieldSlot o T n s x w)
-    unfolding fieldSlot _>>=_
+    unfolding fieldSlot _whenFound_
     field-room n (Slot.Row a p) x w ok = gives _ w (given-row a p x)
     field-room n (Slot.Key a t) x w ok = gives _ w (given-field a fieldPath t x (λ f c. room-field (f .index) t (f .type) c))
     field-room n (Slot.Derived a) x w ok = gives _ w given-none
@@ -185,7 +185,7 @@ module _ {T : Tables} (W : Sound T) where
       hoisted-room n w s e = let r = bind-some _ _ s e in L w (r .0 .name) s (r .2)
 
       node-room : (below : ℕ → Resolver S) → ((n : ℕ) (w : S) → Gives (below n w)) → (n : ℕ) (node : Node) (w : S) → Gives (resolveNode o T below n node w)
-      unfolding resolveNode _>>=_
+      unfolding resolveNode _whenFound_
       node-room below B n (Node.Int bytes) w = gives _ w given-none
       node-room below B n (Node.Str x) w = gives _ w given-none
       node-room below B n (Node.Bytes bytes) w = gives _ w given-none
@@ -225,5 +225,5 @@ module _ {T : Tables} (W : Sound T) where
   past-room n (Select x) s w h = select-room (State.ops T) n s x w h
 
   pub read-room : (n : ℕ) (read : Read) (a : Answer State) → Given (a .slot) → Given (follow a (readPast T n read) .slot)
-  unfolding _>>=_
+  unfolding _whenFound_
   read-room n read a h = follows (State.ops T) a _ h (λ s w r. follows (State.ops T) _ _ (dereference-room (State.ops T) n s w r) (λ s′ w′ r′. past-room n read s′ w′ r′))

@@ -10,7 +10,7 @@ use lib.ListN.{length, List·getD-eq-default}
 use Rattle.rules.specs.Base.{Each, more}
 use Rattle.rules.specs.File.{Tables, Node, Slot, nodeAt, childNodes, constantOf, constants, isConstant}
 use Rattle.rules.specs.Events.{Ops}
-use Rattle.rules.specs.Resolve.{Answer, Resolver, follow, _>>=_, give, dereference, fieldSlot, valueSlot, selectSlot, resolveNode, resolveBelow, resolve}
+use Rattle.rules.specs.Resolve.{Answer, Resolver, follow, _whenFound_, give, dereference, fieldSlot, valueSlot, selectSlot, resolveNode, resolveBelow, resolve}
 use Rattle.rules.proofs.Choices.{by-test₂}
 use Rattle.rules.proofs.Each.{each-imply}
 use Rattle.rules.proofs.BottomUp.{extends}
@@ -27,7 +27,7 @@ Lower T = (n : ℕ) → n < length (T .nodes) → Each (λ c. c < n) (childNodes
 module _ {S : Type 0} (o : Ops S) (T : Tables) where
   -- what is asked of the nodes below, is asked of the base alone
   node-same : (f g : ℕ → Resolver S) (n : ℕ) (node : Node) (w : S) → Each (λ c. f c w ≡ g c w) (childNodes node) → resolveNode o T f n node w ≡ resolveNode o T g n node w
-  unfolding resolveNode childNodes _>>=_
+  unfolding resolveNode childNodes _whenFound_
   node-same f g n (Node.Int bytes) w h = refl
   node-same f g n (Node.Str x) w h = refl
   node-same f g n (Node.Bytes bytes) w h = refl
@@ -37,9 +37,9 @@ module _ {S : Type 0} (o : Ops S) (T : Tables) where
   node-same f g n (Node.Prefix x) w h = refl
   node-same f g n (Node.Fuzzy x d a) w h = refl
   node-same f g n (Node.Record fs) w h = refl
-  node-same f g n (Node.Access x base) w (more e h) = ap (λ (a : Answer S). follow a (λ s. dereference o T n s >>= λ p. fieldSlot o T n p x)) e
-  node-same f g n (Node.Value base) w (more e h) = ap (λ (a : Answer S). follow a (λ s. dereference o T n s >>= λ p. valueSlot o T p)) e
-  node-same f g n (Node.Select x base) w (more e h) = ap (λ (a : Answer S). follow a (λ s. dereference o T n s >>= λ p. selectSlot o T n p x)) e
+  node-same f g n (Node.Access x base) w (more e h) = ap (λ (a : Answer S). follow a (λ s. dereference o T n s whenFound λ p. fieldSlot o T n p x)) e
+  node-same f g n (Node.Value base) w (more e h) = ap (λ (a : Answer S). follow a (λ s. dereference o T n s whenFound λ p. valueSlot o T p)) e
+  node-same f g n (Node.Select x base) w (more e h) = ap (λ (a : Answer S). follow a (λ s. dereference o T n s whenFound λ p. selectSlot o T n p x)) e
   node-same f g n Node.Disjunction w h = refl
   node-same f g n Node.Subquery w h = refl
   node-same f g n (Node.Fact p key) w h = refl

@@ -8,7 +8,7 @@ use Rattle.rules.specs.File as File
 use Rattle.rules.specs.File.{Tables, Node, nodeAt, isConstant}
 use Rattle.rules.specs.Lookup.{hoistedSlot}
 use Rattle.rules.specs.Resolve as ResolveRules
-use Rattle.rules.specs.Resolve.{Resolver, follow, _>>=_}
+use Rattle.rules.specs.Resolve.{Resolver, follow, _whenFound_}
 use Rattle.state.specs.State.{Level, Target, State}
 use Rattle.state.specs.Ops.{ops}
 use Rattle.slots.specs.Slots.{maybe, slotOf, tidied, SlotRoom}
@@ -84,7 +84,7 @@ readSlot T n (Select x) s = ResolveRules.selectSlot (ops T) T n s x
 
 -- the read, past a reference
 abbrev pub readPast : Tables → ℕ → Read → File.Slot → Resolver State
-readPast T n read s = ResolveRules.dereference (ops T) T n s >>= readSlot T n read
+readPast T n read s = ResolveRules.dereference (ops T) T n s whenFound readSlot T n read
 
 -- what a node gives that reads of no other
 unfoldable pub leafSlot : Tables → (ℕ → Option File.Slot) → ℕ → Node → Option File.Slot

@@ -4,7 +4,7 @@ use mathlib.Core.Option.{Option, none, some}
 use mathlib.Core.Path.{_≡_, refl, sym, ap, subst}
 use Prim.Native.Nat.{ℕ, _≤_, _<_}
 use lib.Dec.{T, leb, ltb, eqb, leb→le, ltb→lt, eqb→eq}
-use Rattle.rules.specs.Base.{both, _>>=_}
+use Rattle.rules.specs.Base.{both, _whenSome_}
 
 -- what holds of both branches holds of the test
 pub by-test : {A : Type 0} (P : A → Type 0) (b : Bool) {x y : A} → (b ≡ true → P x) → (b ≡ false → P y) → P (elim b [ true ↦ x | false ↦ y ])
@@ -19,6 +19,10 @@ by-option P (some a) g h = h a refl
 pub ways : (b : Bool) (P : Type 0) → (b ≡ true → P) → (b ≡ false → P) → P
 ways true P f g = f refl
 ways false P f g = g refl
+
+-- one test for another
+pub pick : {A : Type 0} (b c : Bool) (x y : A) → b ≡ c → _≡_ {A = A} (elim b [ true ↦ x | false ↦ y ]) (elim c [ true ↦ x | false ↦ y ])
+pick b c x y e = ap (λ (t : Bool). elim t [ true ↦ x | false ↦ y ]) e
 
 -- true is not false, and something is not nothing
 abbrev IsTrue : Bool → Type 0
@@ -64,8 +68,16 @@ pub both-right : (a b : Bool) → both a b ≡ true → b ≡ true
 both-right true b e = e
 both-right false b e = absurd (true≢false (sym e))
 
+pub both-true : (a b : Bool) → a ≡ true → b ≡ true → both a b ≡ true
+both-true true b e f = f
+both-true false b e f = e
+
+pub both-unit : (b : Bool) → both b true ≡ b
+both-unit true = refl
+both-unit false = refl
+
 -- Options in turn: what the whole gives, each step gave.
-pub bind-some : {A B : Type 0} (o : Option A) (f : A → Option B) (b : B) → (o >>= f) ≡ some b → (a : A) × (o ≡ some a) × (f a ≡ some b)
-unfolding _>>=_
+pub bind-some : {A B : Type 0} (o : Option A) (f : A → Option B) (b : B) → (o whenSome f) ≡ some b → (a : A) × (o ≡ some a) × (f a ≡ some b)
+unfolding _whenSome_
 bind-some none f b e = absurd (some≢none b (sym e))
 bind-some (some a) f b e = (a, refl, e)

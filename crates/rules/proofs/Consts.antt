@@ -7,7 +7,7 @@ use mathlib.Core.Path.{_≡_, refl, sym, ap, ap₂, _∙_, fun-ext}
 use Prim.Native.Nat.{ℕ, zero, suc, _<_}
 use lib.Dec.{eqb}
 use lib.ListN.{length}
-use Rattle.rules.specs.Base.{Each, done, more, lastOr, _>>=_}
+use Rattle.rules.specs.Base.{Each, done, more, lastOr, _whenSome_}
 use Rattle.rules.specs.File.{Tables, Ty, Slot, Binding, Comparison, Node, LevelEntry, varName, nameAt, typeAt, nodeAt, predicateAt}
 use Rattle.rules.specs.Constant.{Const, bytesOnly, lookup, constNode, constOf, standsFor, constantNode, constantBelow, constant}
 use Rattle.rules.specs.Events.{Narrowing, Event, Lists, Walk, bind, constrained, select, report, emit}
@@ -25,7 +25,7 @@ use Rattle.rules.proofs.Kept.{placeAll-append}
 
 -- the Const that a name is bound to
 abbrev pub constBound : List Binding → ℕ → Option ℕ
-constBound bs x = lookup bs x >>= constNode
+constBound bs x = lookup bs x whenSome constNode
 
 abbrev pub SameConsts : Walk → Walk → Type 0
 SameConsts w w′ = (x : ℕ) → constBound (w′ .lists .bindings) x ≡ constBound (w .lists .bindings) x
@@ -42,11 +42,11 @@ last-append found p (b ∷ bs) cs =
 
 -- one binding more: it is the last of its name, and of no other
 const-snoc : (bs : List Binding) (b : Binding) (x : ℕ) → lookup bs (b .name) ≡ none → constNode (b .slot) ≡ none → constBound (bs ++ (b ∷ [])) x ≡ constBound bs x
-unfolding lookup _>>=_ lastOr
+unfolding lookup _whenSome_ lastOr
 const-snoc bs b x e c =
-    ap (λ (o : Option Binding). (o >>= λ b′. some (b′ .slot)) >>= constNode) (last-append none (λ b′. eqb (b′ .name) x) bs (b ∷ []))
-    ∙ by-test (λ (o : Option Binding). ((o >>= λ b′. some (b′ .slot)) >>= constNode) ≡ constBound bs x) (eqb (b .name) x)
-    (λ q. c ∙ sym (ap (λ (o : Option Slot). o >>= constNode) (ap (lookup bs) (sym (eqb-eq (b .name) x q)) ∙ e)))
+    ap (λ (o : Option Binding). (o whenSome λ b′. some (b′ .slot)) whenSome constNode) (last-append none (λ b′. eqb (b′ .name) x) bs (b ∷ []))
+    ∙ by-test (λ (o : Option Binding). ((o whenSome λ b′. some (b′ .slot)) whenSome constNode) ≡ constBound bs x) (eqb (b .name) x)
+    (λ q. c ∙ sym (ap (λ (o : Option Slot). o whenSome constNode) (ap (lookup bs) (sym (eqb-eq (b .name) x q)) ∙ e)))
     (λ q. refl)
 
 pub consts-keeps : (T : Tables) → Keeps T SameConsts
@@ -71,7 +71,7 @@ consts-keeps T =
 module _ (T : Tables) (bs : List Binding) (same : (x : ℕ) → constBound bs x ≡ constBound (T .bindings) x) where
   stands-now : (n : ℕ) → standsFor (withBindings T bs) n ≡ standsFor T n
   unfolding standsFor constOf withBindings nodeAt
-  stands-now n = ap (λ (f : ℕ → Option ℕ). Option·getD (varName (nodeAt T n) >>= f) n) (fun-ext same)
+  stands-now n = ap (λ (f : ℕ → Option ℕ). Option·getD (varName (nodeAt T n) whenSome f) n) (fun-ext same)
 
   node-now : (below : ℕ → ℕ → Option Const) (node : Node) (ty : Ty) → constantNode (withBindings T bs) below node ty ≡ constantNode T below node ty
   unfolding constantNode withBindings nameAt
@@ -109,8 +109,8 @@ module _ (T : Tables) (bs : List Binding) (same : (x : ℕ) → constBound bs x 
   sided-now : (x t : ℕ) (c : Comparison) → sided (withBindings T bs) x t c ≡ sided T x t c
   unfolding sided compared isVar nodeAt withBindings constantNow
   sided-now x t c =
-      ap (λ (f : Compared → Option Sided). compared T x c >>= f)
-      (fun-ext (λ other. ap (λ (found : Option Const). found >>= λ k. bytesOnly k >>= λ value. some (record { op = other .op; value = value })) (constant-now (other .node) t)))
+      ap (λ (f : Compared → Option Sided). compared T x c whenSome f)
+      (fun-ext (λ other. ap (λ (found : Option Const). found whenSome λ k. bytesOnly k whenSome λ value. some (record { op = other .op; value = value })) (constant-now (other .node) t)))
 
   fold-now : (x t i : ℕ) (cs : List Comparison) (e : Edges) → foldFrom (withBindings T bs) x t i cs e ≡ foldFrom T x t i cs e
   unfolding foldFrom

@@ -24,6 +24,7 @@ use Rattle.rules.proofs.Sound.{BindingOk, Sound, sound, passed-all}
 use Rattle.rules.proofs.Alone.{walk-keeps}
 use Rattle.rules.proofs.Consts.{levels-now}
 use Rattle.rules.proofs.Demand1.{Ended, ended, numbered}
+use Rattle.rules.proofs.Numbers.{refused≢got}
 use Rattle.rules.proofs.Lists.{AddsTo, adds-keeps, Onwards, onwards-same, onwards-next}
 use Rattle.rules.proofs.Nested.{Nested, Emits, emits-keeps}
 use Rattle.rules.proofs.Kept.{kept}
@@ -110,14 +111,6 @@ module _ (T : Tables) (S : Sound T) where
 -- an accepted file's bytes are all read
 Ends : {A : Type 0} → (List ℕ → Read A) → Type 0
 Ends {A} r = (bytes : List ℕ) (a : A) (rest : List ℕ) → r bytes ≡ got a rest → rest ≡ []
-
-IsGot : {A : Type 0} → Read A → Type 0
-IsGot (got a rest) = Unit {0}
-IsGot (refused n) = ⊥
-
-refused≢got : {A : Type 0} (n : ℕ) (a : A) (rest : List ℕ) → refused n ≡ got a rest → ⊥
-unfolding IsGot
-refused≢got n a rest e = subst IsGot (sym e) tt
 
 restOf : {A : Type 0} → Read A → List ℕ
 restOf (got a rest) = rest

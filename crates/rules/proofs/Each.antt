@@ -6,7 +6,7 @@ use mathlib.Core.Path.{_≡_, sym, subst}
 use Prim.Native.Nat.{ℕ, zero, suc, _<_}
 use native.Mathlib.Nat.{not-suc-le-zero, le-of-suc-le-suc}
 use lib.ListN.{length, getD}
-use Rattle.rules.specs.Base.{Each, done, more, _>>=_, all, first, lastOr}
+use Rattle.rules.specs.Base.{Each, done, more, _whenSome_, all, first, lastOr}
 use Rattle.rules.proofs.Cases.{by-test, true≢false, some≢none, some-injective}
 
 -- nothing is said of it
@@ -42,8 +42,8 @@ module _ {A B : Type 0} {P : A → Type 0} {Q : B → Type 0} where
   each-map f h done = done
   each-map f h (more p ps) = more (h _ p) (each-map f h ps)
 
-  pub perhaps-bind : {o : Option A} {f : A → Option B} → Perhaps P o → ((x : A) → P x → Perhaps Q (f x)) → Perhaps Q (o >>= f)
-  unfolding _>>=_
+  pub perhaps-bind : {o : Option A} {f : A → Option B} → Perhaps P o → ((x : A) → P x → Perhaps Q (f x)) → Perhaps Q (o whenSome f)
+  unfolding _whenSome_
   perhaps-bind nothing h = nothing
   perhaps-bind (just p) h = h _ p
 

@@ -9,7 +9,7 @@ use Rattle.rules.specs.File.{Tables, FieldTy, Alternative, FieldPattern,
 use Rattle.rules.specs.Constant.{Const, fieldPattern, alternativeOf, onlyField}
 use Rattle.rules.specs.Lookup.{fetchedRegister}
 use Rattle.rules.specs.Events.{Code, Narrowing, Ops}
-use Rattle.rules.specs.Resolve.{Answer, Resolver, follow, _>>=_, give, declined, fetchedRow, dereference, fieldOfRow, fieldSlot, valueSlot, selected, selectSlot, resolveNode, resolveBelow, resolve}
+use Rattle.rules.specs.Resolve.{Answer, Resolver, follow, _whenFound_, give, declined, fetchedRow, dereference, fieldOfRow, fieldSlot, valueSlot, selected, selectSlot, resolveNode, resolveBelow, resolve}
 use Rattle.rules.specs.Walk.{narrowBy, FieldWalk, eachField, constrainEach, constrainBy, constrain, ranked, refersTo, deferred, unresolved, partialFields, partial, matched, injectAlternative, injectOnly, inject, readAnswer, read, ranged, variable, fieldNode, fieldBelow, field, wholeFields, wholeRead, wholeVariable, wholeKey, recordKey, key}
 use Rattle.rules.proofs.Cases.{by-test, by-option}
 use Rattle.rules.proofs.Sentences.{new-is-bound, bound-is-read}
@@ -30,8 +30,8 @@ module _ {S : Type 0} (o : Ops S) (T : Tables) (s : S) (I : Idle o s) where
   abbrev pub Rests : Resolver S → Type 0
   Rests r = r s .walk ≡ s
 
-  pub idle-next : (r : Resolver S) (g : Slot → Resolver S) → Rests r → ((slot : Slot) → Rests (g slot)) → Rests (r >>= g)
-  unfolding _>>=_ follow
+  pub idle-next : (r : Resolver S) (g : Slot → Resolver S) → Rests r → ((slot : Slot) → Rests (g slot)) → Rests (r whenFound g)
+  unfolding _whenFound_ follow
   idle-next r g h k = by-option (λ (a : Answer S). a .walk ≡ s) (r s .slot) (λ e. h) (λ slot e. subst (λ w. g slot w .walk ≡ s) (sym h) (k slot))
 
   pub idle-give : (slot : Option Slot) → Rests (give slot)
@@ -100,7 +100,7 @@ module _ {S : Type 0} (o : Ops S) (T : Tables) (s : S) (I : Idle o s) where
   idle-selectSlot n (Slot.Const c) x = idle-declined n Code.NyiFactField
 
   -- a base read and dereferenced
-  pub idle-base : (below : ℕ → Resolver S) → ((m : ℕ) → Rests (below m)) → (n base : ℕ) (g : Slot → Resolver S) → ((slot : Slot) → Rests (g slot)) → Rests (below base >>= λ slot. (dereference o T n slot >>= g))
+  pub idle-base : (below : ℕ → Resolver S) → ((m : ℕ) → Rests (below m)) → (n base : ℕ) (g : Slot → Resolver S) → ((slot : Slot) → Rests (g slot)) → Rests (below base whenFound λ slot. (dereference o T n slot whenFound g))
   idle-base below h n base g k = idle-next (below base) _ (h base) (λ slot. idle-next (dereference o T n slot) g (idle-dereference n slot) k)
 
   pub idle-resolveNode : (below : ℕ → Resolver S) → ((m : ℕ) → Rests (below m)) → (n : ℕ) (node : Node) → Rests (resolveNode o T below n node)

@@ -7,7 +7,7 @@ use Prim.Native.Nat.{ℕ, suc, _≤_}
 use native.Mathlib.Omega.{arith}
 use lib.Dec.{eqb}
 use lib.ListN.{length, length-append}
-use Rattle.rules.specs.Base.{Each, done, more, _>>=_}
+use Rattle.rules.specs.Base.{Each, done, more, _whenSome_}
 use Rattle.rules.specs.Limits.{stepLimit}
 use Rattle.rules.specs.File.{Tables, FieldTy, Alternative, Ty, FieldPath, Slot, Binding, typeAt, predicateAt, recordTy, unionTy, childTypes, fieldPath, then}
 use Rattle.rules.specs.Constant.{Const, constant, lookup, constNode}
@@ -89,12 +89,12 @@ module _ (T : Tables) (S : Sound T) where
   fits-then p i t c f h = record { in-types = h .in-types; short = omega (arith, length-append (p .steps) (i ∷ []), f .short, h .less-deep) }
 
   pub slot-at : (a : ℕ) (place : ℕ → FieldPath) (found : Option FieldAt) → ((f : FieldAt) → found ≡ some f → Fits T (place (f .index)) (f .type)) → (s : Slot) → slotAt a place found ≡ some s → SlotOk T s
-  unfolding slotAt _>>=_
+  unfolding slotAt _whenSome_
   slot-at a place none g s e = absurd (some≢none s (sym e))
   slot-at a place (some f) g s e = subst (SlotOk T) (some-injective _ s e) (g f refl)
 
   pub row-field : (a : ℕ) (p : Option ℕ) (x : ℕ) → SlotOk T (Slot.Row a p) → (s : Slot) → rowField T a p x ≡ some s → SlotOk T s
-  unfolding rowField _>>=_
+  unfolding rowField _whenSome_
   row-field a none x ok s e = absurd (some≢none s (sym e))
   row-field a (some p) x ok s e =
       slot-at a fieldPath (fieldOf (typeAt T (predicateAt T p .key)) x)

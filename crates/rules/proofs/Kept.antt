@@ -36,16 +36,28 @@ same-path p q e =
       steps = same-steps (p .steps) (q .steps) (both-right (eqb (p .field) (q .field)) _ e) i;
     }
 
+-- lo and hi, once set
+abbrev edgesSet : Edges → ℕ
+edgesSet e = number (e .lo) + number (e .hi)
+
+-- what stands while building holds
+pub record Building (opened : List Bool) (range : Option Range) (guide : Option Guide) (e : Edges) : Type 0 where
+  pub all-open : Each (λ h. h ≡ true) opened
+  pub no-range : range ≡ none
+  pub no-guide : guide ≡ none
+  pub no-edge : edgesSet e ≡ 0
+
+-- what stands always of range, guide and edges
+pub record Ranged (range : Option Range) (guide : Option Guide) (e : Edges) : Type 0 where
+  pub edge-excludes : 0 < edgesSet e → (range ≡ none) × (guide ≡ none)
+  pub guide-path : (g : Guide) (r : Range) → guide ≡ some g → range ≡ some r → g .path ≡ r .path
+  pub edges-folded : edgesSet e ≡ length (e .folded)
+
 -- what stands after any number of a walk's steps; n tags are open
 pub record Steady (n : ℕ) (b : SeekBuilder) : Type 0 where
   pub opens : length (b .opened) ≡ n
-  pub all-open : b .building ≡ true → Each (λ h. h ≡ true) (b .opened)
-  pub no-range : b .building ≡ true → b .range ≡ none
-  pub no-guide : b .building ≡ true → b .guide ≡ none
-  pub no-edge : b .building ≡ true → edges b ≡ 0
-  pub edge-excludes : 0 < edges b → (b .range ≡ none) × (b .guide ≡ none)
-  pub guide-path : (g : Guide) (r : Range) → b .guide ≡ some g → b .range ≡ some r → g .path ≡ r .path
-  pub edges-folded : edges b ≡ length (b .edges .folded)
+  pub on : b .building ≡ true → Building (b .opened) (b .range) (b .guide) (b .edges)
+  pub ranged : Ranged (b .range) (b .guide) (b .edges)
   pub closers-most : b .closers ≤ length (b .parts)
 
 steady-new : Steady 0 new
@@ -53,13 +65,8 @@ unfolding new edges number
 steady-new =
     record {
       opens = refl;
-      all-open = λ e. done;
-      no-range = λ e. refl;
-      no-guide = λ e. refl;
-      no-edge = λ e. refl;
-      edge-excludes = λ h. (refl, refl);
-      guide-path = λ g r e f. absurd (some≢none g (sym e));
-      edges-folded = refl;
+      on = λ e. record { all-open = done; no-range = refl; no-guide = refl; no-edge = refl };
+      ranged = record { edge-excludes = λ h. (refl, refl); guide-path = λ g r e f. absurd (some≢none g (sym e)); edges-folded = refl };
       closers-most = omega arith;
     }
 
@@ -69,13 +76,8 @@ module _ (n : ℕ) (b : SeekBuilder) (s : Steady n b) where
   steady-part part =
       record {
         opens = s .opens;
-        all-open = s .all-open;
-        no-range = s .no-range;
-        no-guide = s .no-guide;
-        no-edge = s .no-edge;
-        edge-excludes = s .edge-excludes;
-        guide-path = s .guide-path;
-        edges-folded = s .edges-folded;
+        on = s .on;
+        ranged = s .ranged;
         closers-most = omega (arith, s .closers-most, length-append (b .parts) (part ∷ []));
       }
 
@@ -84,13 +86,8 @@ module _ (n : ℕ) (b : SeekBuilder) (s : Steady n b) where
   steady-closer =
       record {
         opens = s .opens;
-        all-open = s .all-open;
-        no-range = s .no-range;
-        no-guide = s .no-guide;
-        no-edge = s .no-edge;
-        edge-excludes = s .edge-excludes;
-        guide-path = s .guide-path;
-        edges-folded = s .edges-folded;
+        on = s .on;
+        ranged = s .ranged;
         closers-most = omega (arith, s .closers-most, length-append (b .parts) (SeekKeyPart.Bytes term ∷ []));
       }
 
@@ -99,13 +96,8 @@ module _ (n : ℕ) (b : SeekBuilder) (s : Steady n b) where
   steady-residual path op =
       record {
         opens = s .opens;
-        all-open = s .all-open;
-        no-range = s .no-range;
-        no-guide = s .no-guide;
-        no-edge = s .no-edge;
-        edge-excludes = s .edge-excludes;
-        guide-path = s .guide-path;
-        edges-folded = s .edges-folded;
+        on = s .on;
+        ranged = s .ranged;
         closers-most = s .closers-most;
       }
 
@@ -114,13 +106,8 @@ module _ (n : ℕ) (b : SeekBuilder) (s : Steady n b) where
   steady-fall =
       record {
         opens = s .opens;
-        all-open = λ e. absurd (true≢false (sym e));
-        no-range = λ e. absurd (true≢false (sym e));
-        no-guide = λ e. absurd (true≢false (sym e));
-        no-edge = λ e. absurd (true≢false (sym e));
-        edge-excludes = s .edge-excludes;
-        guide-path = s .guide-path;
-        edges-folded = s .edges-folded;
+        on = λ q. absurd (true≢false (sym q));
+        ranged = s .ranged;
         closers-most = s .closers-most;
       }
 
@@ -129,13 +116,8 @@ module _ (n : ℕ) (b : SeekBuilder) (s : Steady n b) where
   steady-tag =
       record {
         opens = ap suc (s .opens);
-        all-open = λ e. more e (s .all-open e);
-        no-range = s .no-range;
-        no-guide = s .no-guide;
-        no-edge = s .no-edge;
-        edge-excludes = s .edge-excludes;
-        guide-path = s .guide-path;
-        edges-folded = s .edges-folded;
+        on = λ e. let h = s .on e in record { all-open = more e (h .all-open); no-range = h .no-range; no-guide = h .no-guide; no-edge = h .no-edge };
+        ranged = s .ranged;
         closers-most = s .closers-most;
       }
 
@@ -144,13 +126,12 @@ module _ (n : ℕ) (b : SeekBuilder) (s : Steady n b) where
   steady-range path prefix e =
       record {
         opens = s .opens;
-        all-open = λ q. absurd (true≢false (sym q));
-        no-range = λ q. absurd (true≢false (sym q));
-        no-guide = λ q. absurd (true≢false (sym q));
-        no-edge = λ q. absurd (true≢false (sym q));
-        edge-excludes = λ h. absurd (omega (arith, h, s .no-edge e));
-        guide-path = λ g r q f. absurd (some≢none g (sym q ∙ s .no-guide e));
-        edges-folded = s .edges-folded;
+        on = λ q. absurd (true≢false (sym q));
+        ranged = record {
+          edge-excludes = λ h. absurd (omega (arith, h, s .on e .no-edge));
+          guide-path = λ g r q f. absurd (some≢none g (sym q ∙ s .on e .no-guide));
+          edges-folded = s .ranged .edges-folded;
+        };
         closers-most = s .closers-most;
       }
 
@@ -173,20 +154,19 @@ steady-guide n b s g e =
     let a = attach b (g .path) e in
     record {
       opens = s .opens;
-      all-open = λ q. absurd (true≢false (sym q));
-      no-range = λ q. absurd (true≢false (sym q));
-      no-guide = λ q. absurd (true≢false (sym q));
-      no-edge = λ q. absurd (true≢false (sym q));
-      edge-excludes = λ h. ways (b .building) _ (λ q. absurd (omega (arith, h, s .no-edge q))) (λ q. let r = range-at (b .range) (g .path) (a .1 q) in absurd (some≢none (r .0) (sym (r .1) ∙ s .edge-excludes h .0)));
-      guide-path = λ g′ r′ q f. ways (b .building) _ (λ t. absurd (some≢none r′ (sym f ∙ s .no-range t)))
-          (λ t. let r = range-at (b .range) (g .path) (a .1 t) in ap (λ (k : Guide). k .path) (sym (some-injective g g′ q)) ∙ sym (r .2) ∙ ap (λ (k : Range). k .path) (some-injective (r .0) r′ (sym (r .1) ∙ f)));
-      edges-folded = s .edges-folded;
+      on = λ q. absurd (true≢false (sym q));
+      ranged = record {
+        edge-excludes = λ h. ways (b .building) _ (λ q. absurd (omega (arith, h, s .on q .no-edge))) (λ q. let r = range-at (b .range) (g .path) (a .1 q) in absurd (some≢none (r .0) (sym (r .1) ∙ s .ranged .edge-excludes h .0)));
+        guide-path = λ g′ r′ q f. ways (b .building) _ (λ t. absurd (some≢none r′ (sym f ∙ s .on t .no-range)))
+            (λ t. let r = range-at (b .range) (g .path) (a .1 t) in ap (λ (k : Guide). k .path) (sym (some-injective g g′ q)) ∙ sym (r .2) ∙ ap (λ (k : Range). k .path) (some-injective (r .0) r′ (sym (r .1) ∙ f)));
+        edges-folded = s .ranged .edges-folded;
+      };
       closers-most = s .closers-most;
     }
 
 -- edges and folded comparisons keep step
 abbrev Paired : Edges → Type 0
-Paired e = number (e .lo) + number (e .hi) ≡ length (e .folded)
+Paired e = edgesSet e ≡ length (e .folded)
 
 paired-hi : (i : ℕ) (edge : RangeEdge) (e : Edges) → Paired e → Paired (takeHi i edge e)
 unfolding takeHi number
@@ -215,13 +195,12 @@ unfolding fall withEdges edges
 steady-folded T x t n b s e =
     record {
       opens = s .opens;
-      all-open = λ q. absurd (true≢false (sym q));
-      no-range = λ q. absurd (true≢false (sym q));
-      no-guide = λ q. absurd (true≢false (sym q));
-      no-edge = λ q. absurd (true≢false (sym q));
-      edge-excludes = λ h. (s .no-range e, s .no-guide e);
-      guide-path = s .guide-path;
-      edges-folded = paired-fold T x t 0 (T .comparisons) (b .edges) (s .edges-folded);
+      on = λ q. absurd (true≢false (sym q));
+      ranged = record {
+        edge-excludes = λ h. (s .on e .no-range, s .on e .no-guide);
+        guide-path = s .ranged .guide-path;
+        edges-folded = paired-fold T x t 0 (T .comparisons) (b .edges) (s .ranged .edges-folded);
+      };
       closers-most = s .closers-most;
     }
 
@@ -256,7 +235,7 @@ counts-prefix : (n : ℕ) (b : SeekBuilder) (s : Steady n b) (path : FieldPath) 
 unfolding placePrefix withRange withResidual fall filled number
 counts-prefix n b s path prefix =
     by-test (Counts 1 b) (b .building)
-    (λ e. omega (arith, ap number (s .no-range e)))
+    (λ e. omega (arith, ap number (s .on e .no-range)))
     (λ e. omega (arith, length-append (b .residuals) (record { path = path; op = Narrowing.Prefix prefix } ∷ [])))
 
 counts-fuzzy : (b : SeekBuilder) (path : FieldPath) (x distance : ℕ) (anchor : Anchor) → Counts 1 b (placeFuzzy path x distance anchor b)
@@ -281,13 +260,8 @@ unfolding withOpened edges
 steady-outer n b s held outer e =
     record {
       opens = omega (arith, ap length e, s .opens);
-      all-open = λ q. tail-all (subst (Each (λ h. h ≡ true)) e (s .all-open q));
-      no-range = s .no-range;
-      no-guide = s .no-guide;
-      no-edge = s .no-edge;
-      edge-excludes = s .edge-excludes;
-      guide-path = s .guide-path;
-      edges-folded = s .edges-folded;
+      on = λ q. let h = s .on q in record { all-open = tail-all (subst (Each (λ h. h ≡ true)) e (h .all-open)); no-range = h .no-range; no-guide = h .no-guide; no-edge = h .no-edge };
+      ranged = s .ranged;
       closers-most = s .closers-most;
     }
   where
@@ -443,7 +417,7 @@ makes-closer b h n s [] e = absurd (omega (arith, ap length e, s .opens))
 makes-closer b h n s (held ∷ outer) e =
     by-test (Makes (SeekKeyPart.Bytes term ∷ []) 1 b) (both held (b .building))
     (λ q. record { on = λ t. refl; fell = λ t. absurd (true≢false (sym h ∙ t)); on-closers = λ t. refl; fell-closers = λ t. absurd (true≢false (sym h ∙ t)) })
-    (λ q. absurd (true≢false (sym (ap (λ (k : Bool). both k (b .building)) (head-true (subst (Each (λ k. k ≡ true)) e (s .all-open h))) ∙ h) ∙ q)))
+    (λ q. absurd (true≢false (sym (ap (λ (k : Bool). both k (b .building)) (head-true (subst (Each (λ k. k ≡ true)) e (s .on h .all-open))) ∙ h) ∙ q)))
 
 makes-bound : (b : SeekBuilder) (T : Tables) (x t : ℕ) → Makes (partsOf (Event.bound x t)) (closersOf (Event.bound x t)) b (placeBound T x t b)
 unfolding partsOf closersOf placeBound withEdges
@@ -491,7 +465,7 @@ made-all T (Event.bound x t ∷ Event.closer ∷ es) n b s h on = absurd h
 made-all T (Event.bound x t ∷ Event.bound y u ∷ es) n b s h on = absurd h
 
 -- lo and hi are two
-most-one : {A : Type 0} (o : Option A) → number o ≤ 1
+pub most-one : {A : Type 0} (o : Option A) → number o ≤ 1
 unfolding number
 most-one none = omega arith
 most-one (some a) = omega arith
@@ -507,7 +481,7 @@ sum-of k b h c = omega (arith, h, c)
 
 -- what demand 3 says of one level
 pub kept : (T : Tables) (es : List Event) → Nested 0 es → Kept T es (placeAll T es new)
-unfolding new
+unfolding new edges
 kept T es h =
     let r = placed-all T es 0 new steady-new h in
     let made = made-all T es 0 new steady-new h refl in
@@ -515,9 +489,9 @@ kept T es h =
       never-returns = never-returns T es;
       parts = made .parts;
       closers = omega (arith, made .closers);
-      edge-excludes = r .steady .edge-excludes;
-      guide-path = r .steady .guide-path;
-      edges-folded = r .steady .edges-folded;
+      edge-excludes = r .steady .ranged .edge-excludes;
+      guide-path = r .steady .ranged .guide-path;
+      edges-folded = r .steady .ranged .edges-folded;
       edges-most = edges-two (placeAll T es new);
       closers-most = r .steady .closers-most;
       sum = sum-of (narrowings es) (placeAll T es new) (r .counts) (r .steady .closers-most);

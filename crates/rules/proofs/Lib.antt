@@ -2,6 +2,7 @@
 pub mod Cases
 pub mod BottomUp
 pub mod Each
+pub mod Scalars
 -- Sentences of document 01, one step each.
 pub mod Sentences
 -- What demand 3 reaches, of the record alone.

@@ -5,7 +5,7 @@ use mathlib.Core.Option.{Option, none, some}
 use mathlib.Core.Path.{_≡_, refl, sym, ap, _∙_, subst}
 use Prim.Native.Nat.{ℕ}
 use lib.Dec.{eqb}
-use Rattle.rules.specs.Base.{lastOr, _>>=_}
+use Rattle.rules.specs.Base.{lastOr, _whenSome_}
 use Rattle.rules.specs.File.{Tables, Binding}
 use Rattle.rules.specs.Constant.{lookup}
 use Rattle.rules.specs.Events.{Lists, Walk, bind, constrained, select, report, emit}
@@ -40,8 +40,8 @@ last-none found (b ∷ bs) x e =
     (λ q r. absurd (some≢none b (last-none (some b) bs x r .0)))
     (λ q r. let h = last-none found bs x r in (h .0, rw (q, alreadyBound) (h .1))) e
 
-bind-none : {A B : Type 0} (o : Option A) (f : A → B) → (o >>= λ a. some (f a)) ≡ none → o ≡ none
-unfolding _>>=_
+bind-none : {A B : Type 0} (o : Option A) (f : A → B) → (o whenSome λ a. some (f a)) ≡ none → o ≡ none
+unfolding _whenSome_
 bind-none none f e = refl
 bind-none (some a) f e = absurd (some≢none (f a) e)
 

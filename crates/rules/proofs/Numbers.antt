@@ -172,10 +172,13 @@ abbrev IsGot : {A : Type 0} → Read A → Type 0
 IsGot (got a rest) = Unit {0}
 IsGot (refused n) = ⊥
 
+pub refused≢got : {A : Type 0} (n : ℕ) (a : A) (rest : List ℕ) → refused n ≡ got a rest → ⊥
+refused≢got n a rest e = subst IsGot (sym e) tt
+
 pub of-answer : {A : Type 0} {Q : A → Type 0} {x : Read A} (a : A) (rest : List ℕ) → Answer Byte Q x → x ≡ got a rest → Q a
 unfolding readOr
 of-answer {A} {Q} a rest (gives q h) e = subst Q (ap (readOr a) e) q
-of-answer a rest (refuses l m) e = absurd (subst IsGot (sym e) tt)
+of-answer a rest (refuses l m) e = absurd (refused≢got _ a rest e)
 
 -- the tables of a file of bytes
 pub bounded : (bytes : List ℕ) → Each Byte bytes → (T : Tables) (rest : List ℕ) → Read.file bytes ≡ got T rest → Bounded T

@@ -19,7 +19,7 @@ use Rattle.rules.specs.Plan.{PlanLevel, planLevel, levelBytes}
 use Rattle.rules.specs.Demand3.{number, Kept, seekRange, seekEdges, WellFormed, AddsUp}
 use Rattle.rules.specs.Reader
 use Rattle.rules.specs.Reader.{levelRules}
-use Rattle.rules.proofs.Cases.{by-option, some≢none, some-injective, bind-some}
+use Rattle.rules.proofs.Cases.{by-option, some≢none, some-injective, both-true, bind-some}
 use Rattle.rules.proofs.Each.{Perhaps, nothing, just, each-imply}
 use Rattle.rules.proofs.ReaderReads.{PathFits, PartFits, SeekFits, LevelFits, counts, least-residual}
 use Rattle.rules.proofs.ReaderRules.{number-most}
@@ -94,10 +94,6 @@ module _ {parts : List SeekKeyPart} (h : Each PartMade parts) where
   sought none none nothing = sought-unranged
 
 -- What adds up keeps the reader's rules.
-both-true : (a b : Bool) → a ≡ true → b ≡ true → both a b ≡ true
-both-true true b e f = f
-both-true false b e f = e
-
 seek-keeps : (s : SeekKey) (g : Option Guide) → WellFormed s → (0 < seekEdges s → (seekRange s ≡ none) × (g ≡ none))
     → ((k : Guide) (r : Range) → g ≡ some k → seekRange s ≡ some r → k .path ≡ r .path) → Reader.seekKeeps s g ≡ true
 unfolding Reader.seekKeeps seekRange seekEdges number

@@ -8,11 +8,12 @@ use lib.Dec.{eqb}
 use lib.ListN.{length}
 use Rattle.rules.specs.Base.{Each, done, more}
 use Rattle.rules.specs.Limits
-use Rattle.rules.specs.File.{Tables, FieldTy, Alternative, Ty, Node, FieldPath, Slot, Binding, LevelEntry}
+use Rattle.rules.specs.File.{Tables, FieldTy, Alternative, Ty, Node, FieldPath, Slot, Binding, LevelEntry, fieldPath, then, payload}
 use Rattle.rules.specs.Read
 use Rattle.rules.specs.Read.{Read, got, Reader, several}
 use Rattle.rules.specs.Demand1.{Byte}
 use Rattle.rules.proofs.Cases.{by-test}
+use Rattle.rules.proofs.Each.{each-snoc}
 use Rattle.rules.proofs.RoundTrip.{OptionNumber}
 use Rattle.rules.proofs.Readers.{Answer, gives, refuses, Reads, reads-pure, reads-bind, reads-u8, reads-u16, reads-many, reads-several, reads-kind, reads-section, reads-end, reads-name, reads-anchor, reads-hoisted, reads-comparison}
 use Rattle.rules.proofs.Numbers.{Many, many-bound, section-bound, u16-bound, u32-bound, of-answer}
@@ -21,6 +22,18 @@ use Rattle.rules.proofs.Numbers.{Many, many-bound, section-bound, u16-b
 pub record PathWithin (p : FieldPath) : Type 0 where
   pub field : p .field < 65536
   pub steps : Each (λ n. n < 4294967296) (p .steps)
+
+pub first-within : (i : ℕ) → i < 65536 → PathWithin (fieldPath i)
+unfolding fieldPath
+first-within i h = record { field = h; steps = done }
+
+pub then-within : (p : FieldPath) (i : ℕ) → PathWithin p → i < 4294967296 → PathWithin (then p i)
+unfolding then
+then-within p i h l = record { field = h .field; steps = each-snoc (h .steps) l }
+
+pub payload-within : (p : FieldPath) (d : ℕ) → PathWithin p → d < 4294967296 → PathWithin (payload p d)
+unfolding payload
+payload-within p d h l = then-within p d h l
 
 abbrev pub SlotWithin : Slot → Type 0
 SlotWithin (Slot.Row a p) = (a < 65536) × OptionNumber p

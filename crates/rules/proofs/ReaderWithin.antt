@@ -18,7 +18,8 @@ use Rattle.rules.specs.Walk
 use Rattle.rules.specs.Walk.{narrowing, FieldWalk, eachField, refersTo, deferred, constraintsOf, ranked, walkLevel}
 use Rattle.rules.proofs.Cases.{by-test}
 use Rattle.rules.proofs.Each.{Perhaps, nothing, just, perhaps-bind, perhaps-any, each-append, each-snoc, each-getD}
-use Rattle.rules.proofs.ReaderTables.{PathWithin, SlotWithin, BindingWithin, FieldsWithin, AlternativeWithin, TypeWithin, NodeWithin, EntryWithin, TablesWithin}
+use Rattle.rules.proofs.Scalars.{at-int, at-str, at-bytes}
+use Rattle.rules.proofs.ReaderTables.{PathWithin, first-within, then-within, payload-within, SlotWithin, BindingWithin, FieldsWithin, AlternativeWithin, TypeWithin, NodeWithin, EntryWithin, TablesWithin}
 
 pub record SelectWithin (s : Select) : Type 0 where
   pub address : s .address < 65536
@@ -92,19 +93,6 @@ emits e w h k = record { lists = k .lists; events = each-snoc (k .events) h }
 
 skips : (w : Walk) → Within w → Within (emit Event.skip w)
 skips w k = emits Event.skip w tt k
-
--- Paths.
-first-within : (i : ℕ) → i < 65536 → PathWithin (fieldPath i)
-unfolding fieldPath
-first-within i h = record { field = h; steps = done }
-
-then-within : (p : FieldPath) (i : ℕ) → PathWithin p → i < 4294967296 → PathWithin (then p i)
-unfolding then
-then-within p i h l = record { field = h .field; steps = each-snoc (h .steps) l }
-
-payload-within : (p : FieldPath) (d : ℕ) → PathWithin p → d < 4294967296 → PathWithin (payload p d)
-unfolding payload
-payload-within p d h l = then-within p d h l
 
 -- a slot that a read gives: its address and path
 abbrev Reached : Slot → Type 0
@@ -209,33 +197,6 @@ narrowing-within (Const.Bytes bytes) h = h
 narrowing-within (Const.Prefix bytes) h = tt
 narrowing-within (Const.Fuzzy x d a) h = h
 
-at-int : (ty : Ty) (c : Const) → ConstWithin c → Perhaps ConstWithin (Constant.atInt ty c)
-unfolding Constant.atInt
-at-int Ty.Int c h = just h
-at-int Ty.Str c h = nothing
-at-int Ty.Bytes c h = nothing
-at-int (Ty.Fact p) c h = nothing
-at-int (Ty.Record fs) c h = nothing
-at-int (Ty.Union alts) c h = nothing
-
-at-str : (ty : Ty) (c : Const) → ConstWithin c → Perhaps ConstWithin (Constant.atStr ty c)
-unfolding Constant.atStr
-at-str Ty.Int c h = nothing
-at-str Ty.Str c h = just h
-at-str Ty.Bytes c h = nothing
-at-str (Ty.Fact p) c h = nothing
-at-str (Ty.Record fs) c h = nothing
-at-str (Ty.Union alts) c h = nothing
-
-at-bytes : (ty : Ty) (c : Const) → ConstWithin c → Perhaps ConstWithin (Constant.atBytes ty c)
-unfolding Constant.atBytes
-at-bytes Ty.Int c h = nothing
-at-bytes Ty.Str c h = nothing
-at-bytes Ty.Bytes c h = just h
-at-bytes (Ty.Fact p) c h = nothing
-at-bytes (Ty.Record fs) c h = nothing
-at-bytes (Ty.Union alts) c h = nothing
-
 constant-record : (below : ℕ → ℕ → Option Const) (fs : List FieldPattern) (ty : Ty) → Perhaps ConstWithin (Constant.constantRecord below fs ty)
 unfolding Constant.constantRecord Constant.encodeRecord Constant.encodeUnion Constant.unionTag
 constant-record below fs Ty.Int = nothing
@@ -252,14 +213,14 @@ constant-record below fs (Ty.Union alts) =
 
 constant-node : (T : Tables) (below : ℕ → ℕ → Option Const) (node : Node) → NodeWithin node → (ty : Ty) → Perhaps ConstWithin (Constant.constantNode T below node ty)
 unfolding Constant.constantNode Constant.encodeInt Constant.encodeStr Constant.encodePrefix Constant.encodeBytes
-constant-node T below (Node.Int bytes) h ty = at-int ty _ (omega arith)
-constant-node T below (Node.Str x) h ty = at-str ty _ (omega arith)
-constant-node T below (Node.Bytes bytes) h ty = at-bytes ty _ (omega arith)
+constant-node T below (Node.Int bytes) h ty = at-int ConstWithin ty _ (omega arith)
+constant-node T below (Node.Str x) h ty = at-str ConstWithin ty _ (omega arith)
+constant-node T below (Node.Bytes bytes) h ty = at-bytes ConstWithin ty _ (omega arith)
 constant-node T below (Node.Var x) h ty = nothing
 constant-node T below Node.Wildcard h ty = nothing
 constant-node T below Node.Never h ty = nothing
-constant-node T below (Node.Prefix x) h ty = at-str ty _ tt
-constant-node T below (Node.Fuzzy x d a) h ty = at-str ty _ h
+constant-node T below (Node.Prefix x) h ty = at-str ConstWithin ty _ tt
+constant-node T below (Node.Fuzzy x d a) h ty = at-str ConstWithin ty _ h
 constant-node T below (Node.Record fs) h ty = constant-record below fs ty
 constant-node T below (Node.Access x n) h ty = nothing
 constant-node T below (Node.Value n) h ty = nothing
@@ -312,8 +273,8 @@ module _ (T : Tables) (N : TablesWithin T) where
   unfolding follow
   follows a f h k = by-perhaps Resolved (h .slot) (record { slot = nothing; walk = h .walk }) (λ s g. k s g (a .walk) (h .walk))
 
-  then-resolves : (r : Resolver Walk) (f : Slot → Resolver Walk) → Resolves r → ((s : Slot) → Reached s → Resolves (f s)) → Resolves (Resolve._>>=_ r f)
-  unfolding Resolve._>>=_
+  then-resolves : (r : Resolver Walk) (f : Slot → Resolver Walk) → Resolves r → ((s : Slot) → Reached s → Resolves (f s)) → Resolves (Resolve._whenFound_ r f)
+  unfolding Resolve._whenFound_
   then-resolves r f h k w g = follows (r w) f (h w g) k
 
   gives : {s : Option Slot} → Perhaps Reached s → Resolves (give s)

@@ -14,7 +14,7 @@ use Rattle.rules.specs.File.{Tables, FieldTy, Alternative, FieldPattern,
 use Rattle.rules.specs.Constant.{Const, constant, fieldPattern, alternativeOf, onlyField, lookup, constNode}
 use Rattle.rules.specs.Lookup.{fieldOf, hoistedSlot, fetchedRegister}
 use Rattle.rules.specs.Events.{Code, Narrowing, Event, Walk, Ops, walkOps, bind, constrained, select, report, emit}
-use Rattle.rules.specs.Resolve.{Answer, Resolver, follow, _>>=_ as _>>>_, give, declined, fetchedRow, dereference, fieldOfRow, fieldSlot, valueSlot, selected, selectSlot, resolveNode, resolveBelow, resolve}
+use Rattle.rules.specs.Resolve.{Answer, Resolver, follow, _whenFound_, give, declined, fetchedRow, dereference, fieldOfRow, fieldSlot, valueSlot, selected, selectSlot, resolveNode, resolveBelow, resolve}
 use Rattle.rules.specs.Walk.{narrowing, narrowBy, FieldWalk, eachField, constrainEach, constrainBy, constrain, ranked, refersTo, deferred, unresolved, partialFields, partial, matched, injectAlternative, injectOnly, inject, readAnswer, read, ranged, variable, fieldNode, fieldBelow, field, wholeFields, wholeRead, wholeVariable, wholeKey, recordKey, key}
 use Rattle.rules.proofs.Cases.{by-test, true≢false, some≢none, some-injective}
 use Rattle.rules.proofs.Choices.{by-test₂, by-option₂}
@@ -201,8 +201,8 @@ module _ (T : Tables) (S : Sound T) (P : FieldPath → Type 0) (N : ℕ → Type
   found-next {a} {x} {y} p q = record { grew = K .next a (x .walk) (y .walk) (p .grew) (q .grew); fit = q .fit; rel = q .rel; still = λ h. q .still (p .still h); ok = q .ok; same = q .same }
 
   -- what a read goes on with
-  reads-next : (a : Walk) (c : C) (r : Resolver Walk) (r′ : Resolver C) (g : Slot → Resolver Walk) (g′ : Slot → Resolver C) → Reads a (r a) c (r′ c) → ((s : Slot) (b : Walk) (d : C) → SlotOk T s → Reads b (g s b) d (g′ s d)) → ((s : Slot) (d : C) (h : stopped d ≡ true) → Rests o T d (sim .idle d h) (g′ s)) → Reads a ((r >>> g) a) c ((r′ >>> g′) c)
-  unfolding _>>>_ follow give
+  reads-next : (a : Walk) (c : C) (r : Resolver Walk) (r′ : Resolver C) (g : Slot → Resolver Walk) (g′ : Slot → Resolver C) → Reads a (r a) c (r′ c) → ((s : Slot) (b : Walk) (d : C) → SlotOk T s → Reads b (g s b) d (g′ s d)) → ((s : Slot) (d : C) (h : stopped d ≡ true) → Rests o T d (sim .idle d h) (g′ s)) → Reads a ((r whenFound g) a) c ((r′ whenFound g′) c)
+  unfolding _whenFound_ follow give
   reads-next a c r r′ g g′ h k rests f rel =
       let p = h f rel in
       found-next p
@@ -288,9 +288,9 @@ module _ (T : Tables) (S : Sound T) (P : FieldPath → Type 0) (N : ℕ → Type
   reads-select n (Slot.Const m) x a c ok = reads-declined n Code.NyiFactField a c
 
   -- a base read and dereferenced
-  reads-base : (below : ℕ → Resolver Walk) (below′ : ℕ → Resolver C) → ((m : ℕ) (a : Walk) (c : C) → Reads a (below m a) c (below′ m c)) → (n base : ℕ) (g : Slot → Resolver Walk) (g′ : Slot → Resolver C) → ((s : Slot) (a : Walk) (c : C) → SlotOk T s → Reads a (g s a) c (g′ s c)) → ((s : Slot) (d : C) (h : stopped d ≡ true) → Rests o T d (sim .idle d h) (g′ s)) → (a : Walk) (c : C) → Reads a ((below base >>> λ slot. (dereference (walkOps T) T n slot >>> g)) a) c ((below′ base >>> λ slot. (dereference o T n slot >>> g′)) c)
+  reads-base : (below : ℕ → Resolver Walk) (below′ : ℕ → Resolver C) → ((m : ℕ) (a : Walk) (c : C) → Reads a (below m a) c (below′ m c)) → (n base : ℕ) (g : Slot → Resolver Walk) (g′ : Slot → Resolver C) → ((s : Slot) (a : Walk) (c : C) → SlotOk T s → Reads a (g s a) c (g′ s c)) → ((s : Slot) (d : C) (h : stopped d ≡ true) → Rests o T d (sim .idle d h) (g′ s)) → (a : Walk) (c : C) → Reads a ((below base whenFound λ slot. (dereference (walkOps T) T n slot whenFound g)) a) c ((below′ base whenFound λ slot. (dereference o T n slot whenFound g′)) c)
   reads-base below below′ h n base g g′ k rests a c =
-      reads-next a c (below base) (below′ base) (λ slot. (dereference (walkOps T) T n slot >>> g)) (λ slot. (dereference o T n slot >>> g′)) (h base a c)
+      reads-next a c (below base) (below′ base) (λ slot. (dereference (walkOps T) T n slot whenFound g)) (λ slot. (dereference o T n slot whenFound g′)) (h base a c)
       (λ s b d ok. reads-next b d (dereference (walkOps T) T n s) (dereference o T n s) g g′ (reads-dereference n s b d ok) k rests)
       (λ s d e. idle-next o T d (sim .idle d e) (dereference o T n s) g′ (idle-dereference o T d (sim .idle d e) n s) (λ x. rests x d e))
 

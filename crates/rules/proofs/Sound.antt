@@ -115,12 +115,16 @@ lower-children T k t h =
     (each-passes (λ c. ltb c t) (childTypes (typeAt T t))
     (rw (zero-add t) at (allFrom-at 0 (λ n ty. all (λ c. ltb c n) (childTypes ty)) (T .types) t Ty.Int (both-left (allFrom 0 (λ n ty. all (λ c. ltb c n) (childTypes ty)) (T .types)) _ (k .lower)) h)))
 
--- the whole-file checks of 8, section by section
+-- 8, section by section
 pub record NumbersIn (T : Tables) : Type 0 where
-  pub types : all (typeIn T) (T .types) ≡ true
-  pub predicates : all (predicateIn T) (T .predicates) ≡ true
-  pub bindings : all (bindingIn T) (T .bindings) ≡ true
-  pub levels : all (levelIn T) (T .levels) ≡ true
+  pub types : Each (λ ty. typeIn T ty ≡ true) (T .types)
+  pub predicates : Each (λ p. predicateIn T p ≡ true) (T .predicates)
+  pub nodes : Each (λ node. nodeIn T node ≡ true) (T .nodes)
+  pub bindings : Each (λ b. bindingIn T b ≡ true) (T .bindings)
+  pub hoisted : Each (λ h. hoistedIn T h ≡ true) (T .hoisted)
+  pub constraints : Each (λ c. constraintIn T c ≡ true) (T .constraints)
+  pub comparisons : Each (λ c. comparisonIn T c ≡ true) (T .comparisons)
+  pub levels : Each (λ l. levelIn T l ≡ true) (T .levels)
 
 pub numbers-in : (T : Tables) → Passed T → NumbersIn T
 unfolding numbersIn
@@ -132,10 +136,14 @@ numbers-in T k =
     let f = both-right (all (hoistedIn T) (T .hoisted)) _ e in
     let g = both-right (all (constraintIn T) (T .constraints)) _ f in
     record {
-      types = both-left (all (typeIn T) (T .types)) _ (k .numbers);
-      predicates = both-left (all (predicateIn T) (T .predicates)) _ b;
-      bindings = both-left (all (bindingIn T) (T .bindings)) _ d;
-      levels = both-right (all (comparisonIn T) (T .comparisons)) _ g;
+      types = each-passes (typeIn T) (T .types) (both-left (all (typeIn T) (T .types)) _ (k .numbers));
+      predicates = each-passes (predicateIn T) (T .predicates) (both-left (all (predicateIn T) (T .predicates)) _ b);
+      nodes = each-passes (nodeIn T) (T .nodes) (both-left (all (nodeIn T) (T .nodes)) _ c);
+      bindings = each-passes (bindingIn T) (T .bindings) (both-left (all (bindingIn T) (T .bindings)) _ d);
+      hoisted = each-passes (hoistedIn T) (T .hoisted) (both-left (all (hoistedIn T) (T .hoisted)) _ e);
+      constraints = each-passes (constraintIn T) (T .constraints) (both-left (all (constraintIn T) (T .constraints)) _ f);
+      comparisons = each-passes (comparisonIn T) (T .comparisons) (both-left (all (comparisonIn T) (T .comparisons)) _ g);
+      levels = each-passes (levelIn T) (T .levels) (both-right (all (comparisonIn T) (T .comparisons)) _ g);
     }
 
 fact-in : (T : Tables) (ty : Ty) (p : ℕ) → typeIn T ty ≡ true → factTy ty ≡ some p → p < length (T .predicates)
@@ -166,12 +174,12 @@ unfolding predicateIn bindingIn levelIn pathsFit typesShallow isType isPredicate
 sound T k =
     record {
       children = λ t h. each-both (λ c l d. record { lower = l; in-types = omega arith; less-deep = omega (arith, depth-is T t h (lower-children T k t h)) }) (lower-children T k t h) (deepest-bounds (depths T) (childTypes (typeAt T t)));
-      facts = λ t p h e. fact-in T (typeAt T t) p (each-at (each-passes (typeIn T) (T .types) (n .types)) t Ty.Int h) e;
-      keys = λ p h. ltb-lt _ _ (both-left (isType T (predicateAt T p .key)) _ (each-at (each-passes (predicateIn T) (T .predicates) (n .predicates)) p (record { key = 0; value = none }) h));
+      facts = λ t p h e. fact-in T (typeAt T t) p (each-at (n .types) t Ty.Int h) e;
+      keys = λ p h. ltb-lt _ _ (both-left (isType T (predicateAt T p .key)) _ (each-at (n .predicates) p (record { key = 0; value = none }) h));
       positive = λ t h. omega (arith, depth-is T t h (lower-children T k t h));
       shallow = λ t h. leb-le _ _ (each-at (each-passes (λ d. leb d depthLimit) (depths T) (k .shallow)) t 0 (rw (depths-length T) h));
-      bindings = each-both (λ b g f. slot-ok T (b .slot) (both-right (isName T (b .name)) _ g) f) (each-passes (bindingIn T) (T .bindings) (n .bindings)) (each-passes (λ b. slotFits T (b .slot)) (T .bindings) (both-left (all (λ b. slotFits T (b .slot)) (T .bindings)) _ (k .paths)));
-      levels = each-imply (λ l e. ltb-lt _ _ (both-left (isPredicate T (l .predicate)) _ e)) (each-passes (levelIn T) (T .levels) (n .levels));
+      bindings = each-both (λ b g f. slot-ok T (b .slot) (both-right (isName T (b .name)) _ g) f) (n .bindings) (each-passes (λ b. slotFits T (b .slot)) (T .bindings) (both-left (all (λ b. slotFits T (b .slot)) (T .bindings)) _ (k .paths)));
+      levels = each-imply (λ l e. ltb-lt _ _ (both-left (isPredicate T (l .predicate)) _ e)) (n .levels);
     }
   where
     n : NumbersIn T

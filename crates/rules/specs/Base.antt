@@ -15,10 +15,10 @@ both true b = b
 both false b = false
 
 -- Options: go on with what is there.
-infixl 1 _>>=_
-unfoldable pub _>>=_ : {A B : Type 0} → Option A → (A → Option B) → Option B
-_>>=_ none f = none
-_>>=_ (some a) f = f a
+infixl 1 _whenSome_
+unfoldable pub _whenSome_ : {A B : Type 0} → Option A → (A → Option B) → Option B
+_whenSome_ none f = none
+_whenSome_ (some a) f = f a
 
 -- each element passes
 unfoldable pub all : {A : Type 0} → (A → Bool) → List A → Bool
@@ -61,5 +61,5 @@ bottomUp f sofar [] = sofar
 bottomUp f sofar (x ∷ xs) = bottomUp f (sofar ++ (f sofar x ∷ [])) xs
 
 unfoldable pub openBase : Unit {0}
-unfolding _>>=_ all allFrom filter first lastOr concatMap distinct bottomUp
+unfolding _whenSome_ all allFrom filter first lastOr concatMap distinct bottomUp
 openBase = tt

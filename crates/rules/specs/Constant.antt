@@ -5,7 +5,7 @@ use mathlib.Core.Option.{Option, none, some, Option·getD}
 use Prim.Native.Nat.{ℕ, zero, suc, _+_, _/_, _%_}
 use lib.ListN.{length}
 use lib.Dec.{eqb}
-use Rattle.rules.specs.Base.{_>>=_, first, lastOr}
+use Rattle.rules.specs.Base.{_whenSome_ as _>>=_, first, lastOr}
 use Rattle.rules.specs.File.{Tables, FieldTy, Alternative, Ty, Anchor, FieldPattern, Node, Slot, Binding, varName, nameAt, typeAt}
 use Rattle.rules.specs.File.{nodeAt}
 

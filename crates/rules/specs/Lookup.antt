@@ -4,7 +4,7 @@ use mathlib.Core.List.{List, [], _∷_}
 use mathlib.Core.Option.{Option, none, some}
 use Prim.Native.Nat.{ℕ, suc}
 use lib.Dec.{eqb}
-use Rattle.rules.specs.Base.{both, _>>=_, first}
+use Rattle.rules.specs.Base.{both, _whenSome_ as _>>=_, first}
 use Rattle.rules.specs.File.{Tables, FieldTy, Ty, FieldPath, Slot, typeAt, predicateAt, nodeAt, recordFields, recordTy, fieldPath}
 use Rattle.rules.specs.Constant.{fieldPattern}
 

@@ -4,7 +4,7 @@ use mathlib.Core.List.{List, [], _∷_, _++_}
 use mathlib.Core.Option.{Option, none, some}
 use Prim.Native.Nat.{ℕ, suc, _+_}
 use lib.Dec.{eqb}
-use Rattle.rules.specs.Base.{both, _>>=_}
+use Rattle.rules.specs.Base.{both, _whenSome_ as _>>=_}
 use Rattle.rules.specs.File.{Tables, Anchor, FieldPath, CompareOp, Comparison, nodeAt, varName}
 use Rattle.rules.specs.Constant.{unionTag, term, bytesOnly, constant}
 use Rattle.rules.specs.Lookup.{samePath}

@@ -17,12 +17,13 @@ pub record Answer (S : Type 0) : Type 0 where
 abbrev pub Resolver : Type 0 → Type 0
 Resolver S = S → Answer S
 
-infixl 1 _>>=_
 unfoldable pub follow : {S : Type 0} → Answer S → (Slot → Resolver S) → Answer S
 follow a f = elim (a .slot) [ none ↦ record { slot = none; walk = a .walk } | some s ↦ f s (a .walk) ]
 
-unfoldable pub _>>=_ : {S : Type 0} → Resolver S → (Slot → Resolver S) → Resolver S
-_>>=_ r f = λ w. follow (r w) f
+-- a read that goes on from the slot that another gives
+infixl 1 _whenFound_
+unfoldable pub _whenFound_ : {S : Type 0} → Resolver S → (Slot → Resolver S) → Resolver S
+_whenFound_ r f = λ w. follow (r w) f
 
 unfoldable pub give : {S : Type 0} → Option Slot → Resolver S
 give s = λ w. record { slot = s; walk = w }
@@ -69,9 +70,7 @@ module _ {S : Type 0} (o : Ops S) (T : Tables) where
   fieldSlot n (Slot.Field a path t) x =
       elim (factTy (typeAt T t)) [
         | none ↦ give (slotAt a (then path) (fieldOf (typeAt T t) x))
-        | some p ↦ do
-          row ← dereference n (Slot.Field a path t)
-          fieldOfRow x row
+        | some p ↦ dereference n (Slot.Field a path t) whenFound fieldOfRow x
       ]
   fieldSlot n (Slot.Value a t) x = declined n Code.NyiValueField
   fieldSlot n (Slot.Const c) x = give (foldedSlot T c x)
@@ -117,18 +116,12 @@ module _ {S : Type 0} (o : Ops S) (T : Tables) where
   resolveNode below n (Node.Prefix x) = give none
   resolveNode below n (Node.Fuzzy x d a) = give none
   resolveNode below n (Node.Record fs) = give none
-  resolveNode below n (Node.Access x base) = do
-    slot ← below base
-    place ← dereference n slot
-    fieldSlot n place x
-  resolveNode below n (Node.Value base) = do
-    slot ← below base
-    row ← dereference n slot
-    valueSlot row
-  resolveNode below n (Node.Select x base) = do
-    slot ← below base
-    place ← dereference n slot
-    selectSlot n place x
+  resolveNode below n (Node.Access x base) =
+      below base whenFound λ slot. dereference n slot whenFound λ place. fieldSlot n place x
+  resolveNode below n (Node.Value base) =
+      below base whenFound λ slot. dereference n slot whenFound λ row. valueSlot row
+  resolveNode below n (Node.Select x base) =
+      below base whenFound λ slot. dereference n slot whenFound λ place. selectSlot n place x
   resolveNode below n Node.Disjunction = give none
   resolveNode below n Node.Subquery = give none
   resolveNode below n (Node.Fact p key) = λ w. record { slot = hoistedSlot T (lookup w) n; walk = w }
@@ -145,6 +138,6 @@ module _ {S : Type 0} (o : Ops S) (T : Tables) where
   resolve n = resolveBelow (length (T .nodes)) n
 
 unfoldable pub openResolve : Unit {0}
-unfolding follow _>>=_ give declined fetchedRow dereference fieldOfRow fieldSlot valueSlot selected selectSlot resolveNode resolveBelow
+unfolding follow _whenFound_ give declined fetchedRow dereference fieldOfRow fieldSlot valueSlot selected selectSlot resolveNode resolveBelow
     resolve
 openResolve = tt

@@ -5,7 +5,7 @@ use mathlib.Core.List.{List, []}
 use mathlib.Core.Option.{Option, none, some, Option·getD}
 use native.Mathlib.Omega.{arith}
 use lib.ListN.{length}
-use Rattle.rules.specs.Base.{_>>=_}
+use Rattle.rules.specs.Base.{_whenSome_}
 use Rattle.rules.specs.File as File
 use Rattle.rules.specs.File.{Tables, nameAt}
 use Rattle.rules.specs.Constant as ConstantRules
@@ -76,11 +76,11 @@ module _ (T : Tables) (path : File.FieldPath) (c : Const) (s s₀ : State) where
   by-nothing e q = by-rules none (ap (constOf T) e) q
 
   pub by-bytes : (n t l : ℕ) → c ≡ Co.Bytes n t l → constView T n t ≡ Co.Bytes n t l → s ≡ narrow path (Narrowing.Bytes (constantBytes T n t)) s₀ → s ≡ narrowedBy T (constOf T c) path s₀
-  unfolding constOf narrowedBy narrowBy narrowing constantBytes _>>=_ bytesOnly
+  unfolding constOf narrowedBy narrowBy narrowing constantBytes _whenSome_ bytesOnly
   by-bytes n t l e v q =
       let k = known-bytes T n t n t l v in
       by-rules (some (ConstantRules.Const.Bytes (k .bytes))) (ap (constOf T) e ∙ k .is)
-      (q ∙ ap (λ (o : Option ConstantRules.Const). narrow path (Narrowing.Bytes (Option·getD (o >>= bytesOnly) [])) s₀) (k .is))
+      (q ∙ ap (λ (o : Option ConstantRules.Const). narrow path (Narrowing.Bytes (Option·getD (o whenSome bytesOnly) [])) s₀) (k .is))
 
   pub by-prefix : (x : ℕ) → c ≡ Co.Prefix x → s ≡ narrow path (Narrowing.Prefix (encodePrefix (nameAt T x))) s₀ → s ≡ narrowedBy T (constOf T c) path s₀
   unfolding constOf narrowedBy narrowBy narrowing

@@ -7,14 +7,14 @@ use Prim.Native.Nat.{ℕ, _≤_, min}
 use native.Mathlib.Omega.{arith}
 use lib.Dec.{eqb}
 use lib.ListN.{length}
-use Rattle.rules.specs.Base.{_>>=_}
+use Rattle.rules.specs.Base.{_whenSome_}
 use Rattle.rules.specs.File.{Tables, CompareOp, nodeAt, varName}
 use Rattle.rules.specs.Constant as ConstantRules
 use Rattle.rules.specs.Constant.{bytesOnly}
 use Rattle.rules.specs.Placement.{isVar, flipped}
 use Rattle.views.specs.Views.{opOf}
 use Rattle.views.specs.declared.Anchor.{Anchor}
-use Rattle.views.specs.declared.CompareOp as Code
+use Rattle.views.specs.declared.CompareOp as CodeOp
 use Rattle.views.specs.declared.CompareOp.the-variants as Op
 use Rattle.tables.specs.Tables.{foundOption}
 use Rattle.tables.specs.declared.Found.{Found}
@@ -33,8 +33,8 @@ pub record Known (T : Tables) (n t len : ℕ) : Type 0 where
   pub size : min 65536 (length (constantBytes T n t)) ≡ len
 
 known-of : (T : Tables) (n t m u len : ℕ) (o : Option ConstantRules.Const) → viewOf T n t o ≡ Co.Bytes m u len
-    → ((o >>= bytesOnly) ≡ some (Option·getD (o >>= bytesOnly) [])) × (min 65536 (length (Option·getD (o >>= bytesOnly) [])) ≡ len)
-unfolding _>>=_ bytesOnly
+    → ((o whenSome bytesOnly) ≡ some (Option·getD (o whenSome bytesOnly) [])) × (min 65536 (length (Option·getD (o whenSome bytesOnly) [])) ≡ len)
+unfolding _whenSome_ bytesOnly
 known-of T n t m u len none h = absurd (let z : _≡_ {A = ℕ} 0 1 = cc in omega arith)
 known-of T n t m u len (some (ConstantRules.Const.Bytes bs)) h = (refl, cc)
 known-of T n t m u len (some (ConstantRules.Const.Prefix bs)) h = absurd (let z : _≡_ {A = ℕ} 0 1 = cc in omega arith)
@@ -45,14 +45,14 @@ unfolding constView bytesOf constantBytes
 known T n t m u len e = let k = known-of T n t m u len (ConstantRules.constant T n t) e in record { bytes = k .0; size = k .1 }
 
 -- what is no bytes
-none-of : (T : Tables) (n t : ℕ) (c : Const) (o : Option ConstantRules.Const) → viewOf T n t o ≡ c → ((m u len : ℕ) → c ≡ Co.Bytes m u len → ⊥) → (o >>= bytesOnly) ≡ none
-unfolding _>>=_ bytesOnly
+none-of : (T : Tables) (n t : ℕ) (c : Const) (o : Option ConstantRules.Const) → viewOf T n t o ≡ c → ((m u len : ℕ) → c ≡ Co.Bytes m u len → ⊥) → (o whenSome bytesOnly) ≡ none
+unfolding _whenSome_ bytesOnly
 none-of T n t c none h f = refl
 none-of T n t c (some (ConstantRules.Const.Bytes bs)) h f = absurd (f _ _ _ (sym h))
 none-of T n t c (some (ConstantRules.Const.Prefix bs)) h f = refl
 none-of T n t c (some (ConstantRules.Const.Fuzzy x d a)) h f = refl
 
-pub not-bytes : (T : Tables) (n t : ℕ) (c : Const) → c ≡ constView T n t → ((m u len : ℕ) → c ≡ Co.Bytes m u len → ⊥) → (ConstantRules.constant T n t >>= bytesOnly) ≡ none
+pub not-bytes : (T : Tables) (n t : ℕ) (c : Const) → c ≡ constView T n t → ((m u len : ℕ) → c ≡ Co.Bytes m u len → ⊥) → (ConstantRules.constant T n t whenSome bytesOnly) ≡ none
 unfolding constView
 not-bytes T n t c e f = none-of T n t c (ConstantRules.constant T n t) (sym e) f
 
@@ -97,7 +97,7 @@ module _ (T : Tables) (x n : ℕ) (r : Found) (e : foundOption r ≡ varName (no
   unfolding isVar
   var-none h = ap is (ap foundOption (sym h) ∙ e)
 
-module _ (op : Code.CompareOp) where
+module _ (op : CodeOp.CompareOp) where
   pub lt-flips : op ≡ Op.Lt → CompareOp.Gt ≡ flipped (opOf op)
   unfolding flipped
   lt-flips e = ap (λ o. flipped (opOf o)) (sym e)

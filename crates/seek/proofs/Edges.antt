@@ -6,6 +6,7 @@ use mathlib.Core.Option.{none, some}
 use Prim.Native.Nat.{ℕ}
 use Rattle.rules.specs.File.{Tables}
 use Rattle.rules.specs.Placement.{RangeEdge, Edges, takeHi, takeLo, takeEdge, edge}
+use Rattle.rules.proofs.Cases.{pick}
 use Rattle.state.specs.State.{Ends, State, state}
 use Rattle.state.specs.Ops.{relevel, withEdges}
 use Rattle.views.specs.Views.{opOf}
@@ -15,7 +16,6 @@ use Rattle.seek.specs.Seek.{constantBytes, edgeOf, foldedOf, foldedThen,
 use Rattle.seek.specs.declared.Edge.{Edge}
 use Rattle.seek.specs.declared.Folded.{Folded}
 use Rattle.seek.specs.declared.SeekBuilder.{SeekBuilder}
-use Rattle.seek.proofs.Grows.{pick-true, pick-false}
 
 pub then-other : (other : Bool) (i : ℕ) (f : Folded) → other ≡ true → record { first = f .first; second = i } ≡ foldedThen other i f
 unfolding foldedThen
@@ -74,11 +74,11 @@ module _ (b : SeekBuilder) (T : Tables) (e : Ends) (w p : List ℕ) (i : ℕ) (i
 
   pub keeps-hi : b .hi .set ≡ true → stateOf T b e w p ≡ relevel (λ l. withEdges (takeHi i new (l .edges)) l) (stateOf T b e w p)
   unfolding edgesOf edgeOf
-  keeps-hi h = edges-are b (takeHi i new) refl (sym (hi-set i new (edgesOf T b) _ (pick-true (b .hi .set) _ none h)))
+  keeps-hi h = edges-are b (takeHi i new) refl (sym (hi-set i new (edgesOf T b) _ (pick (b .hi .set) true _ none h)))
 
   pub keeps-lo : b .lo .set ≡ true → stateOf T b e w p ≡ relevel (λ l. withEdges (takeLo i new (l .edges)) l) (stateOf T b e w p)
   unfolding edgesOf edgeOf
-  keeps-lo h = edges-are b (takeLo i new) refl (sym (lo-set i new (edgesOf T b) _ (pick-true (b .lo .set) _ none h)))
+  keeps-lo h = edges-are b (takeLo i new) refl (sym (lo-set i new (edgesOf T b) _ (pick (b .lo .set) true _ none h)))
 
   pub gains-hi : (g : Folded) → b .hi .set ≡ false → g ≡ foldedThen (b .lo .set) i (b .folded)
       → stateOf T (edged b (b .lo) (record { set = true; inclusive = inclusive; node = node; ty = ty }) g) e w p ≡ relevel (λ l. withEdges (takeHi i new (l .edges)) l) (stateOf T b e w p)
@@ -86,7 +86,7 @@ module _ (b : SeekBuilder) (T : Tables) (e : Ends) (w p : List ℕ) (i : ℕ) (i
   gains-hi g h eg =
       edges-are (edged b (b .lo) (record { set = true; inclusive = inclusive; node = node; ty = ty }) g) (takeHi i new) refl
       (ap (λ x. record { lo = edgeOf T (b .lo); hi = some new; folded = x }) (folded-hi (b .lo .set) (b .hi .set) i (b .folded) g h eg)
-      ∙ sym (hi-none i new (edgesOf T b) (pick-false (b .hi .set) _ none h)))
+      ∙ sym (hi-none i new (edgesOf T b) (pick (b .hi .set) false _ none h)))
 
   pub gains-lo : (g : Folded) → b .lo .set ≡ false → g ≡ foldedThen (b .hi .set) i (b .folded)
       → stateOf T (edged b (record { set = true; inclusive = inclusive; node = node; ty = ty }) (b .hi) g) e w p ≡ relevel (λ l. withEdges (takeLo i new (l .edges)) l) (stateOf T b e w p)
@@ -94,7 +94,7 @@ module _ (b : SeekBuilder) (T : Tables) (e : Ends) (w p : List ℕ) (i : ℕ) (i
   gains-lo g h eg =
       edges-are (edged b (record { set = true; inclusive = inclusive; node = node; ty = ty }) (b .hi) g) (takeLo i new) refl
       (ap (λ x. record { lo = some new; hi = edgeOf T (b .hi); folded = x }) (folded-lo (b .lo .set) (b .hi .set) i (b .folded) g h eg)
-      ∙ sym (lo-none i new (edgesOf T b) (pick-false (b .lo .set) _ none h)))
+      ∙ sym (lo-none i new (edgesOf T b) (pick (b .lo .set) false _ none h)))
 
 -- a comparison, by its op
 module _ (i : ℕ) (v : List ℕ) (op : CompareOp) (s r : State) where

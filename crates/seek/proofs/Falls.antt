@@ -12,7 +12,7 @@ use Rattle.rules.specs.Constant.{encodePrefix}
 use Rattle.rules.specs.Lookup.{samePath, sameSteps}
 use Rattle.rules.specs.Placement.{Guide, Range, rangeAt}
 use Rattle.rules.proofs.Cases.{both-left, both-right, eqb-eq, true≢false}
-use Rattle.state.specs.State as Kept
+use Rattle.state.specs.State as InState
 use Rattle.state.specs.State.{Ends, Level, State, state}
 use Rattle.state.specs.Ops.{grow, fall, relevel, skip, narrowed, attachable, withGuide, withRange}
 use Rattle.paths.specs.Paths.{pathOf}
@@ -179,7 +179,7 @@ module _ (b l : SeekBuilder) (s s0 : Sums) (T : Tables) (e : Ends) (w p : List �
   unfolding stateOf levelOf guideOf rangeOf edgesOf fell setIn withGuide attachable
   guides k path name distance anchor ek h a =
       let g : Guide = record { path = pathOf path; term = name; distance = distance; anchor = anchorOf anchor } in
-      let made : Kept.Counts → Option Range → State =
+      let made : InState.Counts → Option Range → State =
       λ c r. state (b .over) e (record { building = false; plain = b .plain; counts = c; guide = some g; range = r; edges = edgesOf T b }) (targetOf (b .target)) w p in
       ap (λ x. stateOf T (guidedAt x k path name distance anchor) e w p) el
       ∙ ap (λ c. made c (rangeOf T (guidedAt (fell b) k path name distance anchor))) (counts-are k ek)
@@ -191,7 +191,7 @@ module _ (b l : SeekBuilder) (s s0 : Sums) (T : Tables) (e : Ends) (w p : List �
   unfolding stateOf levelOf guideOf rangeOf edgesOf fell setIn withRange
   ranges k path name ek h on =
       let r : Range = record { path = pathOf path; prefix = encodePrefix (nameAt T name) } in
-      let made : Kept.Counts → Option Guide → State =
+      let made : InState.Counts → Option Guide → State =
       λ c g. state (b .over) e (record { building = false; plain = b .plain; counts = c; guide = g; range = some r; edges = edgesOf T b }) (targetOf (b .target)) w p in
       ap (λ x. stateOf T (rangedAt x k path name) e w p) el
       ∙ ap (λ c. made c (guideOf (rangedAt (fell b) k path name))) (counts-are k ek)

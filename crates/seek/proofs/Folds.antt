@@ -7,24 +7,23 @@ use Prim.Native.Nat.{ℕ, _+_, _≤_, _<_}
 use native.Mathlib.Numerals.{add-one}
 use lib.ListN.{length, drop, drop-of-length-le}
 use lib.Seq.{drop-cons}
-use Rattle.rules.specs.Base.{both, _>>=_}
+use Rattle.rules.specs.Base.{both, _whenSome_}
 use Rattle.rules.specs.File.{Tables, CompareOp, Comparison}
 use Rattle.rules.specs.Constant as ConstantRules
 use Rattle.rules.specs.Constant.{bytesOnly}
 use Rattle.rules.specs.Checks.{isNode, comparisonIn}
 use Rattle.rules.specs.Placement.{Edges, Compared, Sided, isVar, flipped, compared, sided, takeEdge, foldFrom}
-use Rattle.rules.proofs.Cases.{both-left, both-right, ltb-lt}
+use Rattle.rules.proofs.Cases.{both-left, both-right, ltb-lt, pick}
 use Rattle.rules.proofs.Each.{each-at}
+use Rattle.rules.proofs.Sound.{numbers-in}
 use Rattle.state.specs.State.{Ends, State, state}
 use Rattle.state.specs.Ops.{relevel, withEdges, boundLevel, bound}
 use Rattle.file.specs.Tables.{tablesOf}
 use Rattle.views.specs.Views.{comparisonAt}
 use Rattle.accepted_file.specs.AcceptedFile.{AcceptedFile}
-use Rattle.accepted_file.proofs.Ranges.{numbers-in}
 use Rattle.accepted_file.proofs.Given.{passed}
 use Rattle.seek.specs.Seek.{constantBytes, levelOf, stateOf}
 use Rattle.seek.specs.declared.SeekBuilder.{SeekBuilder}
-use Rattle.seek.proofs.Grows.{pick-true, pick-false}
 use Rattle.seek.proofs.Narrows.{stays, goes}
 use Rattle.encode.specs.Written.{bytesOf}
 use Rattle.seek.specs.Bounds.{edgeBy, foldOne}
@@ -45,7 +44,7 @@ edges-stay f s e = ap (λ x. state (s .over) (s .ends) (withEdges x (s .level)) 
 
 -- one edge, by whether the constant is bytes
 module _ (T : Tables) (i : ℕ) (op : CompareOp) (n t : ℕ) (e : Edges) where
-  pub edge-none : (ConstantRules.constant T n t >>= bytesOnly) ≡ none → edgeBy T i op n t e ≡ e
+  pub edge-none : (ConstantRules.constant T n t whenSome bytesOnly) ≡ none → edgeBy T i op n t e ≡ e
   unfolding edgeBy
   edge-none h = ap (λ o. elim o [ none ↦ e | some value ↦ takeEdge i op value e ]) h
 
@@ -59,32 +58,32 @@ module _ (T : Tables) (x t i : ℕ) (c : Comparison) (e : Edges) where
   taken o = elim o [ none ↦ e | some s ↦ takeEdge i (s .op) (s .value) e ]
 
   one-side : (op : CompareOp) (n : ℕ) (o : Option ConstantRules.Const) → ConstantRules.constant T n t ≡ o
-      → taken (o >>= λ k. bytesOnly k >>= λ value. some (record { op = op; value = value })) ≡ (elim (o >>= bytesOnly) [ none ↦ e | some value ↦ takeEdge i op value e ])
-  unfolding _>>=_ bytesOnly
+      → taken (o whenSome λ k. bytesOnly k whenSome λ value. some (record { op = op; value = value })) ≡ (elim (o whenSome bytesOnly) [ none ↦ e | some value ↦ takeEdge i op value e ])
+  unfolding _whenSome_ bytesOnly
   one-side op n none h = refl
   one-side op n (some (ConstantRules.Const.Bytes bs)) h = refl
   one-side op n (some (ConstantRules.Const.Prefix bs)) h = refl
   one-side op n (some (ConstantRules.Const.Fuzzy y d a)) h = refl
 
   told : (op : CompareOp) (n : ℕ) → compared T x c ≡ some (record { op = op; node = n }) → edgeBy T i op n t e ≡ foldOne T x t i c e
-  unfolding edgeBy foldOne sided _>>=_
+  unfolding edgeBy foldOne sided _whenSome_
   told op n h =
-      sym (ap (λ (o : Option Compared). taken (o >>= λ other. ConstantRules.constant T (other .node) t >>= λ k. bytesOnly k >>= λ value. some (record { op = other .op; value = value }))) h
+      sym (ap (λ (o : Option Compared). taken (o whenSome λ other. ConstantRules.constant T (other .node) t whenSome λ k. bytesOnly k whenSome λ value. some (record { op = other .op; value = value }))) h
       ∙ one-side op n (ConstantRules.constant T n t) refl)
 
   pub fold-left : isVar T x (c .left) ≡ true → edgeBy T i (c .op) (c .right) t e ≡ foldOne T x t i c e
   unfolding compared
-  fold-left h = told (c .op) (c .right) (pick-true (isVar T x (c .left)) _ _ h)
+  fold-left h = told (c .op) (c .right) (pick (isVar T x (c .left)) true _ _ h)
 
   pub fold-right : isVar T x (c .left) ≡ false → isVar T x (c .right) ≡ true → edgeBy T i (flipped (c .op)) (c .left) t e ≡ foldOne T x t i c e
   unfolding compared
-  fold-right h g = told (flipped (c .op)) (c .left) (pick-false (isVar T x (c .left)) _ _ h ∙ pick-true (isVar T x (c .right)) _ _ g)
+  fold-right h g = told (flipped (c .op)) (c .left) (pick (isVar T x (c .left)) false _ _ h ∙ pick (isVar T x (c .right)) true _ _ g)
 
   pub fold-none : isVar T x (c .left) ≡ false → isVar T x (c .right) ≡ false → foldOne T x t i c e ≡ e
-  unfolding foldOne sided compared _>>=_
+  unfolding foldOne sided compared _whenSome_
   fold-none h g =
-      ap (λ (o : Option Compared). taken (o >>= λ other. ConstantRules.constant T (other .node) t >>= λ k. bytesOnly k >>= λ value. some (record { op = other .op; value = value })))
-      (pick-false (isVar T x (c .left)) _ _ h ∙ pick-false (isVar T x (c .right)) _ _ g)
+      ap (λ (o : Option Compared). taken (o whenSome λ other. ConstantRules.constant T (other .node) t whenSome λ k. bytesOnly k whenSome λ value. some (record { op = other .op; value = value })))
+      (pick (isVar T x (c .left)) false _ _ h ∙ pick (isVar T x (c .right)) false _ _ g)
 
 -- both sides are nodes
 module _ (f ix : List ℕ) (r : AcceptedFile f ix) (k : ℕ) (h : k < length (tablesOf f .comparisons)) where
@@ -132,12 +131,12 @@ module _ (T : Tables) (x t : ℕ) where
     pub bound-fallen : b .over ≡ false → b .building ≡ false → stateOf T b e w p ≡ bound T x t (stateOf T b e w p)
     unfolding bound relevel boundLevel stateOf levelOf
     bound-fallen h g =
-        ap (λ l. state (b .over) e l (stateOf T b e w p .target) w p) (sym (pick-false (b .building) (withEdges (foldFrom T x t 0 (T .comparisons) (levelOf T b .edges)) (levelOf T b)) (levelOf T b) g))
+        ap (λ l. state (b .over) e l (stateOf T b e w p .target) w p) (sym (pick (b .building) false (withEdges (foldFrom T x t 0 (T .comparisons) (levelOf T b .edges)) (levelOf T b)) (levelOf T b) g))
         ∙ goes b T e w p (relevel (boundLevel T x t)) h
 
     pub bound-folds : (r : State) → b .over ≡ false → b .building ≡ true → edged (folding 0) (stateOf T b e w p) ≡ r → r ≡ bound T x t (stateOf T b e w p)
     unfolding bound relevel boundLevel stateOf levelOf edged folding
     bound-folds r h g q =
         sym q
-        ∙ ap (λ l. state (b .over) e l (stateOf T b e w p .target) w p) (sym (pick-true (b .building) (withEdges (foldFrom T x t 0 (T .comparisons) (levelOf T b .edges)) (levelOf T b)) (levelOf T b) g))
+        ∙ ap (λ l. state (b .over) e l (stateOf T b e w p .target) w p) (sym (pick (b .building) true (withEdges (foldFrom T x t 0 (T .comparisons) (levelOf T b .edges)) (levelOf T b)) (levelOf T b) g))
         ∙ goes b T e w p (relevel (boundLevel T x t)) h

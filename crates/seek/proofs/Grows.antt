@@ -5,8 +5,8 @@ use mathlib.Core.List.{List}
 use Prim.Native.Nat.{ℕ, min}
 use lib.Seq.{sets}
 use Rattle.rules.specs.File.{Tables}
-use Rattle.rules.proofs.Cases.{true≢false}
-use Rattle.state.specs.State as Kept
+use Rattle.rules.proofs.Cases.{true≢false, pick}
+use Rattle.state.specs.State as InState
 use Rattle.state.specs.State.{Ends, Level, State, state, stop, unless, fits}
 use Rattle.state.specs.Ops.{grow, narrowed, closed}
 use Rattle.records.specs.Records.{put, writtenAt}
@@ -17,20 +17,14 @@ use Rattle.seek.specs.declared.SeekBuilder.{SeekBuilder}
 use Rattle.seek.specs.declared.Placed.{Placed}
 use Rattle.seek.proofs.Fits.{fits-counts}
 
-pub pick-true : {A : Type 0} (b : Bool) (x y : A) → b ≡ true → (elim b [ true ↦ x | false ↦ y ]) ≡ x
-pick-true b x y e = ap (λ t. elim t [ true ↦ x | false ↦ y ]) e
-
-pub pick-false : {A : Type 0} (b : Bool) (x y : A) → b ≡ false → (elim b [ true ↦ x | false ↦ y ]) ≡ y
-pick-false b x y e = ap (λ t. elim t [ true ↦ x | false ↦ y ]) e
-
 -- unless the plan is too long already
 pub unless-over : (f : State → State) (s : State) → s .over ≡ true → s ≡ unless f s
 unfolding unless
-unless-over f s e = sym (pick-true (s .over) s (f s) e)
+unless-over f s e = sym (pick (s .over) true s (f s) e)
 
 pub unless-not : (f : State → State) (s : State) → s .over ≡ false → f s ≡ unless f s
 unfolding unless
-unless-not f s e = sym (pick-false (s .over) s (f s) e)
+unless-not f s e = sym (pick (s .over) false s (f s) e)
 
 -- Equal sizes, or both too long for a plan: a constant's length is known up to a cap alone.
 abbrev pub SameUpToLimit : ℕ → ℕ → Type 0
@@ -42,7 +36,7 @@ resummed plain c l =
     record { building = l .building; plain = plain; counts = sumsOf c; guide = l .guide; range = l .range; edges = l .edges }
 
 -- a closer counts as one, any other part as a narrowing
-abbrev pub counting : Bool → Kept.Counts → Kept.Counts
+abbrev pub counting : Bool → InState.Counts → InState.Counts
 counting true c = closed c
 counting false c = narrowed c
 
@@ -50,11 +44,11 @@ module _ (l : Level) (at : ℕ) (bytes : List ℕ) (s : State) where
   pub grow-yes : countsFit (l .plain) (l .counts) ≡ true
       → grow l at bytes s ≡ state (s .over) (s .ends) l (s .target) (s .work) (elim (s .target .writing) [ true ↦ sets (s .plan) at bytes | false ↦ s .plan ])
   unfolding grow
-  grow-yes e = pick-true (fits l) _ _ (fits-counts l ∙ e)
+  grow-yes e = pick (fits l) true _ _ (fits-counts l ∙ e)
 
   pub grow-no : countsFit (l .plain) (l .counts) ≡ false → grow l at bytes s ≡ stop s
   unfolding grow
-  grow-no e = pick-false (fits l) _ _ (fits-counts l ∙ e)
+  grow-no e = pick (fits l) false _ _ (fits-counts l ∙ e)
 
 pub overruns : (b : SeekBuilder) (T : Tables) (e : Ends) (w p : List ℕ) → stateOf T (overrun b) e w p ≡ stop (stateOf T b e w p)
 unfolding overrun stateOf levelOf guideOf rangeOf edgesOf stop
@@ -69,11 +63,11 @@ module _ (b : SeekBuilder) (plain : Bool) (s : Sums) (at : ℕ) where
 
   grown-yes : countsFit plain (sumsOf s) ≡ true → grownBy plain s at b ≡ yes
   unfolding grownBy
-  grown-yes h = pick-true (countsFit plain (sumsOf s)) yes no h
+  grown-yes h = pick (countsFit plain (sumsOf s)) true yes no h
 
   grown-no : countsFit plain (sumsOf s) ≡ false → grownBy plain s at b ≡ no
   unfolding grownBy
-  grown-no h = pick-false (countsFit plain (sumsOf s)) yes no h
+  grown-no h = pick (countsFit plain (sumsOf s)) false yes no h
 
   pub grown-fit : (k : Counts) → k ≡ counted s → countsFit plain (sumsOf s) ≡ true
       → record { level = recounted plain k b; place = record { write = b .target .writing; joined = b .target .joining; at = at } } ≡ grownBy plain s at b

@@ -11,6 +11,7 @@ use Rattle.rules.specs.Constant.{term}
 use Rattle.rules.specs.Events.{Narrowing}
 use Rattle.rules.specs.Placement.{SeekKeyPart}
 use Rattle.rules.specs.Plan as Plan
+use Rattle.rules.proofs.Cases.{pick}
 use Rattle.state.specs.State.{Ends, State, unless}
 use Rattle.state.specs.Ops.{grow, narrowed, closed, putPart, putResidual, narrowPart, withRange, narrowPrefix, attachable, withGuide, narrowFuzzy, narrowing, narrow, close, closer}
 use Rattle.records.specs.Records.{writtenAt, behind}
@@ -18,7 +19,7 @@ use Rattle.records.specs.declared.Place.{Place}
 use Rattle.records.proofs.Places.{follows, text-written, behind-writes}
 use Rattle.seek.specs.Seek.{countsOf, levelOf, stateOf}
 use Rattle.seek.specs.declared.SeekBuilder.{SeekBuilder}
-use Rattle.seek.proofs.Grows.{pick-true, pick-false, unless-over, unless-not, SameUpToLimit}
+use Rattle.seek.proofs.Grows.{unless-over, unless-not, SameUpToLimit}
 
 module _ (b : SeekBuilder) (T : Tables) (e : Ends) (w p : List ℕ) where
   pub stays : (f : State → State) → b .over ≡ true → stateOf T b e w p ≡ unless f (stateOf T b e w p)
@@ -32,11 +33,11 @@ module _ (b : SeekBuilder) (T : Tables) (e : Ends) (w p : List ℕ) where
   module _ (path : FieldPath) (part : SeekKeyPart) (x : Narrowing) (r : State) (kind : (s : State) → narrowPart part path x s ≡ narrowing path x s) (live : b .over ≡ false) where
     pub as-part : b .building ≡ true → r ≡ putPart part (narrowed (countsOf (b .counts))) (stateOf T b e w p) → r ≡ narrow path x (stateOf T b e w p)
     unfolding narrow narrowPart stateOf levelOf
-    as-part h g = g ∙ sym (pick-true (b .building) _ _ h) ∙ kind (stateOf T b e w p) ∙ goes (narrowing path x) live
+    as-part h g = g ∙ sym (pick (b .building) true _ _ h) ∙ kind (stateOf T b e w p) ∙ goes (narrowing path x) live
 
     pub as-rest : b .building ≡ false → r ≡ putResidual path x (stateOf T b e w p) → r ≡ narrow path x (stateOf T b e w p)
     unfolding narrow narrowPart stateOf levelOf
-    as-rest h g = g ∙ sym (pick-false (b .building) _ _ h) ∙ kind (stateOf T b e w p) ∙ goes (narrowing path x) live
+    as-rest h g = g ∙ sym (pick (b .building) false _ _ h) ∙ kind (stateOf T b e w p) ∙ goes (narrowing path x) live
 
 pub still : (b : SeekBuilder) (T : Tables) (e : Ends) (w p : List ℕ) (path : FieldPath) (x : Narrowing) → b .over ≡ true → stateOf T b e w p ≡ narrow path x (stateOf T b e w p)
 unfolding narrow
@@ -90,19 +91,19 @@ module _ (b : SeekBuilder) (T : Tables) (e : Ends) (w p : List ℕ) where
       pub as-guide : attachable (levelOf T b) path ≡ true
           → r ≡ grow (withGuide (record { path = path; term = x; distance = distance; anchor = anchor }) (levelOf T b)) 0 [] (stateOf T b e w p) → r ≡ narrow path (Narrowing.Fuzzy x distance anchor) (stateOf T b e w p)
       unfolding narrow narrowing narrowFuzzy stateOf
-      as-guide h g = g ∙ sym (pick-true (attachable (levelOf T b) path) _ _ h) ∙ goes b T e w p (narrowing path (Narrowing.Fuzzy x distance anchor)) live
+      as-guide h g = g ∙ sym (pick (attachable (levelOf T b) path) true _ _ h) ∙ goes b T e w p (narrowing path (Narrowing.Fuzzy x distance anchor)) live
 
       pub as-fuzzy : attachable (levelOf T b) path ≡ false → r ≡ putResidual path (Narrowing.Fuzzy x distance anchor) (stateOf T b e w p) → r ≡ narrow path (Narrowing.Fuzzy x distance anchor) (stateOf T b e w p)
       unfolding narrow narrowing narrowFuzzy stateOf
-      as-fuzzy h g = g ∙ sym (pick-false (attachable (levelOf T b) path) _ _ h) ∙ goes b T e w p (narrowing path (Narrowing.Fuzzy x distance anchor)) live
+      as-fuzzy h g = g ∙ sym (pick (attachable (levelOf T b) path) false _ _ h) ∙ goes b T e w p (narrowing path (Narrowing.Fuzzy x distance anchor)) live
 
     pub as-range : (prefix : List ℕ) → b .building ≡ true → r ≡ grow (withRange path prefix (levelOf T b)) 0 [] (stateOf T b e w p) → r ≡ narrow path (Narrowing.Prefix prefix) (stateOf T b e w p)
     unfolding narrow narrowing narrowPrefix stateOf levelOf
-    as-range prefix h g = g ∙ sym (pick-true (b .building) _ _ h) ∙ goes b T e w p (narrowing path (Narrowing.Prefix prefix)) live
+    as-range prefix h g = g ∙ sym (pick (b .building) true _ _ h) ∙ goes b T e w p (narrowing path (Narrowing.Prefix prefix)) live
 
     pub as-prefix : (prefix : List ℕ) → b .building ≡ false → r ≡ putResidual path (Narrowing.Prefix prefix) (stateOf T b e w p) → r ≡ narrow path (Narrowing.Prefix prefix) (stateOf T b e w p)
     unfolding narrow narrowing narrowPrefix stateOf levelOf
-    as-prefix prefix h g = g ∙ sym (pick-false (b .building) _ _ h) ∙ goes b T e w p (narrowing path (Narrowing.Prefix prefix)) live
+    as-prefix prefix h g = g ∙ sym (pick (b .building) false _ _ h) ∙ goes b T e w p (narrowing path (Narrowing.Prefix prefix)) live
 
   -- a closer, by what held before its tag
   module _ (before : State) (held : Bool) (eh : before .level .building ≡ held) where
@@ -113,8 +114,8 @@ module _ (b : SeekBuilder) (T : Tables) (e : Ends) (w p : List ℕ) where
     module _ (live : b .over ≡ false) where
       pub close-none : both held (b .building) ≡ false → stateOf T b e w p ≡ closer before (stateOf T b e w p)
       unfolding closer close stateOf levelOf
-      close-none h = sym (pick-false (both (before .level .building) (b .building)) _ _ (ap (λ t. both t (b .building)) eh ∙ h)) ∙ goes b T e w p (close (before .level .building)) live
+      close-none h = sym (pick (both (before .level .building) (b .building)) false _ _ (ap (λ t. both t (b .building)) eh ∙ h)) ∙ goes b T e w p (close (before .level .building)) live
 
       pub close-part : (r : State) → both held (b .building) ≡ true → r ≡ putPart (SeekKeyPart.Bytes term) (closed (countsOf (b .counts))) (stateOf T b e w p) → r ≡ closer before (stateOf T b e w p)
       unfolding closer close stateOf levelOf
-      close-part r h g = g ∙ sym (pick-true (both (before .level .building) (b .building)) _ _ (ap (λ t. both t (b .building)) eh ∙ h)) ∙ goes b T e w p (close (before .level .building)) live
+      close-part r h g = g ∙ sym (pick (both (before .level .building) (b .building)) true _ _ (ap (λ t. both t (b .building)) eh ∙ h)) ∙ goes b T e w p (close (before .level .building)) live

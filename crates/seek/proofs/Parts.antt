@@ -7,13 +7,13 @@ use native.Mathlib.Omega.{arith}
 use lib.ListN.{length}
 use lib.Dec.{leb}
 use borrow.Author.Tests.{leb-true, leb-false}
-use Rattle.rules.proofs.Cases.{true≢false}
+use Rattle.rules.proofs.Cases.{true≢false, pick}
 use Rattle.rules.specs.Base.{both}
 use Rattle.rules.specs.File.{Tables, FieldPath}
 use Rattle.rules.specs.Events.{Narrowing}
 use Rattle.rules.specs.Placement.{SeekKeyPart}
 use Rattle.rules.specs.Plan as Plan
-use Rattle.state.specs.State as Kept
+use Rattle.state.specs.State as InState
 use Rattle.state.specs.State.{Ends, Level, State, counts}
 use Rattle.state.specs.Ops.{grow, narrowed, closed, recount, isBytes, partText, withPart, partAt, partForm, putPart, putResidual}
 use Rattle.records.specs.Records.{writtenAt, formOf}
@@ -23,7 +23,7 @@ use Rattle.seek.specs.declared.Sums.{Sums}
 use Rattle.seek.specs.declared.SeekBuilder.{SeekBuilder}
 use Rattle.seek.specs.declared.Placed.{Placed}
 use Rattle.seek.proofs.Fits.{too-long}
-use Rattle.seek.proofs.Grows.{pick-true, pick-false, grow-no, grown-joined, grown-at, grown-fits, grown-is, SameUpToLimit, resummed, counting}
+use Rattle.seek.proofs.Grows.{grow-no, grown-joined, grown-at, grown-fits, grown-is, SameUpToLimit, resummed, counting}
 
 pub sums-same : (c : Counts) (n l o r j f x : ℕ) → n ≡ c .narrowings → l ≡ c .closers → o ≡ c .others → r ≡ c .residuals → j ≡ c .joined → f ≡ c .framed → x ≡ c .rest
     → record { narrowings = n; closers = l; others = o; residuals = r; joined = j; framed = f; rest = x } ≡ summed c
@@ -40,7 +40,7 @@ unfolding partSums
 sums-other closer text frame s e = ap (λ t. partSums t text frame s) (sym e)
 
 -- the counts of the written state
-more-counts : (closer : Bool) (c : Counts) (text frame : ℕ) (k : Kept.Counts) → k ≡ counting closer (countsOf c)
+more-counts : (closer : Bool) (c : Counts) (text frame : ℕ) (k : InState.Counts) → k ≡ counting closer (countsOf c)
     → sumsOf (partSums closer text frame (summed c)) ≡ counts (k .narrowings) (k .closers) (k .parts + 1) (k .residuals) (k .joined + text) (k .parted + (text + frame)) (k .rest)
 unfolding sumsOf partSums countsOf narrowed closed
 more-counts true c text frame k e =
@@ -49,21 +49,21 @@ more-counts true c text frame k e =
     let e2 : c .joined + text + (c .framed + frame) ≡ c .joined + c .framed + (text + frame) = omega arith in
     ap (λ (i : ℕ). counts (c .narrowings) (c .closers + 1) i (c .residuals) (c .joined + text) (c .joined + text + (c .framed + frame)) (c .rest)) e1
     ∙ ap (λ (i : ℕ). counts (c .narrowings) (c .closers + 1) (n + 1) (c .residuals) (c .joined + text) i (c .rest)) e2
-    ∙ ap (λ (x : Kept.Counts). counts (x .narrowings) (x .closers) (x .parts + 1) (x .residuals) (x .joined + text) (x .parted + (text + frame)) (x .rest)) (sym e)
+    ∙ ap (λ (x : InState.Counts). counts (x .narrowings) (x .closers) (x .parts + 1) (x .residuals) (x .joined + text) (x .parted + (text + frame)) (x .rest)) (sym e)
 more-counts false c text frame k e =
     let n : ℕ = c .closers + c .others in
     let e1 : c .closers + (c .others + 1) ≡ c .closers + c .others + 1 = omega arith in
     let e2 : c .joined + text + (c .framed + frame) ≡ c .joined + c .framed + (text + frame) = omega arith in
     ap (λ (i : ℕ). counts (c .narrowings + 1) (c .closers) i (c .residuals) (c .joined + text) (c .joined + text + (c .framed + frame)) (c .rest)) e1
     ∙ ap (λ (i : ℕ). counts (c .narrowings + 1) (c .closers) (n + 1) (c .residuals) (c .joined + text) i (c .rest)) e2
-    ∙ ap (λ (x : Kept.Counts). counts (x .narrowings) (x .closers) (x .parts + 1) (x .residuals) (x .joined + text) (x .parted + (text + frame)) (x .rest)) (sym e)
+    ∙ ap (λ (x : InState.Counts). counts (x .narrowings) (x .closers) (x .parts + 1) (x .residuals) (x .joined + text) (x .parted + (text + frame)) (x .rest)) (sym e)
 
 more-level : (closer bytes : Bool) (c : Counts) (text frame : ℕ) (part : SeekKeyPart) (l : Level) → isBytes part ≡ bytes → length (partText part) ≡ text → length (Plan.part part) ≡ text + frame
     → resummed (both (l .plain) bytes) (partSums closer text frame (summed c)) l ≡ withPart part (counting closer (countsOf c)) l
 unfolding resummed withPart
 more-level closer bytes c text frame part l eb et ef =
-    let k : Kept.Counts = counting closer (countsOf c) in
-    let made : Bool → Kept.Counts → Level = λ p n. record { building = l .building; plain = both (l .plain) p; counts = n; guide = l .guide; range = l .range; edges = l .edges } in
+    let k : InState.Counts = counting closer (countsOf c) in
+    let made : Bool → InState.Counts → Level = λ p n. record { building = l .building; plain = both (l .plain) p; counts = n; guide = l .guide; range = l .range; edges = l .edges } in
     ap (λ p. made p (sumsOf (partSums closer text frame (summed c)))) (sym eb)
     ∙ ap (made (isBytes part)) (more-counts closer c text frame k refl
     ∙ ap (λ (i : ℕ). counts (k .narrowings) (k .closers) (k .parts + 1) (k .residuals) (k .joined + i) (k .parted + (text + frame)) (k .rest)) (sym et)
@@ -118,13 +118,13 @@ module _ (b : SeekBuilder) where
   unfolding partPlace
   at-joined x y j ex ey =
       let f : x + y ≡ b .target .parts + b .counts .joined = omega arith in
-      f ∙ ap (λ (i : ℕ). b .target .parts + i) (sym (pick-true (b .target .joining) (b .counts .joined) (b .counts .joined + b .counts .framed) j))
+      f ∙ ap (λ (i : ℕ). b .target .parts + i) (sym (pick (b .target .joining) true (b .counts .joined) (b .counts .joined + b .counts .framed) j))
 
   pub at-parted : (x y z : ℕ) → b .target .joining ≡ false → x ≡ b .target .parts → y ≡ b .counts .joined → z ≡ b .counts .framed → x + y + z ≡ partPlace b
   unfolding partPlace
   at-parted x y z j ex ey ez =
       let f : x + y + z ≡ b .target .parts + (b .counts .joined + b .counts .framed) = omega arith in
-      f ∙ ap (λ (i : ℕ). b .target .parts + i) (sym (pick-false (b .target .joining) (b .counts .joined) (b .counts .joined + b .counts .framed) j))
+      f ∙ ap (λ (i : ℕ). b .target .parts + i) (sym (pick (b .target .joining) false (b .counts .joined) (b .counts .joined + b .counts .framed) j))
 
   pub at-rest : (x y : ℕ) → x ≡ b .target .rest → y ≡ b .counts .rest → x + y ≡ restPlace b
   unfolding restPlace

@@ -1,14 +1,14 @@
 -- What one comparison does to a level's edges.
 use mathlib.Core.Option.{none, some}
 use Prim.Native.Nat.{ℕ}
-use Rattle.rules.specs.Base.{_>>=_}
+use Rattle.rules.specs.Base.{_whenSome_}
 use Rattle.rules.specs.File.{Tables, CompareOp, Comparison}
 use Rattle.rules.specs.Constant.{constant, bytesOnly}
 use Rattle.rules.specs.Placement.{Edges, takeEdge, sided}
 
 -- an edge at node n's constant, if that is bytes
 unfoldable pub edgeBy : Tables → ℕ → CompareOp → ℕ → ℕ → Edges → Edges
-edgeBy T i op n t e = elim (constant T n t >>= bytesOnly) [ none ↦ e | some value ↦ takeEdge i op value e ]
+edgeBy T i op n t e = elim (constant T n t whenSome bytesOnly) [ none ↦ e | some value ↦ takeEdge i op value e ]
 
 -- comparison i of Var x
 unfoldable pub foldOne : Tables → ℕ → ℕ → ℕ → Comparison → Edges → Edges

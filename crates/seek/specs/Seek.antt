@@ -3,12 +3,12 @@ use mathlib.Core.Bool.{Bool, true, false}
 use mathlib.Core.List.{List, [], _∷_}
 use mathlib.Core.Option.{Option, none, some, Option·getD}
 use Prim.Native.Nat.{ℕ, _+_, _<_}
-use Rattle.rules.specs.Base.{_>>=_, both}
+use Rattle.rules.specs.Base.{_whenSome_, both}
 use Rattle.rules.specs.File.{Tables, nameAt}
 use Rattle.rules.specs.Constant.{constant, bytesOnly, encodePrefix}
 use Rattle.rules.specs.Placement as Placement
 use Rattle.rules.specs.Placement.{RangeEdge, Edges}
-use Rattle.state.specs.State as Kept
+use Rattle.state.specs.State as InState
 use Rattle.state.specs.State.{Ends, Level, State, state, counts, fits}
 use Rattle.paths.specs.Paths.{pathOf}
 use Rattle.views.specs.Views.{anchorOf}
@@ -21,7 +21,7 @@ use Rattle.seek.specs.declared.SeekBuilder.{SeekBuilder}
 use Rattle.seek.specs.declared.Placed.{Placed}
 
 -- Parts are closers and others; their plan form is what they join to and what frames it. So no sum needs a bound of its own.
-unfoldable pub sumsOf : Sums → Kept.Counts
+unfoldable pub sumsOf : Sums → InState.Counts
 sumsOf c =
     let parts = c .closers + c .others in
     let parted = c .joined + c .framed in
@@ -56,7 +56,7 @@ counted c =
 unfoldable pub noCounts : Counts
 noCounts = record { narrowings = 0; closers = 0; others = 0; residuals = 0; joined = 0; framed = 0; rest = 0 }
 
-unfoldable pub countsOf : Counts → Kept.Counts
+unfoldable pub countsOf : Counts → InState.Counts
 countsOf c = sumsOf (summed c)
 
 pub record Below (limit : ℕ) (c : Sums) : Type 0 where
@@ -84,7 +84,7 @@ rangeOf T b =
 
 -- A constant stays a position until it is written.
 unfoldable pub constantBytes : Tables → ℕ → ℕ → List ℕ
-constantBytes T n t = Option·getD (constant T n t >>= bytesOnly) []
+constantBytes T n t = Option·getD (constant T n t whenSome bytesOnly) []
 
 unfoldable pub edgeOf : Tables → Edge → Option RangeEdge
 edgeOf T e =
@@ -118,7 +118,7 @@ levelOf T b =
       edges = edgesOf T b;
     }
 
-abbrev pub targetOf : Target → Kept.Target
+abbrev pub targetOf : Target → InState.Target
 targetOf t = record { writing = t .writing; joining = t .joining; partsAt = t .parts; restAt = t .rest }
 
 unfoldable pub stateOf : Tables → SeekBuilder → Ends → List ℕ → List ℕ → State
@@ -128,7 +128,7 @@ unfoldable pub partsSize : Bool → Sums → ℕ
 partsSize plain c = elim plain [ true ↦ c .joined | false ↦ c .joined + c .framed ]
 
 -- whether a level with these counts fits a plan
-unfoldable pub countsFit : Bool → Kept.Counts → Bool
+unfoldable pub countsFit : Bool → InState.Counts → Bool
 countsFit plain c =
     let edges : Edges = record { lo = none; hi = none; folded = [] } in
     fits (record { building = true; plain = plain; counts = c; guide = none; range = none; edges = edges })

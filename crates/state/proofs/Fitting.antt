@@ -6,12 +6,13 @@ use mathlib.Core.Path.{_≡_, refl, ap}
 use Prim.Native.Nat.{ℕ, _<_}
 use lib.Dec.{leb, ltb, T as Passes, le→leb, lt→ltb}
 use lib.ListN.{length}
-use Rattle.rules.specs.Base.{Each, both}
+use Rattle.rules.specs.Base.{Each}
 use Rattle.rules.specs.File.{Tables, Slot, Binding}
 use Rattle.rules.specs.Constant.{lookup}
 use Rattle.rules.specs.Checks.{isType, isPredicate, noneOr}
 use Rattle.rules.proofs.Sound.{Sound, SlotOk, BindingOk}
 use Rattle.rules.proofs.Keeps.{lookup-ok}
+use Rattle.rules.proofs.Cases.{both-true}
 use Rattle.state.specs.Ops.{roomy, checkedSlot}
 
 passes-true : (b : Bool) → Passes b → b ≡ true
@@ -22,10 +23,6 @@ row-roomy : (T : Tables) (p : Option ℕ) → ((q : ℕ) → p ≡ some q → q 
 unfolding noneOr isPredicate
 row-roomy T none h = refl
 row-roomy T (some q) h = passes-true _ (lt→ltb q _ (h q refl))
-
-both-true : (a b : Bool) → a ≡ true → b ≡ true → both a b ≡ true
-both-true true b e f = f
-both-true false b e f = e
 
 slot-roomy : (T : Tables) (s : Slot) → SlotOk T s → roomy T s ≡ true
 unfolding roomy isType

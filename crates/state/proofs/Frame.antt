@@ -7,7 +7,7 @@ use Prim.Native.Nat.{ℕ, suc, _+_, _≤_, _<_}
 use native.Mathlib.Omega.{arith}
 use lib.ListN.{length, set, length-append}
 use lib.Seq.{sets, set-comm}
-use Rattle.rules.specs.Base.{_>>=_, all, concatMap}
+use Rattle.rules.specs.Base.{_whenSome_, all, concatMap}
 use Rattle.rules.specs.Placement.{SeekKeyPart, Range, RangeEdge, SeekBuilder, SeekKey, joined, unranged, seek, seekKey}
 use Rattle.rules.specs.Plan as Plan
 use Rattle.rules.proofs.Cases.{by-test, true≢false}
@@ -49,14 +49,14 @@ module _ {A : Type 0} where
 
 -- All parts are bytes just where they join.
 joined-plain : (parts : List SeekKeyPart) → all isBytes parts ≡ true → joined parts ≡ some (concatMap partText parts)
-unfolding joined concatMap partText isBytes all _>>=_
+unfolding joined concatMap partText isBytes all _whenSome_
 joined-plain [] e = refl
 joined-plain (SeekKeyPart.Bytes bytes ∷ parts) e = rw (joined-plain parts e) refl
 joined-plain (SeekKeyPart.RegisterField address path ∷ parts) e = absurd (true≢false (sym e))
 joined-plain (SeekKeyPart.RegisterFactId address ∷ parts) e = absurd (true≢false (sym e))
 
 joined-none : (parts : List SeekKeyPart) → all isBytes parts ≡ false → joined parts ≡ none
-unfolding joined isBytes all _>>=_
+unfolding joined isBytes all _whenSome_
 joined-none [] e = absurd (true≢false e)
 joined-none (SeekKeyPart.Bytes bytes ∷ parts) e = rw (joined-none parts e) refl
 joined-none (SeekKeyPart.RegisterField address path ∷ parts) e = refl

@@ -24,6 +24,7 @@ use Rattle.rules.proofs.Lists.{AddsTo, adds-keeps}
 use Rattle.rules.proofs.Numbers.{Bounded}
 use Rattle.rules.proofs.Runs.{goes-key}
 use Rattle.rules.proofs.Sound.{BindingOk, Sound}
+use Rattle.rules.proofs.ReaderTables.{PathWithin}
 use Rattle.state.specs.State.{Ends, Target, State, newLevel, measuring, stop}
 use Rattle.state.specs.Ops.{ops}
 use Rattle.state.specs.Levels.{levelEnd, frame, bare, framed, Written, writtenTo, begin, walked, rewritten, measured, level}
@@ -32,7 +33,7 @@ use Rattle.state.proofs.Mem.{Mem, mem-back}
 use Rattle.state.proofs.Sizes.{summary, weight, Sane}
 use Rattle.state.proofs.Growth.{built, met, listSize, Grew, grew-keeps}
 use Rattle.state.proofs.Rel.{formAs, planAs, Good, Rel, of-good}
-use Rattle.state.proofs.Sim.{PathWithin, Name, numbers, simulates}
+use Rattle.state.proofs.Sim.{Name, numbers, simulates}
 use Rattle.state.proofs.Frame.{leveled, writeAt, level-written, level-end, level-weight}
 
 -- an entry that an accepted file may have

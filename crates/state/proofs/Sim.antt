@@ -8,21 +8,22 @@ use native.Mathlib.Nat.{add-zero}
 use native.Mathlib.Omega.{arith}
 use lib.ListN.{length, drop}
 use lib.Seq.{drop-append-seam}
-use Rattle.rules.specs.Base.{Each, done, concatMap}
-use Rattle.rules.specs.File.{Tables, FieldTy, Alternative, Ty, FieldPath, Slot, Binding, typeAt, nodeAt, recordTy, unionTy, fieldPath, then, payload}
+use Rattle.rules.specs.Base.{Each, concatMap}
+use Rattle.rules.specs.File.{Tables, FieldTy, Alternative, Ty, FieldPath, Slot, Binding, typeAt, nodeAt, recordTy, unionTy, payload}
 use Rattle.rules.specs.Events.{Code, Select, Diagnostic, Narrowing, Event, Lists, Walk, bind, constrained, select, report, emit}
 use Rattle.rules.specs.Walk.{narrowing}
 use Rattle.rules.specs.Placement.{SeekBuilder, place, placeNarrowing, placeBound, fall, closePart, withOpened}
 use Rattle.rules.specs.Levels.{narrowings}
 use Rattle.rules.specs.Plan as Plan
 use Rattle.rules.proofs.Cases.{some≢none, some-injective}
-use Rattle.rules.proofs.Each.{each-imply, each-getD, each-snoc, each-all}
+use Rattle.rules.proofs.Each.{each-imply, each-getD, each-all}
 use Rattle.rules.proofs.Keeps.{narrow, skip}
 use Rattle.rules.proofs.Numbers.{TypeNumbers, NodeNumbers, Bounded}
 use Rattle.rules.proofs.RoundTrip.{PathNumbers, BindingNumbers}
 use Rattle.rules.proofs.Runs.{Numbers, Stands, Sim}
 use Rattle.state.specs.State.{Level, Target, State, unless, made, constrainedAt, selectsAt, diagnosticsAt, runsEnd}
 use Rattle.rules.proofs.Sound.{Sound}
+use Rattle.rules.proofs.ReaderTables.{PathWithin, first-within, then-within}
 use Rattle.state.specs.Ops as Ops
 use Rattle.state.specs.Ops.{ops}
 use Rattle.state.proofs.Seqs.{length-snoc, length-least}
@@ -33,11 +34,6 @@ use Rattle.state.proofs.Mem.{mem-bind, mem-constrain, mem-select, mem-r
 use Rattle.state.proofs.Sizes.{summary, Sane}
 use Rattle.state.proofs.Growth.{built, met, built-emit, met-emit, listSize, Grew, Larger, larger, grew-bind, grew-constrained, grew-select, grew-report, grew-skip, grew-bound, grew-constant, grew-register, grew-fact, larger-tag, larger-closer, built-closer}
 use Rattle.state.proofs.Rel.{Good, RelAt, Rel, rel-stays, rel-unless, rel-append, rel-counted, rel-fall, rel-bound, rel-close, rel-narrowing, good-opened}
-
--- The walk's own paths: fields and steps within their fields.
-pub record PathWithin (p : FieldPath) : Type 0 where
-  pub field : p .field < 65536
-  pub steps : Each (λ n. n < 4294967296) (p .steps)
 
 abbrev pub Name : ℕ → Type 0
 Name x = x < 65536
@@ -68,22 +64,14 @@ union-discs (Ty.Fact p) alts h e = absurd (some≢none alts (sym e))
 union-discs (Ty.Record fs) alts h e = absurd (some≢none alts (sym e))
 union-discs (Ty.Union as′) alts h e = subst (λ (x : List Alternative). Each (λ a. a .disc < 4294967296) x) (some-injective as′ alts e) h
 
-within-then : (p : FieldPath) (i : ℕ) → PathWithin p → i < 4294967296 → PathWithin (then p i)
-unfolding then
-within-then p i h l = record { field = h .field; steps = each-snoc (h .steps) l }
-
-within-first : (i : ℕ) → i < 65536 → PathWithin (fieldPath i)
-unfolding fieldPath
-within-first i h = record { field = h; steps = done }
-
 pub numbers : (T : Tables) → Bounded T → Numbers T PathWithin Name
 unfolding payload
 numbers T b =
     record {
-      scalar = within-first 0 (omega arith);
-      first = λ t i fs e l. within-first i (omega (arith, record-few (typeAt T t) fs (type-numbers T b t) e));
-      next = λ p t i fs h e l. within-then p i h (omega (arith, record-few (typeAt T t) fs (type-numbers T b t) e));
-      tag = λ p t alts h e. each-imply (λ a d. within-then p (a .disc) h d) (union-discs (typeAt T t) alts (type-numbers T b t) e);
+      scalar = first-within 0 (omega arith);
+      first = λ t i fs e l. first-within i (omega (arith, record-few (typeAt T t) fs (type-numbers T b t) e));
+      next = λ p t i fs h e l. then-within p i h (omega (arith, record-few (typeAt T t) fs (type-numbers T b t) e));
+      tag = λ p t alts h e. each-imply (λ a d. then-within p (a .disc) h d) (union-discs (typeAt T t) alts (type-numbers T b t) e);
       names = λ n x e. subst NodeNumbers e (node-numbers T b n);
     }
 

@@ -1,7 +1,7 @@
 -- What a level's parts and residuals come to in bytes, the level that the memory keeps of them, and when it fits.
 use mathlib.Core.Bool.{Bool, true, false}
 use mathlib.Core.List.{List, [], _∷_, _++_}
-use mathlib.Core.Option.{Option, none, some}
+use mathlib.Core.Option.{none}
 use mathlib.Core.Path.{_≡_, refl, sym, _∙_}
 use Prim.Native.Nat.{ℕ, _+_, _*_, _≤_, _<_}
 use native.Mathlib.Omega.{arith}
@@ -13,7 +13,8 @@ use Rattle.rules.specs.Limits.{planLimit}
 use Rattle.rules.specs.Placement.{SeekKeyPart, Residual, SeekBuilder}
 use Rattle.rules.specs.Plan as Plan
 use Rattle.rules.specs.Demand3.{number}
-use Rattle.rules.proofs.Cases.{by-test, true≢false, leb-le, both-left, both-right}
+use Rattle.rules.proofs.Cases.{by-test, true≢false, leb-le, both-left, both-right, both-true}
+use Rattle.rules.proofs.Kept.{most-one}
 use Rattle.rules.proofs.Each.{each-all}
 use Rattle.state.specs.State.{counts, Level, partBytes, fits}
 use Rattle.state.specs.Ops.{partText, isBytes}
@@ -123,15 +124,6 @@ pub record Sane (n : ℕ) (b : SeekBuilder) : Type 0 where
   pub no-guide : b .building ≡ true → b .guide ≡ none
   pub solid : Each Solid (b .parts)
   pub counted : n ≤ length (b .parts) + length (b .residuals) + number (b .range) + number (b .guide)
-
-most-one : {A : Type 0} (o : Option A) → number o ≤ 1
-unfolding number
-most-one none = omega arith
-most-one (some a) = omega arith
-
-both-true : (a b : Bool) → a ≡ true → b ≡ true → both a b ≡ true
-both-true true b g h = h
-both-true false b g h = absurd (true≢false (sym g))
 
 -- parts that are not too many bytes are not too many
 record Few (parts : List SeekKeyPart) : Type 0 where

@@ -6,7 +6,8 @@ use Prim.Native.Nat.{ℕ, zero, suc, _≤_}
 use native.Mathlib.Omega.{arith}
 use lib.ListN.{length}
 use Rattle.rules.specs.File.{Tables, Ty, Node, FieldPattern, typeAt, nodeAt}
-use Rattle.rules.specs.Constant.{Const, bytesOnly, alternativeOf, onlyField, encodeInt, encodePrefix, encodeStr, encodeBytes, encodeRecord, unionTag, encodeUnion, atInt, atStr, atBytes, constantFields, constantRecord, constantNode, constantBelow, constant, standsFor}
+use Rattle.rules.specs.Constant.{Const, bytesOnly, alternativeOf, onlyField, encodeInt, encodePrefix, encodeStr, encodeBytes, encodeRecord, unionTag, encodeUnion, constantFields, constantRecord, constantNode, constantBelow, constant, standsFor}
+use Rattle.rules.proofs.Scalars.{at-int, at-str, at-bytes}
 use Rattle.rules.proofs.Each.{Perhaps, nothing, just, perhaps-bind, perhaps-any, perhaps-some}
 
 -- the bytes that a part would hold
@@ -14,33 +15,6 @@ abbrev pub ConstSolid : Const → Type 0
 ConstSolid (Const.Bytes bytes) = 1 ≤ length bytes
 ConstSolid (Const.Prefix bytes) = Unit {0}
 ConstSolid (Const.Fuzzy x distance anchor) = Unit {0}
-
-at-int : (ty : Ty) (c : Const) → ConstSolid c → Perhaps ConstSolid (atInt ty c)
-unfolding atInt
-at-int Ty.Int c h = just h
-at-int Ty.Str c h = nothing
-at-int Ty.Bytes c h = nothing
-at-int (Ty.Fact p) c h = nothing
-at-int (Ty.Record fs) c h = nothing
-at-int (Ty.Union alts) c h = nothing
-
-at-str : (ty : Ty) (c : Const) → ConstSolid c → Perhaps ConstSolid (atStr ty c)
-unfolding atStr
-at-str Ty.Int c h = nothing
-at-str Ty.Str c h = just h
-at-str Ty.Bytes c h = nothing
-at-str (Ty.Fact p) c h = nothing
-at-str (Ty.Record fs) c h = nothing
-at-str (Ty.Union alts) c h = nothing
-
-at-bytes : (ty : Ty) (c : Const) → ConstSolid c → Perhaps ConstSolid (atBytes ty c)
-unfolding atBytes
-at-bytes Ty.Int c h = nothing
-at-bytes Ty.Str c h = nothing
-at-bytes Ty.Bytes c h = just h
-at-bytes (Ty.Fact p) c h = nothing
-at-bytes (Ty.Record fs) c h = nothing
-at-bytes (Ty.Union alts) c h = nothing
 
 record-solid : (below : ℕ → ℕ → Option Const) (fields : List FieldPattern) (ty : Ty) → Perhaps ConstSolid (constantRecord below fields ty)
 unfolding constantRecord encodeRecord encodeUnion unionTag
@@ -57,14 +31,14 @@ record-solid below fields (Ty.Union alts) =
 
 node-solid : (T : Tables) (below : ℕ → ℕ → Option Const) (node : Node) (ty : Ty) → Perhaps ConstSolid (constantNode T below node ty)
 unfolding constantNode encodeInt encodeStr encodePrefix encodeBytes
-node-solid T below (Node.Int bytes) ty = at-int ty _ (omega arith)
-node-solid T below (Node.Str x) ty = at-str ty _ (omega arith)
-node-solid T below (Node.Bytes bytes) ty = at-bytes ty _ (omega arith)
+node-solid T below (Node.Int bytes) ty = at-int ConstSolid ty _ (omega arith)
+node-solid T below (Node.Str x) ty = at-str ConstSolid ty _ (omega arith)
+node-solid T below (Node.Bytes bytes) ty = at-bytes ConstSolid ty _ (omega arith)
 node-solid T below (Node.Var x) ty = nothing
 node-solid T below Node.Wildcard ty = nothing
 node-solid T below Node.Never ty = nothing
-node-solid T below (Node.Prefix x) ty = at-str ty _ tt
-node-solid T below (Node.Fuzzy x d a) ty = at-str ty _ tt
+node-solid T below (Node.Prefix x) ty = at-str ConstSolid ty _ tt
+node-solid T below (Node.Fuzzy x d a) ty = at-str ConstSolid ty _ tt
 node-solid T below (Node.Record fs) ty = record-solid below fs ty
 node-solid T below (Node.Access x n) ty = nothing
 node-solid T below (Node.Value n) ty = nothing

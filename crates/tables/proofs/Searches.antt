@@ -9,7 +9,7 @@ use native.Mathlib.Omega.{arith}
 use lib.Dec.{eqb}
 use lib.ListN.{length, getD}
 use borrow.Author.Tests.{eq-eqb, ne-eqb}
-use Rattle.rules.specs.Base.{Each, more, first, lastOr, _>>=_}
+use Rattle.rules.specs.Base.{Each, more, first, lastOr, _whenSome_}
 use Rattle.rules.specs.File.{Tables, Binding, Slot, nodeAt, varName}
 use Rattle.rules.specs.File as File
 use Rattle.rules.specs.Constant as Constant
@@ -18,11 +18,10 @@ use Rattle.rules.specs.Checks.{isName, bindingIn}
 use Rattle.rules.proofs.Cases.{ltb-lt, both-left}
 use Rattle.rules.proofs.Choices.{by-test₂}
 use Rattle.rules.proofs.Each.{each-imply}
-use Rattle.rules.proofs.Sound.{Passed}
+use Rattle.rules.proofs.Sound.{Passed, numbers-in}
 use Rattle.file.specs.Tables.{lastFrom, lastBinding}
 use Rattle.views.specs.Views.{run, alternativeAt, patternAt, alternativeOf, patternOf, slotViewed, bindingAt, SeenBinding}
 use Rattle.accepted_file.specs.AcceptedFile.{flag}
-use Rattle.accepted_file.proofs.Ranges.{numbers-in}
 use Rattle.tables.specs.Tables.{SeenSlot, constBound}
 use Rattle.tables.specs.declared.MaybeSlotView.{MaybeSlotView}
 use Rattle.tables.specs.declared.MaybeSlotView.the-variants as Ms
@@ -84,14 +83,14 @@ module _ (f : List ℕ) (n at x k : ℕ) where
     pattern-more v h e d = record { within = omega arith; same = s .same ∙ first-more (named x) (patternAt f) 4 n at k h (ap (named x) (sym e) ∙ ne-eqb (v .name) x d) }
 
     pub pattern-hit : (v : FieldPattern) → k < n → patternOf v ≡ patternAt f (at + 4 * k) → v .name ≡ x → some (v .node) ≡ fieldPattern (run (patternAt f) 4 n at) x
-    unfolding fieldPattern _>>=_
+    unfolding fieldPattern _whenSome_
     pattern-hit v h e d =
         ap (λ (q : File.FieldPattern). some (q .node)) e
-        ∙ sym (ap (λ (o : Option File.FieldPattern). o >>= λ q. some (q .node)) (s .same ∙ first-hit (named x) (patternAt f) 4 n at k h (ap (named x) (sym e) ∙ eq-eqb (v .name) x d)))
+        ∙ sym (ap (λ (o : Option File.FieldPattern). o whenSome λ q. some (q .node)) (s .same ∙ first-hit (named x) (patternAt f) 4 n at k h (ap (named x) (sym e) ∙ eq-eqb (v .name) x d)))
 
     pub pattern-end : n ≤ k → none ≡ fieldPattern (run (patternAt f) 4 n at) x
-    unfolding fieldPattern _>>=_
-    pattern-end h = sym (ap (λ (o : Option File.FieldPattern). o >>= λ q. some (q .node)) (s .same ∙ first-end (named x) (patternAt f) 4 n at k h))
+    unfolding fieldPattern _whenSome_
+    pattern-end h = sym (ap (λ (o : Option File.FieldPattern). o whenSome λ q. some (q .node)) (s .same ∙ first-end (named x) (patternAt f) 4 n at k h))
 
   module _ (s : Seeking (called x) (alternativeAt f) 8 n at k) where
     pub alternative-more : (v : Alternative) → k < n → alternativeOf v ≡ alternativeAt f (at + 8 * k) → (v .name ≡ x → ⊥) → Seeking (called x) (alternativeAt f) 8 n at (k + 1)
@@ -148,24 +147,24 @@ module _ (T : Tables) (x : ℕ) where
 
   -- a name that is none of the file's
   pub no-name : Passed T → length (T .names) ≤ x → none ≡ lookup (T .bindings) x
-  unfolding lookup bindingIn isName _>>=_
+  unfolding lookup bindingIn isName _whenSome_
   no-name k h =
-      sym (ap (λ (o : Option Binding). o >>= λ b. some (b .slot)) (none-named (T .bindings) x
+      sym (ap (λ (o : Option Binding). o whenSome λ b. some (b .slot)) (none-named (T .bindings) x
       (each-imply (λ b e. let l : b .name < length (T .names) = ltb-lt _ _ (both-left (isName T (b .name)) _ e) in ne-eqb (b .name) x (λ q. omega arith)) (numbers-in T k .bindings))))
 
   pub last-none : (n : ℕ) → n ≡ lastBinding T x → n ≡ 0 → none ≡ lookup (T .bindings) x
-  unfolding lookup _>>=_
+  unfolding lookup _whenSome_
   last-none n e z = go last (told n e)
     where
-      go : (o : Option Binding) → Told (T .bindings) n o → none ≡ (o >>= λ b. some (b .slot))
+      go : (o : Option Binding) → Told (T .bindings) n o → none ≡ (o whenSome λ b. some (b .slot))
       go none t = refl
       go (some b) t = absurd (omega (arith, t .0))
 
   pub last-some : (n : ℕ) → n ≡ lastBinding T x → (n ≡ 0 → ⊥) → (n - 1 < length (T .bindings)) × (some (bindingAt T (n - 1) .slot) ≡ lookup (T .bindings) x)
-  unfolding lookup bindingAt _>>=_
+  unfolding lookup bindingAt _whenSome_
   last-some n e z = go last (told n e)
     where
-      go : (o : Option Binding) → Told (T .bindings) n o → (n - 1 < length (T .bindings)) × (some (getD (T .bindings) (n - 1) noBinding .slot) ≡ (o >>= λ b. some (b .slot)))
+      go : (o : Option Binding) → Told (T .bindings) n o → (n - 1 < length (T .bindings)) × (some (getD (T .bindings) (n - 1) noBinding .slot) ≡ (o whenSome λ b. some (b .slot)))
       go none t = absurd (z t)
       go (some b) t = (t .1, ap (λ (b : Binding). some (b .slot)) (sym (t .2)))
 
@@ -175,27 +174,27 @@ last-slot f o b v s e = record { is = ap (λ (b : Binding). some (b .slot)) (s .
 
 -- the Const of the slot that was found
 module _ (f : List ℕ) (o : Option Slot) (r : MaybeSlotView) (s : SeenSlot f o r) where
-  pub const-none : r ≡ Ms.Nothing → none ≡ (o >>= constNode)
-  unfolding _>>=_
-  const-none e = ap (λ (q : Option Slot). q >>= constNode) (subst (SeenSlot f o) e s .is)
+  pub const-none : r ≡ Ms.Nothing → none ≡ (o whenSome constNode)
+  unfolding _whenSome_
+  const-none e = ap (λ (q : Option Slot). q whenSome constNode) (subst (SeenSlot f o) e s .is)
 
-  pub const-is : (v : SlotView) → r ≡ Ms.Just v → (m : ℕ) → v ≡ Sv.Const m → some m ≡ (o >>= constNode)
-  unfolding _>>=_ constNode
-  const-is v e m d = ap (λ (w : SlotView). constNode (slotViewed f w)) (sym d) ∙ ap (λ (q : Option Slot). q >>= constNode) (subst (SeenSlot f o) e s .is)
+  pub const-is : (v : SlotView) → r ≡ Ms.Just v → (m : ℕ) → v ≡ Sv.Const m → some m ≡ (o whenSome constNode)
+  unfolding _whenSome_ constNode
+  const-is v e m d = ap (λ (w : SlotView). constNode (slotViewed f w)) (sym d) ∙ ap (λ (q : Option Slot). q whenSome constNode) (subst (SeenSlot f o) e s .is)
 
-  pub const-not : (v : SlotView) → r ≡ Ms.Just v → OneOf (0 ∷ 1 ∷ 2 ∷ 3 ∷ 4 ∷ []) (tagOf SlotViews.the-type v) → none ≡ (o >>= constNode)
-  unfolding _>>=_
-  const-not v e w = sym (no-const f v w) ∙ ap (λ (q : Option Slot). q >>= constNode) (subst (SeenSlot f o) e s .is)
+  pub const-not : (v : SlotView) → r ≡ Ms.Just v → OneOf (0 ∷ 1 ∷ 2 ∷ 3 ∷ 4 ∷ []) (tagOf SlotViews.the-type v) → none ≡ (o whenSome constNode)
+  unfolding _whenSome_
+  const-not v e w = sym (no-const f v w) ∙ ap (λ (q : Option Slot). q whenSome constNode) (subst (SeenSlot f o) e s .is)
 
 -- what a node stands for
 module _ (T : Tables) (n : ℕ) where
   pub stands-self : none ≡ varName (nodeAt T n) → n ≡ standsFor T n
-  unfolding standsFor constOf _>>=_
-  stands-self e = ap (λ (o : Option ℕ). Option·getD (o >>= λ x. lookup (T .bindings) x >>= constNode) n) e
+  unfolding standsFor constOf _whenSome_
+  stands-self e = ap (λ (o : Option ℕ). Option·getD (o whenSome λ x. lookup (T .bindings) x whenSome constNode) n) e
 
   pub stands-bound : (x : ℕ) (o : Option ℕ) → some x ≡ varName (nodeAt T n) → o ≡ constBound (T .bindings) x → Option·getD o n ≡ standsFor T n
-  unfolding standsFor constOf _>>=_
-  stands-bound x o e b = ap (λ (q : Option ℕ). Option·getD q n) b ∙ ap (λ (o : Option ℕ). Option·getD (o >>= λ x. lookup (T .bindings) x >>= constNode) n) e
+  unfolding standsFor constOf _whenSome_
+  stands-bound x o e b = ap (λ (q : Option ℕ). Option·getD q n) b ∙ ap (λ (o : Option ℕ). Option·getD (o whenSome λ x. lookup (T .bindings) x whenSome constNode) n) e
 
 -- a flag that was read
 pub flag-zero : (b : Bool) → flag b ≡ 0 → false ≡ b

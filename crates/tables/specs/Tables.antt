@@ -4,7 +4,7 @@ use mathlib.Core.Path.{_≡_}
 use mathlib.Core.List.{List}
 use mathlib.Core.Option.{Option, none, some}
 use lib.ListN.{length}
-use Rattle.rules.specs.Base.{_>>=_}
+use Rattle.rules.specs.Base.{_whenSome_}
 use Rattle.rules.specs.File as File
 use Rattle.rules.specs.Constant.{lookup, constNode}
 use Rattle.views.specs.Views.{run, alternativeOf, slotViewed, SlotInside}
@@ -53,4 +53,4 @@ pub record SeenSlot (f : List ℕ) (o : Option File.Slot) (r : MaybeSlotView) : 
 
 -- the Const that a name is bound to
 abbrev pub constBound : List File.Binding → ℕ → Option ℕ
-constBound bs x = lookup bs x >>= constNode
+constBound bs x = lookup bs x whenSome constNode

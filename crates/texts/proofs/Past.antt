@@ -7,7 +7,7 @@ use native.Mathlib.Omega.{arith}
 use lib.ListN.{length, List·getD-eq-default}
 use types.Run.{OneOf, miss}
 use denote.Enum.Declared.{tagOf}
-use Rattle.rules.specs.Base.{_>>=_}
+use Rattle.rules.specs.Base.{_whenSome_}
 use Rattle.rules.specs.File.{Tables, Ty, Node, varName, typeAt, nodeAt}
 use Rattle.rules.specs.Constant as ConstantRules
 use Rattle.rules.specs.Constant.{bytesOnly, encodeInt, flipSign, constOf, standsFor, atInt, atStr, atBytes, constantRecord, constantNode, constantBelow}
@@ -29,7 +29,7 @@ module _ (T : Tables) (n t : ℕ) where
 
   -- a node past the last is Error
   stands-itself : length (T .nodes) ≤ n → nodeAt T (standsFor T n) ≡ Node.Error
-  unfolding standsFor constOf varName nodeAt _>>=_
+  unfolding standsFor constOf varName nodeAt _whenSome_
   stands-itself h =
       let e : nodeAt T n ≡ Node.Error = List·getD-eq-default (T .nodes) Node.Error h in
       ap (λ (v : Node). nodeAt T (Option·getD (constOf (T .bindings) v) n)) e ∙ e
@@ -94,9 +94,9 @@ module _ (f : List ℕ) (T : Tables) (n t m : ℕ) (v : NodeView) (past : length
   past-other w = sym (ap (viewOf T n t) (other w))
 
   pub put-other : (at : ℕ) (w : List ℕ) → OneOf (1 ∷ 2 ∷ 3 ∷ 4 ∷ 5 ∷ 6 ∷ 7 ∷ 8 ∷ 9 ∷ 10 ∷ 11 ∷ 12 ∷ 13 ∷ 14 ∷ 15 ∷ 16 ∷ []) (tagOf NodeViews.the-type v) → Wrote (orEmpty (bytesOf T n t)) at w at w
-  unfolding bytesOf orEmpty _>>=_
+  unfolding bytesOf orEmpty _whenSome_
   put-other at w o =
-      let e : orEmpty (bytesOf T n t) ≡ [] = ap (λ (c : Option ConstantRules.Const). orEmpty (c >>= bytesOnly)) (other o) in
+      let e : orEmpty (bytesOf T n t) ≡ [] = ap (λ (c : Option ConstantRules.Const). orEmpty (c whenSome bytesOnly)) (other o) in
       wrote-as [] (orEmpty (bytesOf T n t)) at at w w (record { place = omega arith; is = sym (put-none w at) }) (sym e)
 
   module _ (p : ℕ) (ev : v ≡ Nv.Int p) where
@@ -119,9 +119,9 @@ module _ (f : List ℕ) (T : Tables) (n t m : ℕ) (v : NodeView) (past : length
         ap (Co.Bytes n t) e ∙ sym (ap (viewOf T n t) (int-is (length (T .types)) (λ q. z (ek ∙ q))))
 
     some-types : (at : ℕ) → RoomForBytes (bytesOf T n t) at → length (T .types) ≡ 0 → ⊥
-    unfolding bytesOf _>>=_
-    some-types at h z = some≢none _ (sym (h .is) ∙ ap (λ (c : Option ConstantRules.Const). c >>= bytesOnly) (no-types T n t z))
+    unfolding bytesOf _whenSome_
+    some-types at h z = some≢none _ (sym (h .is) ∙ ap (λ (c : Option ConstantRules.Const). c whenSome bytesOnly) (no-types T n t z))
 
     pub put-int : (at r : ℕ) (w w′ : List ℕ) → RoomForBytes (bytesOf T n t) at → Wrote int at w r w′ → Wrote (orEmpty (bytesOf T n t)) at w r w′
-    unfolding bytesOf orEmpty _>>=_ bytesOnly ConstantRules.constant
-    put-int at r w w′ h a = wrote-as int (orEmpty (bytesOf T n t)) at r w w′ a (sym (ap (λ (c : Option ConstantRules.Const). orEmpty (c >>= bytesOnly)) (int-is (length (T .types)) (some-types at h))))
+    unfolding bytesOf orEmpty _whenSome_ bytesOnly ConstantRules.constant
+    put-int at r w w′ h a = wrote-as int (orEmpty (bytesOf T n t)) at r w w′ a (sym (ap (λ (c : Option ConstantRules.Const). orEmpty (c whenSome bytesOnly)) (int-is (length (T .types)) (some-types at h))))

@@ -8,7 +8,7 @@ use native.Mathlib.Omega.{arith}
 use borrow.Author.Tests.{leb-true, leb-false}
 use lib.Dec.{leb}
 use lib.ListN.{length, length-append, List·getD-eq-default}
-use Rattle.rules.specs.Base.{_>>=_}
+use Rattle.rules.specs.Base.{_whenSome_}
 use Rattle.rules.specs.File.{Tables, nameAt}
 use Rattle.rules.specs.Constant as ConstantRules
 use Rattle.rules.specs.Constant.{bytesOnly, encodePrefix, escape}
@@ -70,11 +70,11 @@ empty (x ∷ l) e = absurd (omega arith)
 module _ (T : Tables) (n t : ℕ) where
   pub bytes-size : (c : Const) (k : ℕ) → c ≡ constView T n t → k ≡ carried c → k ≡ min cap (length (constantBytes T n t))
   unfolding constantBytes
-  bytes-size c k e q = q ∙ carried-size c ∙ ap number (only-const T n t c (sizeOf c) e refl) ∙ sized (ConstantRules.constant T n t >>= bytesOnly)
+  bytes-size c k e q = q ∙ carried-size c ∙ ap number (only-const T n t c (sizeOf c) e refl) ∙ sized (ConstantRules.constant T n t whenSome bytesOnly)
 
   same-bytes : orEmpty (bytesOf T n t) ≡ constantBytes T n t
   unfolding bytesOf constantBytes
-  same-bytes = or-empty (ConstantRules.constant T n t >>= bytesOnly)
+  same-bytes = or-empty (ConstantRules.constant T n t whenSome bytesOnly)
 
   module _ (k : ℕ) (ek : k ≡ min cap (length (constantBytes T n t))) where
     pub node-in : (k ≡ 0 → ⊥) → n < length (T .nodes)
@@ -86,8 +86,8 @@ module _ (T : Tables) (n t : ℕ) where
       pub here : (k ≡ 0 → ⊥) → at ≤ 1048576 → RoomForBytes (bytesOf T n t) (at + 2)
       unfolding bytesOf constantBytes
       here z b = record {
-        is = there (ConstantRules.constant T n t >>= bytesOnly) (λ q. z (let e : k ≡ 0 = omega (arith, ek, q) in e));
-        room = omega (arith, b, h, ap length (or-empty (ConstantRules.constant T n t >>= bytesOnly)));
+        is = there (ConstantRules.constant T n t whenSome bytesOnly) (λ q. z (let e : k ≡ 0 = omega (arith, ek, q) in e));
+        room = omega (arith, b, h, ap length (or-empty (ConstantRules.constant T n t whenSome bytesOnly)));
       }
 
       module _ (w w1 : List ℕ) (e1 : w1 ≡ put w at (u16 k)) where

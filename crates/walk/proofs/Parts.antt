@@ -9,7 +9,7 @@ use Rattle.seek.specs.declared.SeekBuilder.{SeekBuilder}
 use Rattle.lists.specs.Lists.{endsOf, stateWith}
 use Rattle.lists.specs.declared.Ends.{Ends}
 use Rattle.lists.specs.declared.Lists.{Lists}
-use Rattle.walk.specs.Step.{walkState, listsOf, withLists}
+use Rattle.walk.specs.Walk.{walkState, listsOf, withLists}
 use Rattle.walk.specs.declared.Walk.{Walk}
 
 -- another level

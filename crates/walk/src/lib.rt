@@ -9,7 +9,7 @@ ghost use Rattle.state.specs.Ops as Ops;
 ghost use Rattle.paths.specs.Paths.{pathOf};
 ghost use Rattle.slots.specs.Slots.{slotOf};
 ghost use Rattle.lists.specs.Lists.{codeOf};
-ghost use Rattle.walk.specs.Step.{walkState, listsOf, withLists, diagnosed};
+ghost use Rattle.walk.specs.Walk.{walkState, listsOf, withLists, diagnosed};
 use lists::Code;
 use lists::Ends;
 use lists::Lists;

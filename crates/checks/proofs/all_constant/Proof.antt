@@ -8,7 +8,7 @@ use borrow.Author.Needs.{needs}
 use Rattle.rules.specs.Base.{all}
 use Rattle.file.specs.Steps.{word}
 use Rattle.views.specs.Views.{run}
-use Rattle.record_checks.specs.Numbers.{Words}
+use Rattle.record_checks.specs.RecordChecks.{Words}
 use Rattle.record_checks.proofs.Every.{words-first, words-next, run-done, run-yes, run-no}
 use Rattle.checks.specs.Checked.{flagsAt}
 use Rattle.checks.proofs.Fill.{run-low, flag-yes, flag-no}

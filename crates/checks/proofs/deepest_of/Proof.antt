@@ -10,7 +10,7 @@ use Rattle.rules.specs.Base.{all}
 use Rattle.file.specs.Steps.{word, depthsBase}
 use Rattle.views.specs.Views.{run}
 use Rattle.rules.specs.File.{deepest}
-use Rattle.record_checks.specs.Numbers.{Words}
+use Rattle.record_checks.specs.RecordChecks.{Words}
 use Rattle.record_checks.proofs.Every.{words-first, words-next}
 use Rattle.checks.proofs.Fill.{run-low, deepest-turn, deepest-end}
 use Rattle.checks.proofs.deepest_of.Statement.{statement}

@@ -9,7 +9,7 @@ use Rattle.constrain.proofs.constrain.Lts as lts
 use Rattle.constrain.proofs.constrain_rank.Reads as constrain-rank-reads
 use Rattle.constrain.proofs.is_constrained.Reads as is-constrained-reads
 use Rattle.seek.proofs.SeekBuilder.bound.Reads as bound-reads
-use Rattle.walk.specs.Step.{walkState}
+use Rattle.walk.specs.Walk.{walkState}
 use Rattle.walk.proofs.Parts.{placed-is}
 use Rattle.walk.proofs.Walk.constrained.Reads as constrained-reads
 use Rattle.walk.proofs.Walk.placed.Reads as placed-reads

@@ -3,7 +3,7 @@ use native.Mathlib.Omega.{arith}
 use borrow.Author.Needs.{needs}
 use Rattle.file.specs.Tables.{tablesOf}
 use Rattle.paths.specs.Paths.{pathOf}
-use Rattle.walk.specs.Step.{walkState}
+use Rattle.walk.specs.Walk.{walkState}
 use Rattle.constrain.proofs.Ranks.{Going, going-first, going-not, going-one, going-end}
 use Rattle.constrain.proofs.constrain_rank.Statement.{statement}
 use Rattle.constrain.proofs.constrain_rank.Tie as tie

@@ -6,7 +6,7 @@ use Rattle.paths.specs.Paths.{pathOf}
 use Rattle.accepted_file.proofs.Given.{sound-tables}
 use Rattle.seek.specs.Narrow.{narrowedBy}
 use Rattle.seek.proofs.Constants.{const-is}
-use Rattle.walk.specs.Step.{walkState}
+use Rattle.walk.specs.Walk.{walkState}
 use Rattle.walk.proofs.Parts.{placed-is}
 use Rattle.constrain.proofs.Narrowings.{none-past, none-known, none-told, none-narrows, some-told}
 use borrow.Author.Needs.{needs}

@@ -5,7 +5,7 @@ use borrow.Author.Needs.{needs}
 use Rattle.rules.specs.File.{fieldPath}
 use Rattle.state.specs.Ops.{skip}
 use Rattle.file.specs.Tables.{tablesOf}
-use Rattle.walk.specs.Step.{walkState}
+use Rattle.walk.specs.Walk.{walkState}
 use Rattle.accepted_file.proofs.Given.{sound-tables}
 use Rattle.key.proofs.Going.{Going, going-first, going-missing, going-given}
 use Rattle.key.proofs.Keys.{fits-field, record-end}

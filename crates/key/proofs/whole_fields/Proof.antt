@@ -3,7 +3,7 @@ use Prim.Native.Nat.{_-_}
 use borrow.Author.Needs.{needs}
 use Rattle.file.specs.Tables.{tablesOf}
 use Rattle.slots.specs.Slots.{slotOf}
-use Rattle.walk.specs.Step.{walkState}
+use Rattle.walk.specs.Walk.{walkState}
 use Rattle.accepted_file.proofs.Given.{sound-tables}
 use Rattle.key.proofs.Keys.{fits-field}
 use Rattle.key.proofs.Whole.{Matching, matching-first, matching-turn, matching-end, matching-none, fields-inside, fields-count, field-known}

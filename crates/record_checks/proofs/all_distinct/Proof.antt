@@ -5,7 +5,7 @@ use denote.Ref.{now}
 use borrow.Author.Needs.{needs}
 use Rattle.rules.specs.Base.{distinct}
 use Rattle.views.specs.Views.{run}
-use Rattle.record_checks.specs.Numbers.{Words, numberAt}
+use Rattle.record_checks.specs.RecordChecks.{Words, numberAt}
 use Rattle.record_checks.proofs.Every.{distinct-none, distinct-more, distinct-stop, words-first, words-next, among-as}
 use Rattle.record_checks.proofs.Rising.{run-differs}
 use Rattle.record_checks.proofs.all_distinct.Statement.{statement}

@@ -2,7 +2,7 @@ use mathlib.Core.Path.{sym, _∙_}
 use Prim.Native.Nat.{_-_}
 use borrow.Author.Tests.{not-true, not-false}
 use Rattle.rules.specs.Checks.{childrenLower}
-use Rattle.record_checks.specs.Numbers.{typesLower, nodesLower}
+use Rattle.record_checks.specs.RecordChecks.{typesLower, nodesLower}
 use Rattle.record_checks.proofs.Every.{both-false, both-then}
 use borrow.Author.Needs.{needs}
 use Rattle.record_checks.proofs.children_lower.Statement.{statement}

@@ -3,7 +3,7 @@ use native.Mathlib.Omega.{arith}
 use Prim.Native.Nat.{_-_}
 use borrow.Author.Needs.{needs}
 use Rattle.views.specs.Views.{run}
-use Rattle.record_checks.specs.Numbers.{Words, numberAt, among}
+use Rattle.record_checks.specs.RecordChecks.{Words, numberAt, among}
 use Rattle.record_checks.proofs.Every.{among-none, among-here, among-later, words-first, words-next}
 use Rattle.record_checks.proofs.is_among.Statement.{statement}
 use Rattle.record_checks.proofs.is_among.Tie as tie

@@ -3,7 +3,7 @@ use native.Mathlib.Omega.{arith}
 use Prim.Native.Nat.{_-_}
 use borrow.Author.Needs.{needs}
 use Rattle.views.specs.Views.{run}
-use Rattle.record_checks.specs.Numbers.{Words, numberAt, rising}
+use Rattle.record_checks.specs.RecordChecks.{Words, numberAt, rising}
 use Rattle.record_checks.proofs.Every.{words-first, words-next}
 use Rattle.record_checks.proofs.Rising.{rising-end, rising-on, rising-stop}
 use Rattle.record_checks.proofs.is_rising.Statement.{statement}

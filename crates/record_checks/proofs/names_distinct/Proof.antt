@@ -6,7 +6,7 @@ use borrow.Author.Needs.{needs}
 use Rattle.rules.specs.Base.{distinct}
 use Rattle.file.specs.Steps.{word}
 use Rattle.views.specs.Views.{run}
-use Rattle.record_checks.specs.Numbers.{Words}
+use Rattle.record_checks.specs.RecordChecks.{Words}
 use Rattle.record_checks.proofs.Every.{words-first, words-next}
 use Rattle.record_checks.proofs.Marks.{fresh, fresh-zeros, fresh-end, fresh-on, fresh-met}
 use Rattle.record_checks.proofs.names_distinct.Statement.{statement}

@@ -8,7 +8,7 @@ use borrow.Author.Tests.{not-true, not-false}
 use Rattle.rules.specs.Base.{all}
 use Rattle.file.specs.Tables.{tablesOf}
 use Rattle.rules.specs.File.{childNodes, nodeAt}
-use Rattle.record_checks.specs.Numbers.{nodesLower}
+use Rattle.record_checks.specs.RecordChecks.{nodesLower}
 use Rattle.record_checks.proofs.Every.{every, every-none, every-yes, every-no}
 use Rattle.record_checks.proofs.Seen.{nodes-lower-every, every-start}
 use Rattle.record_checks.proofs.nodes_lower.Statement.{statement}

@@ -5,7 +5,7 @@ use borrow.Author.Needs.{needs}
 use borrow.Author.Tests.{not-true, not-false}
 use Rattle.file.specs.Tables.{tablesOf}
 use Rattle.rules.specs.Checks.{numbersIn}
-use Rattle.record_checks.specs.Numbers.{sectionIn}
+use Rattle.record_checks.specs.RecordChecks.{sectionIn}
 use Rattle.record_checks.proofs.Every.{every, every-none, every-yes, every-no}
 use Rattle.record_checks.proofs.Seen.{numbers-every}
 use Rattle.record_checks.proofs.numbers_in.Statement.{statement}

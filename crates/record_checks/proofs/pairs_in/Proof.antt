@@ -3,7 +3,7 @@ use mathlib.Core.Path.{sym, _∙_}
 use native.Mathlib.Omega.{arith}
 use Prim.Native.Nat.{_-_}
 use borrow.Author.Tests.{not-true, not-false}
-use Rattle.record_checks.specs.Numbers.{pairsIn}
+use Rattle.record_checks.specs.RecordChecks.{pairsIn}
 use Rattle.record_checks.proofs.pairs_in.Statement.{statement}
 use Rattle.record_checks.proofs.pairs_in.Tie as tie
 use Rattle.record_checks.proofs.pairs_in.Reads as reads

@@ -2,7 +2,7 @@ use denote.Ref.{now}
 use mathlib.Core.Path.{_∙_}
 use Prim.Native.Nat.{_-_}
 use Rattle.file.specs.Tables.{tablesOf}
-use Rattle.record_checks.specs.Numbers.{recordIn}
+use Rattle.record_checks.specs.RecordChecks.{recordIn}
 use Rattle.record_checks.proofs.Seen.{record-is, size-is, record-rest}
 use Rattle.record_checks.proofs.record_in.Statement.{statement}
 use Rattle.record_checks.proofs.record_in.Tie as tie

@@ -4,7 +4,7 @@ use Prim.Native.Nat.{_-_, _≤_}
 use borrow.Author.Needs.{needs}
 use borrow.Author.Tests.{not-true, not-false}
 use Rattle.file.specs.Tables.{tablesOf}
-use Rattle.record_checks.specs.Numbers.{recordIn, sectionIn}
+use Rattle.record_checks.specs.RecordChecks.{recordIn, sectionIn}
 use Rattle.views.specs.Views.{sizeOf}
 use Rattle.record_checks.proofs.Every.{every, every-none, every-yes, every-no}
 use Rattle.record_checks.proofs.Seen.{section-every, every-start}

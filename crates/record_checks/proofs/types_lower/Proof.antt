@@ -8,7 +8,7 @@ use borrow.Author.Tests.{not-true, not-false}
 use Rattle.rules.specs.Base.{all}
 use Rattle.file.specs.Tables.{tablesOf}
 use Rattle.rules.specs.File.{childTypes, typeAt}
-use Rattle.record_checks.specs.Numbers.{typesLower}
+use Rattle.record_checks.specs.RecordChecks.{typesLower}
 use Rattle.record_checks.proofs.Every.{every, every-none, every-yes, every-no}
 use Rattle.record_checks.proofs.Seen.{types-lower-every, every-start}
 use Rattle.record_checks.proofs.types_lower.Statement.{statement}

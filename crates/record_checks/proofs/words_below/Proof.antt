@@ -6,7 +6,7 @@ use borrow.Author.Needs.{needs}
 use Rattle.rules.specs.Base.{all}
 use Rattle.file.specs.Steps.{word}
 use Rattle.views.specs.Views.{run}
-use Rattle.record_checks.specs.Numbers.{Words}
+use Rattle.record_checks.specs.RecordChecks.{Words}
 use Rattle.record_checks.proofs.Every.{run-done, run-yes, run-no, words-first, words-next, word-low, word-high}
 use Rattle.record_checks.proofs.words_below.Statement.{statement}
 use Rattle.record_checks.proofs.words_below.Tie as tie

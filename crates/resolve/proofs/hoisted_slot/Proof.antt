@@ -1,4 +1,4 @@
-use Rattle.rules.specs.Base.{_>>=_}
+use Rattle.rules.specs.Base.{_whenSome_}
 use mathlib.Core.Path.{sym, ap, _∙_}
 use mathlib.Core.Option.{none, some}
 use Rattle.fields.specs.Found.{nameOption}
@@ -24,11 +24,11 @@ lookup-requires : tie.Need-lookup-requires
 lookup-requires c κs = search needs
 
 returns : tie.Need-returns
-unfolding _>>=_
+unfolding _whenSome_
 returns c = λ level target plan. slot-as (no-slot (c .nothing .ensures)) (hoisted-by _ _ _ none (sym (ap nameOption (c .before .enum-told .given .1)) ∙ c .before .before .before .hoisted-name .ensures))
 
 returns-2 : tie.Need-returns-2
-unfolding _>>=_
+unfolding _whenSome_
 returns-2 c = λ level target plan. slot-as (c .lookup .ensures level target plan) (hoisted-by _ _ _ (some _) (sym (ap nameOption (c .before .before .x .given .1)) ∙ c .before .before .before .before .hoisted-name .ensures))
 
 pub hoisted-slot-spec : {M : Type 1} → statement M

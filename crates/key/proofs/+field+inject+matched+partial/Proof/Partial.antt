@@ -5,7 +5,7 @@ use Rattle.rules.specs.File.{then}
 use Rattle.file.specs.Tables.{tablesOf}
 use Rattle.paths.specs.Paths.{pathOf}
 use Rattle.accepted_file.proofs.Given.{sound-tables}
-use Rattle.walk.specs.Step.{walkState}
+use Rattle.walk.specs.Walk.{walkState}
 use Rattle.key.proofs.Deeper.{has-room, fits-then}
 use Rattle.key.proofs.Rounds.{partial-end}
 use Rattle.key.proofs.Going.{Going, going-first, going-missing, going-given}

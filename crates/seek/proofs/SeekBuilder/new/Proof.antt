@@ -2,7 +2,7 @@ use mathlib.Core.Path.{ap}
 use mathlib.Core.Bool.{true, false}
 use mathlib.Core.List.{[]}
 use mathlib.Core.Option.{none}
-use Rattle.state.specs.State as Kept
+use Rattle.state.specs.State as InState
 use Rattle.state.specs.State.{newLevel, state}
 use Rattle.seek.specs.Seek.{countsOf, sumsOf, noCounts, stateOf, levelOf, guideOf, rangeOf, edgesOf, edgeOf, foldedOf, setIn, targetOf}
 use borrow.Author.Needs.{needs}
@@ -20,7 +20,7 @@ unfolding countsOf sumsOf noCounts stateOf levelOf setIn guideOf rangeOf edgesOf
 returns c =
     λ T e w p.
     ap
-    (λ (k : Kept.Counts). state false e
+    (λ (k : InState.Counts). state false e
     (record { building = true; plain = true; counts = k; guide = none; range = none; edges = record { lo = none; hi = none; folded = [] } })
     (targetOf (c .before .before .args .target)) w p)
     (ap countsOf (c .before .none .ensures))
