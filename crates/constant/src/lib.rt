@@ -78,7 +78,7 @@ fn least_byte(file: &[u8], at: usize, n: usize) -> u8
     low
 }
 
-// Whether none of the n bytes from at on is zero: then they are their own escaped form.
+// Whether none of the n bytes from `at` on is zero: then they are their own escaped form.
 pub fn is_plain(file: &[u8], at: usize, n: usize) -> bool
     requires { ⌜ at + n ≤ length (now file) ⌝ }
     ensures { λ r. ⌜ r ≡ plain (run (byteAt (now (file .entry))) 1 n at) ⌝ }
@@ -101,7 +101,7 @@ fn count_escaped(file: &[u8], at: usize, n: usize) -> usize
     len
 }
 
-// How many bytes the n bytes from at on take, a zero byte taking two. Nearly every text is plain and takes its own length.
+// How many bytes the n bytes from `at` on take, a zero byte taking two. Nearly every text is plain and takes its own length.
 pub fn escaped_len(file: &[u8], at: usize, n: usize) -> usize
     requires { ⌜ (at + n ≤ length (now file)) × (n ≤ fileLimit) ⌝ }
     ensures gives { λ r. ⌜ r ≡ length (escape (run (byteAt (now (file .entry))) 1 n at)) ⌝ }

@@ -49,7 +49,7 @@ fn is_nothing(c: Const) -> bool
     }
 }
 
-// Narrowed by the constant of a node at a type, if it has one.
+// The walk narrowed by the constant of a node at a type, if it has one.
 pub fn narrow(
     file: &[u8],
     index: &[u16],
@@ -117,7 +117,7 @@ fn narrow_or_report(
     walk.diagnose(work, node, Code::RejectTypeMismatch, falls)
 }
 
-// A Prefix or a Fuzzy at a field. Building stays where it is mistyped.
+// A Prefix or a Fuzzy at a field. One that is mistyped is reported and leaves building as it is.
 pub fn ranged(
     file: &[u8],
     index: &[u16],

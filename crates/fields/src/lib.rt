@@ -88,7 +88,7 @@ pub fn field_of(file: &[u8], index: &[u16], ty: usize, name: usize) -> FieldAt
     }
 }
 
-// The path that stands at at.
+// The path that stands at position `at` of the file.
 pub fn path_at(file: &[u8], at: usize) -> FieldPath
     requires { ⌜ PathInside (now file) at ⌝ }
     requires { ⌜ getD (now file) (at + 2) 0 ≤ stepLimit ⌝ }

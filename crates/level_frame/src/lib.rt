@@ -12,7 +12,7 @@ ghost use Rattle.accepted_file.specs.AcceptedFile.{AcceptedFile};
 ghost use Rattle.constant.specs.Sizes.{cap};
 ghost use Rattle.encode.specs.Written.{Wrote};
 ghost use Rattle.records.specs.Records.{put};
-ghost use Rattle.seek.specs.Seek.{guideOf, kept, levelOf};
+ghost use Rattle.seek.specs.Seek.{guideOf, levelOf};
 ghost use Rattle.level_frame.specs.LevelFrame.{betweenOf, partsLen, frameOf};
 use constant::capped;
 use records::anchor_byte;
@@ -22,6 +22,7 @@ use records::put8;
 use records::put16;
 use records::wide32;
 use seek::SeekBuilder;
+use seek::kept;
 use texts::edge_len;
 use texts::prefix_text_len;
 use texts::put_edge;
@@ -36,14 +37,7 @@ pub struct Frame {
     pub end: usize,
 }
 
-// A level that builds has neither range nor guide, whatever their fields hold.
-fn kept(building: bool, set: bool) -> bool
-    ensures { λ r. ⌜ r ≡ kept building set ⌝ }
-{
-    if building { false } else { set }
-}
-
-// 0 Prefix, 1 Composite, 2 PrefixRange, 3 Bounded.
+// The plan's number for the kind of a level's seek: 0 Prefix, 1 Composite, 2 PrefixRange, 3 Bounded.
 pub fn seek_number(l: SeekBuilder) -> u8
     ensures { λ r. ⌜ ((T : Tables) → r ≡ seekOf (levelOf T l)) ⌝ }
 {
@@ -98,7 +92,7 @@ fn parts_len(l: SeekBuilder) -> usize
     }
 }
 
-// A guide, or 0 for none.
+// The length of the guide in the plan; a level without one has a single byte there.
 fn guide_len(l: SeekBuilder) -> usize
     ensures { λ r. ⌜ (r ≡ length (Plan.guide (guideOf l))) × (r ≤ 68) ⌝ }
 {
@@ -246,7 +240,7 @@ pub fn measure(file: &[u8], index: &[u16], at: usize, l: SeekBuilder) -> Frame
     }
 }
 
-// A level's bytes but for its parts and residuals, where it fits a plan.
+// Writes a level's bytes but for its parts and residuals, where it fits a plan.
 pub fn put_frame(file: &[u8], index: &[u16], plan: &mut [u8], at: usize, f: Frame, l: SeekBuilder)
     requires { ⌜ AcceptedFile (now file) (now index) ⌝ }
     requires { ⌜ (f ≡ frameOf at (levelOf (tablesOf (now file)) l)) × (f .end ≤ planLimit) ⌝ }

@@ -262,7 +262,7 @@ fn finished(work: &[u8], plan: &mut [u8], w: Written) -> Written
     Written { at: last, lists }
 }
 
-// The whole plan.
+// Writes the whole plan: the levels, then the four lists.
 pub fn write(file: &[u8], index: &[u16], work: &mut [u8], plan: &mut [u8]) -> Written
     requires { ⌜ AcceptedFile (now file) (now index) ⌝ }
     ensures { λ r. ⌜ (

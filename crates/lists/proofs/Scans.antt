@@ -103,7 +103,7 @@ nothing-read : Read.binding [] ≡ refused 3
 unfolding binding u16 u8 Read._>>=_ follow
 nothing-read = refl
 
--- a place and one, or 0 for none
+-- position + 1, or 0 if nothing was found
 pub place-none : (n : ℕ) → n ≡ 0 → Fo.Nothing ≡ placeOf n
 unfolding placeOf
 place-none n e = sym (ap placeOf e)

@@ -77,7 +77,7 @@ unfoldable pub endOf : Step → ℕ
 endOf (Next q) = q
 endOf (Refused n) = 0
 
--- a place and one, or 0 for none
+-- position + 1, or 0 if nothing was found
 unfoldable pub placeOf : ℕ → Found
 placeOf zero = Fo.Nothing
 placeOf (suc p) = Fo.At p

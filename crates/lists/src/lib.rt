@@ -125,7 +125,7 @@ fn code_number(code: Code) -> u8
     }
 }
 
-// A diagnostic more.
+// Appends a diagnostic.
 pub fn report(work: &mut [u8], l: Lists, node: usize, code: Code) -> Lists
     ensures { λ r. ⌜ ((lv : Level) (tg : Target) (p : List ℕ) → (
         let before = stateWith l lv tg (now (work .entry)) p in
@@ -150,7 +150,7 @@ pub fn report(work: &mut [u8], l: Lists, node: usize, code: Code) -> Lists
     r
 }
 
-// A constrained name more.
+// Appends a constrained name.
 pub fn constrained(work: &mut [u8], l: Lists, name: usize) -> Lists
     ensures { λ r. ⌜ ((lv : Level) (tg : Target) (p : List ℕ) → (
         let before = stateWith l lv tg (now (work .entry)) p in
@@ -174,7 +174,7 @@ pub fn constrained(work: &mut [u8], l: Lists, name: usize) -> Lists
     r
 }
 
-// A select more.
+// Appends a select.
 pub fn select(work: &mut [u8], l: Lists, address: Address, path: FieldPath, disc: u32) -> Lists
     ensures { λ r. ⌜ ((lv : Level) (tg : Target) (p : List ℕ) → (
         let before = stateWith l lv tg (now (work .entry)) p in
@@ -270,7 +270,7 @@ fn put_slot(work: &mut [u8], at: usize, slot: Slot)
     }
 }
 
-// A binding more.
+// Appends a binding.
 pub fn bind(work: &mut [u8], l: Lists, name: usize, slot: Slot) -> Lists
     ensures { λ r. ⌜ ((lv : Level) (tg : Target) (p : List ℕ) → (
         let before = stateWith l lv tg (now (work .entry)) p in
@@ -300,7 +300,7 @@ pub fn bind(work: &mut [u8], l: Lists, name: usize, slot: Slot) -> Lists
     r
 }
 
-// What was found, as one number for the loop that carries it: a place and one, or 0 for none.
+// What was found, from the one number that the loop carries: its position + 1, or 0 if nothing was found.
 fn place(found: usize) -> Found
     ensures { λ r. ⌜ r ≡ placeOf found ⌝ }
 {

@@ -48,7 +48,7 @@ pub fn narrow_by_tag(disc: u32, path: FieldPath, level: &mut SeekBuilder, plan: 
     *level = l.tag(path, disc, plan);
 }
 
-// A level that is lent to `narrow_by`, and comes back.
+// Lends a level to `narrow_by` and hands it back.
 pub fn narrowed(
     file: &[u8],
     index: &[u16],
@@ -69,7 +69,7 @@ pub fn narrowed(
     l
 }
 
-// A level that is lent to `narrow_by_tag`, and comes back.
+// Lends a level to `narrow_by_tag` and hands it back.
 pub fn tagged(disc: u32, path: FieldPath, level: SeekBuilder, plan: &mut [u8]) -> SeekBuilder
     ensures { λ r. ⌜ ((T : Tables) (e : Ends) (w : List ℕ) →
         let before = stateOf T level e w (now (plan .entry)) in

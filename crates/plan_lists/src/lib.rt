@@ -68,7 +68,7 @@ fn put_run(work: &[u8], from: usize, to: usize, n: usize, plan: &mut [u8], at: u
     copy_run(work, from, to, plan, at + 2)
 }
 
-// The bytes of the four lists.
+// How many bytes the four lists take in the plan.
 pub fn lists_len(work: &[u8], e: Ends) -> usize
     ensures { λ r. ⌜ (r ≡ length (listsIn (endsOf e) (now (work .entry)))) × (r ≤ 17179869192) ⌝ }
 {
@@ -79,6 +79,7 @@ pub fn lists_len(work: &[u8], e: Ends) -> usize
     8 + a + b + c + d
 }
 
+// Writes the four lists, each after its count, and gives where they end.
 pub fn put_lists(work: &[u8], plan: &mut [u8], at: usize, e: Ends) -> usize
     requires { ⌜ at ≤ 1048576 ⌝ }
     ensures { λ r. ⌜ Wrote (listsIn (endsOf e) (now (work .entry))) at (now (plan .entry)) r (now (plan .exit)) ⌝ }

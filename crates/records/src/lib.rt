@@ -24,12 +24,14 @@ pub struct Place {
     pub at: usize,
 }
 
+// A number of four bytes as a position or a count.
 pub fn wide32(x: u32) -> usize
     ensures { λ r. ⌜ (r ≡ x) × (r < 4294967296) ⌝ }
 {
     x as usize
 }
 
+// Writes a byte, or nothing where the buffer has ended.
 pub fn put8(buf: &mut [u8], at: usize, b: u8)
     ensures { λ _. ⌜ now (buf .exit) ≡ put (now (buf .entry)) at (b ∷ []) ⌝ }
 {
@@ -39,6 +41,7 @@ pub fn put8(buf: &mut [u8], at: usize, b: u8)
     buf[at] = b;
 }
 
+// Writes a number as two bytes, the lower first.
 pub fn put16(buf: &mut [u8], at: usize, v: usize)
     requires { ⌜ at ≤ 4 * reach ⌝ }
     ensures { λ _. ⌜ now (buf .exit) ≡ put (now (buf .entry)) at (Plan.u16 v) ⌝ }
@@ -47,6 +50,7 @@ pub fn put16(buf: &mut [u8], at: usize, v: usize)
     put8(buf, at + 1, (v / 256 % 256) as u8);
 }
 
+// Writes a number as four bytes, the lowest first.
 pub fn put32(buf: &mut [u8], at: usize, v: u32)
     requires { ⌜ at ≤ 4 * reach ⌝ }
     ensures { λ _. ⌜ now (buf .exit) ≡ put (now (buf .entry)) at (Plan.u32 v) ⌝ }
@@ -57,7 +61,7 @@ pub fn put32(buf: &mut [u8], at: usize, v: u32)
     put8(buf, at + 3, (v / 16777216 % 256) as u8);
 }
 
-// A tag's five bytes, the number's highest first.
+// Writes the five bytes of a union's tag: 05, then the disc, its highest byte first.
 pub fn put_tag(buf: &mut [u8], at: usize, disc: u32)
     requires { ⌜ at ≤ 4 * reach ⌝ }
     ensures { λ _. ⌜ now (buf .exit) ≡ put (now (buf .entry)) at (unionTag disc) ⌝ }
@@ -69,7 +73,7 @@ pub fn put_tag(buf: &mut [u8], at: usize, disc: u32)
     put8(buf, at + 4, (disc % 256) as u8);
 }
 
-// The same path, its count no more than its steps.
+// The same path, with a count that is at most the steps that a path has room for.
 pub fn within(p: FieldPath) -> FieldPath
     ensures { λ r. ⌜ (pathOf r ≡ pathOf p) × (r .count ≤ stepLimit) × (r ≡ cut p) ⌝ }
 {
@@ -81,6 +85,7 @@ pub fn within(p: FieldPath) -> FieldPath
     q
 }
 
+// How many bytes a path takes in the plan.
 pub fn path_size(p: FieldPath) -> usize
     ensures { λ r. ⌜ (r ≡ length (Plan.path (pathOf p))) × (r ≤ 63) ⌝ }
 {
@@ -88,7 +93,7 @@ pub fn path_size(p: FieldPath) -> usize
     3 + 4 * q.count
 }
 
-// A path; the place after it is handed back.
+// Writes a path, and gives where it ends.
 pub fn put_path(buf: &mut [u8], at: usize, p: FieldPath) -> usize
     requires { ⌜ at ≤ 2 * reach ⌝ }
     ensures { λ r. ⌜ (
@@ -109,7 +114,7 @@ pub fn put_path(buf: &mut [u8], at: usize, p: FieldPath) -> usize
     at + 3 + 4 * n
 }
 
-// A residual's path; then where its op goes.
+// Writes a residual's path, and gives where its op goes.
 pub fn put_path_at(plan: &mut [u8], place: Place, path: FieldPath) -> Place
     requires { ⌜ place .at ≤ reach ⌝ }
     ensures { λ r. ⌜ (
@@ -132,7 +137,7 @@ pub fn put_path_at(plan: &mut [u8], place: Place, path: FieldPath) -> Place
     }
 }
 
-// What stands before a text of `len` bytes: a kind and the length; then where the text goes.
+// Writes what stands before a text of `len` bytes, a kind and the length, and gives where the text goes.
 pub fn put_text_at(plan: &mut [u8], place: Place, kind: u8, len: usize) -> Place
     requires { ⌜ place .at ≤ 2 * reach ⌝ }
     ensures { λ r. ⌜ (
@@ -154,7 +159,7 @@ pub fn put_text_at(plan: &mut [u8], place: Place, kind: u8, len: usize) -> Place
     end
 }
 
-// What stands before a part's `len` bytes, nothing where they are joined; then where the bytes go.
+// Writes what stands before the `len` bytes of a part (nothing where the parts are joined), and gives where the bytes go.
 pub fn put_head(plan: &mut [u8], place: Place, len: usize) -> Place
     requires { ⌜ place .at ≤ reach ⌝ }
     ensures { λ r. ⌜ (
@@ -168,6 +173,7 @@ pub fn put_head(plan: &mut [u8], place: Place, len: usize) -> Place
     put_text_at(plan, place, 0, len)
 }
 
+// Writes a union's tag as the bytes of a part.
 pub fn put_tag_at(plan: &mut [u8], place: Place, disc: u32)
     requires { ⌜ place .at ≤ 2 * reach ⌝ }
     ensures { λ _. ⌜ now (plan .exit) ≡ writtenAt place (unionTag disc) (now (plan .entry)) ⌝ }
@@ -178,6 +184,7 @@ pub fn put_tag_at(plan: &mut [u8], place: Place, disc: u32)
     put_tag(plan, place.at, disc);
 }
 
+// Writes one byte.
 pub fn put_byte_at(plan: &mut [u8], place: Place, b: u8)
     ensures { λ _. ⌜ now (plan .exit) ≡ writtenAt place (b ∷ []) (now (plan .entry)) ⌝ }
 {
@@ -187,7 +194,7 @@ pub fn put_byte_at(plan: &mut [u8], place: Place, b: u8)
     put8(plan, place.at, b);
 }
 
-// A residual's ops.
+// Writes the op of a residual that is a union's tag: its kind and the disc.
 pub fn put_tag_op(plan: &mut [u8], place: Place, disc: u32)
     requires { ⌜ place .at ≤ 2 * reach ⌝ }
     ensures { λ _. ⌜ now (plan .exit) ≡ writtenAt place (Plan.op (Narrowing.Tag disc)) (now (plan .entry)) ⌝ }
@@ -200,6 +207,7 @@ pub fn put_tag_op(plan: &mut [u8], place: Place, disc: u32)
     put32(plan, at + 1, disc);
 }
 
+// The byte that stands for an anchor in the plan.
 pub fn anchor_byte(anchor: Anchor) -> u8
     ensures { λ r. ⌜ r ≡ Plan.anchor (anchorOf anchor) ⌝ }
 {
@@ -209,6 +217,7 @@ pub fn anchor_byte(anchor: Anchor) -> u8
     }
 }
 
+// Writes the op of a residual that is a fuzzy text.
 pub fn put_fuzzy(plan: &mut [u8], place: Place, name: usize, distance: u8, anchor: Anchor)
     requires { ⌜ place .at ≤ 2 * reach ⌝ }
     ensures { λ _. ⌜ (
@@ -226,7 +235,7 @@ pub fn put_fuzzy(plan: &mut [u8], place: Place, name: usize, distance: u8, ancho
     put8(plan, at + 4, anchor_byte(anchor));
 }
 
-// What parts and residuals share: a kind and a register, with a path or without.
+// Writes a part or the op of a residual that is a register's field: a kind, the register and the path.
 pub fn put_register(plan: &mut [u8], place: Place, kind: u8, address: Address, path: FieldPath)
     requires { ⌜ place .at ≤ reach ⌝ }
     ensures { λ _. ⌜ (
@@ -243,6 +252,7 @@ pub fn put_register(plan: &mut [u8], place: Place, kind: u8, address: Address, p
     put_path(plan, at + 3, path);
 }
 
+// Writes a part or the op of a residual that is the id of a register's fact: a kind and the register.
 pub fn put_fact(plan: &mut [u8], place: Place, kind: u8, address: Address)
     requires { ⌜ place .at ≤ 2 * reach ⌝ }
     ensures { λ _. ⌜ now (plan .exit) ≡ writtenAt place (kind ∷ Plan.u16 (address .0)) (now (plan .entry)) ⌝ }
@@ -255,7 +265,7 @@ pub fn put_fact(plan: &mut [u8], place: Place, kind: u8, address: Address)
     put16(plan, at + 1, wide16(address.0));
 }
 
-// The place of a part that is no bytes: joined to the others it leaves nothing.
+// The place of a part that is not bytes: where the parts are joined to one text it writes nothing.
 pub fn apart(place: Place) -> Place
     ensures { λ r. ⌜ (r ≡ apartOf place) × (r .at ≡ place .at) ⌝ }
 {

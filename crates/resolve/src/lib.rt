@@ -83,7 +83,7 @@ pub struct Chain {
     pub node: usize,
 }
 
-// A read that adds nothing.
+// The answer of a read that adds nothing to the lists.
 pub fn gives(found: MaybeSlot, lists: Lists) -> Answer
     ensures { λ r. ⌜ r ≡ answerWith found lists ⌝ }
 {
@@ -95,7 +95,7 @@ pub fn gives(found: MaybeSlot, lists: Lists) -> Answer
     }
 }
 
-// A read that gives nothing and says why.
+// The answer of a read that gives no slot: a diagnostic says why.
 pub fn declined(work: &mut [u8], node: usize, code: Code, lists: Lists) -> Answer
     ensures { λ r. ⌜ (
         let before = now (work .entry) in

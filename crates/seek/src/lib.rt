@@ -102,8 +102,8 @@ fn and(a: bool, b: bool) -> bool
     if a { b } else { false }
 }
 
-// What is set in a level that falls: one that builds has neither range nor guide.
-fn kept(building: bool, set: bool) -> bool
+// Whether a level has its range, or its guide: one that builds has neither, whatever their fields hold.
+pub fn kept(building: bool, set: bool) -> bool
     ensures { λ r. ⌜ r ≡ kept building set ⌝ }
 {
     if building { false } else { set }
@@ -146,7 +146,7 @@ impl SeekBuilder {
         }
     }
 
-    // The same level, with no room left.
+    // The same level, marked too long for a plan.
     pub fn stopped(self) -> SeekBuilder
         ensures { λ r. ⌜ r ≡ overrun self ⌝ }
     {

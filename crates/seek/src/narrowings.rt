@@ -73,7 +73,7 @@ impl SeekBuilder {
         base + wide32(c.framed)
     }
 
-    // A part more, of `text` bytes that its plan form frames by `frame`.
+    // One part more, of `text` bytes, to which its form in the plan adds `frame` bytes.
     pub fn part(self, closer: bool, bytes: bool, text: usize, frame: usize) -> Placed
         requires { ⌜ (text < 1099511627776) × (frame < 65536) ⌝ }
         ensures { λ r. ⌜ (r ≡ partBy closer bytes text frame self) × (r .place .at < 17179869184) ⌝ }
@@ -83,7 +83,7 @@ impl SeekBuilder {
         self.grown(and(self.plain, bytes), s, self.part_at())
     }
 
-    // A residual more, of `size` bytes.
+    // One residual more, of `size` bytes.
     pub fn residual(self, size: usize) -> Placed
         requires { ⌜ size < 1099511627776 ⌝ }
         ensures { λ r. ⌜ (r ≡ residualBy size self) × (r .place .at < 17179869184) ⌝ }

@@ -103,9 +103,9 @@ unwritten true plan = refl
 unwritten false plan = refl
 
 -- A part: the level and the plan with it.
-part-level : (part : SeekKeyPart) (n : ℕ) (b : SeekBuilder) → Ops.withPart part (narrowed (summary n b .counts)) (summary n b) ≡ summary (n + 1) (withPart part b)
-unfolding summary withPart Ops.withPart narrowed
-part-level part n b =
+more-level : (part : SeekKeyPart) (n : ℕ) (b : SeekBuilder) → Ops.withPart part (summary n b .counts) (summary n b) ≡ summary n (withPart part b)
+unfolding summary withPart Ops.withPart
+more-level part n b =
     let plain = sym (all-snoc (b .parts) part) in
     let count = sym (length-append (b .parts) (part ∷ [])) in
     let joined = sym (length-snoc partText (b .parts) part) in
@@ -114,29 +114,20 @@ part-level part n b =
     record {
       building = b .building;
       plain = plain i;
-      counts = counts (n + 1) (b .closers) (count i) (length (b .residuals)) (joined i) (parted i) (length (concatMap Plan.residual (b .residuals)));
+      counts = counts n (b .closers) (count i) (length (b .residuals)) (joined i) (parted i) (length (concatMap Plan.residual (b .residuals)));
       guide = b .guide;
       range = b .range;
       edges = b .edges;
     }
 
--- the same of a closer
+-- as a narrowing, and as a closer
+part-level : (part : SeekKeyPart) (n : ℕ) (b : SeekBuilder) → Ops.withPart part (narrowed (summary n b .counts)) (summary n b) ≡ summary (n + 1) (withPart part b)
+unfolding summary Ops.withPart narrowed
+part-level part n b = more-level part (n + 1) b
+
 closer-level : (part : SeekKeyPart) (n : ℕ) (b : SeekBuilder) → Ops.withPart part (closed (summary n b .counts)) (summary n b) ≡ summary n (withCloser (withPart part b))
 unfolding summary withPart withCloser Ops.withPart closed
-closer-level part n b =
-    let plain = sym (all-snoc (b .parts) part) in
-    let count = sym (length-append (b .parts) (part ∷ [])) in
-    let joined = sym (length-snoc partText (b .parts) part) in
-    let parted = sym (length-snoc Plan.part (b .parts) part) in
-    λ i.
-    record {
-      building = b .building;
-      plain = plain i;
-      counts = counts n (b .closers + 1) (count i) (length (b .residuals)) (joined i) (parted i) (length (concatMap Plan.residual (b .residuals)));
-      guide = b .guide;
-      range = b .range;
-      edges = b .edges;
-    }
+closer-level part n b = more-level part n (withCloser b)
 
 -- how long the parts so far are, as they are written
 pub form-size : (joining : Bool) (parts : List SeekKeyPart) → length (concatMap (formAs joining) parts) ≡ elim joining [ true ↦ length (concatMap partText parts) | false ↦ length (concatMap Plan.part parts) ]

@@ -107,7 +107,7 @@ fn put_text(file: &[u8], index: &[u16], buf: &mut [u8], at: usize, node: usize, 
     }
 }
 
-// An edge, up to the cap: 0 for none.
+// The length of an edge in the plan, up to the cap; one that is not set is a single byte.
 pub fn edge_len(file: &[u8], index: &[u16], e: Edge) -> usize
     requires { ⌜ AcceptedFile (now file) (now index) ⌝ }
     ensures { λ r. ⌜ r ≡ min cap (length (Plan.edge (edgeOf (tablesOf (now (file .entry))) e))) ⌝ }
@@ -125,6 +125,7 @@ fn inclusive(e: Edge) -> u8
     if e.inclusive { 2 } else { 1 }
 }
 
+// Writes an edge, and gives where it ends.
 pub fn put_edge(file: &[u8], index: &[u16], buf: &mut [u8], at: usize, e: Edge) -> usize
     requires { ⌜ AcceptedFile (now file) (now index) ⌝ }
     requires { ⌜ (at ≤ 524288) × (length (Plan.edge (edgeOf (tablesOf (now file)) e)) ≤ cap) ⌝ }
@@ -139,7 +140,7 @@ pub fn put_edge(file: &[u8], index: &[u16], buf: &mut [u8], at: usize, e: Edge) 
     }
 }
 
-// A name's prefix after its length.
+// The length of a name's prefix in the plan, with the two bytes that give its length.
 pub fn prefix_text_len(file: &[u8], index: &[u16], name: usize) -> usize
     requires { ⌜ AcceptedFile (now file) (now index) ⌝ }
     ensures { λ r. ⌜ (r ≡ length (Plan.text (encodePrefix (nameAt (tablesOf (now (file .entry))) name)))) × (r ≤ 65539) ⌝ }
@@ -151,6 +152,7 @@ pub fn prefix_text_len(file: &[u8], index: &[u16], name: usize) -> usize
     }
 }
 
+// Writes a name's prefix after its length, and gives where it ends.
 pub fn put_prefix_text(file: &[u8], index: &[u16], buf: &mut [u8], at: usize, name: usize) -> usize
     requires { ⌜ AcceptedFile (now file) (now index) ⌝ }
     requires { ⌜ at ≤ 1048576 ⌝ }

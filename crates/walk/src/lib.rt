@@ -22,7 +22,7 @@ use paths::FieldPath;
 use seek::SeekBuilder;
 use slots::Slot;
 
-// Whether the plan is too long is the level's word; the lists beside it are where each of them ends.
+// A level, and where each of the four lists ends. Whether the plan is too long stands once, in the level.
 pub struct Walk {
     pub ends: Ends,
     pub level: SeekBuilder,

@@ -5,7 +5,7 @@ use Rattle.level_frame.proofs.guide_len.Statement.{statement}
 use Rattle.level_frame.proofs.guide_len.Tie as tie
 use Rattle.level_frame.proofs.guide_len.Reads as reads
 use Rattle.level_frame.proofs.guide_len.Lts as lts
-use Rattle.level_frame.proofs.kept.Reads as kept-reads
+use Rattle.seek.proofs.kept.Reads as kept-reads
 use Rattle.records.proofs.path_size.Reads as path-size-reads
 
 kept-requires : tie.Need-kept-requires

@@ -4,7 +4,7 @@ use Rattle.level_frame.proofs.put_guide.Statement.{statement}
 use Rattle.level_frame.proofs.put_guide.Tie as tie
 use Rattle.level_frame.proofs.put_guide.Reads as reads
 use Rattle.level_frame.proofs.put_guide.Lts as lts
-use Rattle.level_frame.proofs.kept.Reads as kept-reads
+use Rattle.seek.proofs.kept.Reads as kept-reads
 use Rattle.records.proofs.anchor_byte.Reads as anchor-byte-reads
 use Rattle.records.proofs.put16.Reads as put16-reads
 use Rattle.records.proofs.put8.Reads as put8-reads

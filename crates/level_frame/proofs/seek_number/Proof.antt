@@ -4,7 +4,7 @@ use Rattle.level_frame.proofs.seek_number.Statement.{statement}
 use Rattle.level_frame.proofs.seek_number.Tie as tie
 use Rattle.level_frame.proofs.seek_number.Reads as reads
 use Rattle.level_frame.proofs.seek_number.Lts as lts
-use Rattle.level_frame.proofs.kept.Reads as kept-reads
+use Rattle.seek.proofs.kept.Reads as kept-reads
 
 returns : tie.Need-returns
 returns c T = with-lo _ T (c .if1 .taken)
