@@ -1,12 +1,12 @@
 // Reading a rule file front to back: refusals 3 to 7, and the index of where each record starts.
 ghost use mathlib.Core.Path.{_≡_};
-ghost use Prim.Native.Nat.{ℕ, _+_, _*_, _-_, _≤_, _<_, min};
+ghost use Prim.Native.Nat.{ℕ, _+_, _*_, _-_, _≤_, _<_, min, max};
 ghost use lib.ListN.{length};
 ghost use lib.Seq.{sets};
 ghost use Rattle.rules.specs.Limits.{fileLimit};
-ghost use Rattle.rules.specs.Read.{u8, many, several, name, type, node, slot, binding, fetched, comparison, fuzzyNode, path};
+ghost use Rattle.rules.specs.Read.{u8, many, several, char, name, type, node, slot, binding, fetched, comparison, fuzzyNode, path};
 ghost use Rattle.rules.specs.Read as Read;
-ghost use Rattle.file.specs.Steps.{wordLimit, word, stepAt, recordOf, sectionCount, limitOf, baseOf, countAt, starts, sectionOf, entries, indexLength, indexOf};
+ghost use Rattle.file.specs.Steps.{wordLimit, word, greatestByte, stepAt, recordOf, sectionCount, limitOf, baseOf, countAt, starts, sectionOf, entries, indexLength, indexOf};
 ghost use Rattle.file.specs.Tables.{Indexed};
 
 // Where what was read ends, or the number of the first fault.
@@ -94,6 +94,9 @@ const NODE_SIZES: [usize; 17] = [8, 2, 0, 2, 0, 0, 2, 0, 0, 4, 2, 4, 0, 0, 4, 0,
 
 const SLOT_SIZES: [usize; 6] = [4, 4, 2, 0, 4, 2];
 
+// From this length on it pays to look at a name's bytes all at once.
+const LONG_NAME: usize = 16;
+
 // A byte as a position or a count has it.
 pub fn wide(x: u8) -> usize
     ensures same { λ r. ⌜ r ≡ x ⌝ }
@@ -114,6 +117,13 @@ pub fn least(a: u8, b: u8) -> u8
     ensures { λ r. ⌜ r ≡ min a b ⌝ }
 {
     if a < b { a } else { b }
+}
+
+// The greater of two bytes.
+fn greatest(a: u8, b: u8) -> u8
+    ensures { λ r. ⌜ r ≡ max a b ⌝ }
+{
+    if a < b { b } else { a }
 }
 
 // The two bytes at p, the lower first.
@@ -149,16 +159,27 @@ pub fn repeated(file: &[u8], w: usize, p: usize) -> Step
     fixed(file, n * w, p + 1)
 }
 
-// Where the name at `at` ends: its length, then as many bytes below 80 hex.
-pub fn name_end(file: &[u8], at: usize) -> Step
-    requires { ⌜ at ≤ length (now file) ⌝ }
-    ensures { λ r. ⌜ r ≡ stepAt (now (file .entry)) name at ⌝ }
+// The greatest of the n bytes from p on, 0 where there is none. Only one byte is kept, so that the loop becomes vector code.
+fn greatest_byte(file: &[u8], n: usize, p: usize) -> u8
+    requires { ⌜ p + n ≤ length (now file) ⌝ }
+    ensures { λ r. ⌜ r ≡ greatestByte (now (file .entry)) n p ⌝ }
 {
-    if at >= file.len() {
-        return Step::Refused(3);
+    let mut high: u8 = 0;
+    let mut i: usize = 0;
+    while i < n {
+        high = greatest(high, file[p + i]);
+        i += 1;
     }
-    let mut left = wide(file[at]);
-    let mut p = at + 1;
+    high
+}
+
+// Where n bytes of a name from `at` on end, each below 80 hex: the first fault among them counts.
+fn chars_end(file: &[u8], n: usize, at: usize) -> Step
+    requires { ⌜ at ≤ length (now file) ⌝ }
+    ensures { λ r. ⌜ r ≡ stepAt (now (file .entry)) (many n char) at ⌝ }
+{
+    let mut left = n;
+    let mut p = at;
     while left > 0 {
         if p >= file.len() {
             return Step::Refused(3);
@@ -170,6 +191,36 @@ pub fn name_end(file: &[u8], at: usize) -> Step
         left -= 1;
     }
     Step::Next(p)
+}
+
+// The same, for a longer name: the bytes are looked at all at once, and one by one only where there is a fault.
+fn long_name_end(file: &[u8], n: usize, p: usize) -> Step
+    requires { ⌜ (p ≤ length (now file)) × (n < 256) ⌝ }
+    ensures { λ r. ⌜ r ≡ stepAt (now (file .entry)) (many n char) p ⌝ }
+{
+    if n > file.len() - p {
+        return chars_end(file, n, p);
+    }
+    if greatest_byte(file, n, p) >= 128 {
+        return chars_end(file, n, p);
+    }
+    Step::Next(p + n)
+}
+
+// Where the name at `at` ends: its length, then as many bytes below 80 hex.
+pub fn name_end(file: &[u8], at: usize) -> Step
+    requires { ⌜ at ≤ length (now file) ⌝ }
+    ensures { λ r. ⌜ r ≡ stepAt (now (file .entry)) name at ⌝ }
+{
+    if at >= file.len() {
+        return Step::Refused(3);
+    }
+    let n = wide(file[at]);
+    let p = at + 1;
+    if n < LONG_NAME {
+        return chars_end(file, n, p);
+    }
+    long_name_end(file, n, p)
 }
 
 // Where the type at `at` ends: its kind says how many bytes follow.
