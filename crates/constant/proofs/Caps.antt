@@ -12,7 +12,7 @@ use Rattle.constant.specs.declared.Const.the-variants as Co
 use Rattle.constant.specs.declared.Size.{Size}
 use Rattle.constant.specs.declared.Size.the-variants as Si
 
-pub wrap-is : (n t k l r : ℕ) (s : Size) → s ≡ Si.Of l → r ≡ min cap (k + l) → Co.Bytes n t r ≡ wrapped n t k s
+pub wrap-is : (n t k l r : ℕ) (s : Size) → s ≡ Si.Just l → r ≡ min cap (k + l) → Co.Bytes n t r ≡ wrapped n t k s
 wrap-is n t k l r s e q = ap (λ (j : ℕ). Co.Bytes n t j) q ∙ sym (ap (wrapped n t k) e)
 
 -- a name's prefix bytes

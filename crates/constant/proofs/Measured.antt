@@ -41,7 +41,7 @@ unfolding sizeWith
 size-small k none s e = subst Small (sym e) tt
 size-small k (some bytes) s e = subst Small (sym e) (omega arith)
 
-size-is : (k l : ℕ) (o : Option (List ℕ)) → Si.Of l ≡ sizeWith k o → (bytes : List ℕ) × (o ≡ some bytes) × (l ≡ min cap (k + length bytes))
+size-is : (k l : ℕ) (o : Option (List ℕ)) → Si.Just l ≡ sizeWith k o → (bytes : List ℕ) × (o ≡ some bytes) × (l ≡ min cap (k + length bytes))
 unfolding sizeWith
 size-is k l none e = absurd (let z : _≡_ {A = ℕ} 0 1 = cc in omega arith)
 size-is k l (some bytes) e = (bytes, refl, cc)
@@ -55,7 +55,7 @@ size-none k (some bytes) e = absurd (let z : _≡_ {A = ℕ} 0 1 = cc in omega a
 only-size : (T : Tables) (n t : ℕ) (o : Option ConstantRules.Const) → sizeOf (viewOf T n t o) ≡ sizeWith 0 (o whenSome bytesOnly)
 unfolding _whenSome_ bytesOnly sizeWith
 only-size T n t none = refl
-only-size T n t (some (ConstantRules.Const.Bytes bytes)) = let e : min cap (length bytes) ≡ min cap (0 + length bytes) = omega arith in ap Si.Of e
+only-size T n t (some (ConstantRules.Const.Bytes bytes)) = let e : min cap (length bytes) ≡ min cap (0 + length bytes) = omega arith in ap Si.Just e
 only-size T n t (some (ConstantRules.Const.Prefix bytes)) = refl
 only-size T n t (some (ConstantRules.Const.Fuzzy x d a)) = refl
 
@@ -69,12 +69,12 @@ module _ (b : ℕ → ℕ → Option ConstantRules.Const) (patterns : List File.
   unfolding fieldBytes _whenSome_ sizeWith
   field-none r e q = ap (λ (o : Option ℕ). sizeWith 0 (o whenSome λ p. b p t whenSome bytesOnly)) (sym (ap foundOption q) ∙ e)
 
-  pub field-some : (r : Found) (p : ℕ) (s : Size) → foundOption r ≡ fieldPattern patterns x → r ≡ Fo.At p → s ≡ sizeWith 0 (b p t whenSome bytesOnly) → s ≡ sizeWith 0 (fieldBytes b patterns x t)
+  pub field-some : (r : Found) (p : ℕ) (s : Size) → foundOption r ≡ fieldPattern patterns x → r ≡ Fo.Just p → s ≡ sizeWith 0 (b p t whenSome bytesOnly) → s ≡ sizeWith 0 (fieldBytes b patterns x t)
   unfolding fieldBytes _whenSome_
   field-some r p s e q g = g ∙ ap (λ (o : Option ℕ). sizeWith 0 (o whenSome λ p. b p t whenSome bytesOnly)) (sym (ap foundOption q) ∙ e)
 
 -- the pattern that was found
-pub pattern-ok : (f : List ℕ) (T : Tables) (node n at x : ℕ) → Patterns f T node n at → (r : Found) (p : ℕ) → foundOption r ≡ fieldPattern (run (patternAt f) 4 n at) x → r ≡ Fo.At p → (p < length (T .nodes)) × (constantRank T p < constantRank T node)
+pub pattern-ok : (f : List ℕ) (T : Tables) (node n at x : ℕ) → Patterns f T node n at → (r : Found) (p : ℕ) → foundOption r ≡ fieldPattern (run (patternAt f) 4 n at) x → r ≡ Fo.Just p → (p < length (T .nodes)) × (constantRank T p < constantRank T node)
 unfolding fieldPattern
 pattern-ok f T node n at x k r p e q =
     let w = bind-some _ (λ g. some (g .node)) p (sym e ∙ ap foundOption q) in
@@ -134,7 +134,7 @@ module _ (b : ℕ → ℕ → Option ConstantRules.Const) (patterns : List File.
   before total l bytes (some more) e =
       let n : length (bytes ++ more) ≡ length bytes + length more = length-append bytes more in
       let q : min cap (total + length (bytes ++ more)) ≡ min cap (min cap (total + l) + length more) = omega arith in
-      ap Si.Of q
+      ap Si.Just q
 
   module _ (total i : ℕ) (a : Adding total i) (v : FieldTy) (h : i < k) (e : fieldOf v ≡ fieldAt f (from + 4 * i)) (s : Size) (q : s ≡ sizeWith 0 (fieldBytes b patterns (v .name) (v .ty))) where
     pub add-none : s ≡ Si.Nothing → Si.Nothing ≡ sizeWith 0 (constantFields b patterns (run (fieldAt f) 4 k from))
@@ -143,7 +143,7 @@ module _ (b : ℕ → ℕ → Option ConstantRules.Const) (patterns : List File.
         sym (a .same ∙ ap (sizeWith total) (fields-more i v h e)
         ∙ ap (λ (o : Option (List ℕ)). sizeWith total (o whenSome λ bytes. fieldsFrom (i + 1) whenSome λ more. some (bytes ++ more))) (size-none 0 (fieldBytes b patterns (v .name) (v .ty)) (sym d ∙ q)))
 
-    pub add-more : (l total′ : ℕ) → s ≡ Si.Of l → total′ ≡ min cap (total + l) → Adding total′ (i + 1)
+    pub add-more : (l total′ : ℕ) → s ≡ Si.Just l → total′ ≡ min cap (total + l) → Adding total′ (i + 1)
     unfolding _whenSome_
     add-more l total′ d g =
         let w = size-is 0 l (fieldBytes b patterns (v .name) (v .ty)) (sym d ∙ q) in
@@ -156,11 +156,11 @@ module _ (b : ℕ → ℕ → Option ConstantRules.Const) (patterns : List File.
               ∙ before total l (w .0) (fieldsFrom (i + 1)) (w .2) ∙ ap (λ (j : ℕ). sizeWith j (fieldsFrom (i + 1))) (sym g);
         }
 
-  pub add-end : (total i : ℕ) → Adding total i → k ≤ i → Si.Of total ≡ sizeWith 0 (constantFields b patterns (run (fieldAt f) 4 k from))
+  pub add-end : (total i : ℕ) → Adding total i → k ≤ i → Si.Just total ≡ sizeWith 0 (constantFields b patterns (run (fieldAt f) 4 k from))
   unfolding sizeWith
   add-end total i a h =
       let m : min cap (total + 0) ≡ total = omega (arith, a .small) in
-      sym (a .same ∙ ap (sizeWith total) (fields-end i h) ∙ ap Si.Of m)
+      sym (a .same ∙ ap (sizeWith total) (fields-end i h) ∙ ap Si.Just m)
 
 -- a field's type is in range
 pub field-type : (f : List ℕ) (T : Tables) (k from i : ℕ) → Fields f T k from → i < k → (v : FieldTy) → fieldOf v ≡ fieldAt f (from + 4 * i) → v .ty < length (T .types)

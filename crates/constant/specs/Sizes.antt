@@ -24,12 +24,12 @@ cap = 65536
 -- k bytes and those of o, if there are any
 unfoldable pub sizeWith : ℕ → Option (List ℕ) → Size
 sizeWith k none = Si.Nothing
-sizeWith k (some bytes) = Si.Of (min cap (k + length bytes))
+sizeWith k (some bytes) = Si.Just (min cap (k + length bytes))
 
 -- what was measured stops at the cap
 abbrev pub Small : Size → Type 0
 Small Si.Nothing = Unit {0}
-Small (Si.Of n) = n ≤ cap
+Small (Si.Just n) = n ≤ cap
 
 -- the code's anchor for the rules'
 abbrev pub anchorView : File.Anchor → Anchor
@@ -98,14 +98,14 @@ bytesAlone (Ty.Union alts) c = Co.Nothing
 -- the length that a constant carries, if it is bytes
 abbrev pub sizeOf : Const → Size
 sizeOf Co.Nothing = Si.Nothing
-sizeOf (Co.Bytes n t k) = Si.Of k
+sizeOf (Co.Bytes n t k) = Si.Just k
 sizeOf (Co.Prefix x) = Si.Nothing
 sizeOf (Co.Fuzzy x d a) = Si.Nothing
 
 -- k bytes around what was measured
 abbrev pub wrapped : ℕ → ℕ → ℕ → Size → Const
 wrapped n t k Si.Nothing = Co.Nothing
-wrapped n t k (Si.Of l) = Co.Bytes n t (min cap (k + l))
+wrapped n t k (Si.Just l) = Co.Bytes n t (min cap (k + l))
 
 -- a field's bytes: those of the first pattern of its name
 unfoldable pub fieldBytes : (ℕ → ℕ → Option ConstantRules.Const) → List FieldPattern → ℕ → ℕ → Option (List ℕ)

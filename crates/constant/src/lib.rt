@@ -39,7 +39,7 @@ pub enum Const {
 // A number of bytes, which stops at CAP.
 pub enum Size {
     Nothing,
-    Of(usize),
+    Just(usize),
 }
 
 // Longer than any plan: what is as long or longer counts as this long, so that no sum of lengths overflows.
@@ -169,7 +169,7 @@ fn bytes_only(c: Const) -> Size
 {
     match c {
         Const::Nothing => Size::Nothing,
-        Const::Bytes(_, _, n) => Size::Of(n),
+        Const::Bytes(_, _, n) => Size::Just(n),
         Const::Prefix(_) => Size::Nothing,
         Const::Fuzzy(_, _, _) => Size::Nothing,
     }
@@ -183,7 +183,7 @@ fn wrap(node: usize, ty: usize, k: usize, s: Size) -> Const
 {
     match s {
         Size::Nothing => Const::Nothing,
-        Size::Of(n) => Const::Bytes(node, ty, capped(k, n)),
+        Size::Just(n) => Const::Bytes(node, ty, capped(k, n)),
     }
 }
 
@@ -206,7 +206,7 @@ fn constant_field(
         r ≡ sizeWith 0 (fieldBytes (ConstantRules.constant (tablesOf f)) patterns name ty)
         ) ⌝ }
 {
-    let Found::At(p) = field_pattern(file, at, n, name) else {
+    let Found::Just(p) = field_pattern(file, at, n, name) else {
         return Size::Nothing;
     };
     bytes_only(constant(file, index, p, ty))
@@ -236,13 +236,13 @@ fn constant_fields(
     let mut i: usize = 0;
     while i < k {
         let f = field_ty_at(file, from, i);
-        let Size::Of(len) = constant_field(file, index, node, n, at, f.name, f.ty) else {
+        let Size::Just(len) = constant_field(file, index, node, n, at, f.name, f.ty) else {
             return Size::Nothing;
         };
         total = capped(total, len);
         i += 1;
     }
-    Size::Of(total)
+    Size::Just(total)
 }
 
 // The payload of a union value: a record of one pair, which names one of the k alternatives.

@@ -152,7 +152,7 @@ module _ (T : Tables) (x r t : ℕ) (path : File.FieldPath) where
             is = next ∙ ap (λ (y : Found). from (drop (i + 1) (T .constraints)) (by (foundOption y) s)) d;
           }
 
-      pub going-one : (n : ℕ) → q ≡ Fo.At n → (s′ : State) → s′ ≡ narrowOr T n t path true s → (w′ p′ : List ℕ) → length w′ ≡ length w → length p′ ≡ length p → Going (i + 1) s₀ s′ w₀ p₀ w′ p′
+      pub going-one : (n : ℕ) → q ≡ Fo.Just n → (s′ : State) → s′ ≡ narrowOr T n t path true s → (w′ p′ : List ℕ) → length w′ ≡ length w → length p′ ≡ length p → Going (i + 1) s₀ s′ w₀ p₀ w′ p′
       unfolding by
       going-one n d s′ g w′ p′ ew ep =
           record {

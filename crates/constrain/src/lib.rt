@@ -176,7 +176,7 @@ fn pattern_for(file: &[u8], index: &[u16], name: usize, rank: usize, k: usize) -
         return Found::Nothing;
     }
     if rank_of(file, index, c.node) == rank {
-        Found::At(c.node)
+        Found::Just(c.node)
     } else {
         Found::Nothing
     }
@@ -209,7 +209,7 @@ fn constrain_rank(
     while k < n {
         let found = pattern_for(file, index, name, rank, k);
         k += 1;
-        if let Found::At(p) = found {
+        if let Found::Just(p) = found {
             l = narrow_or_report(file, index, work, plan, p, ty, path, true, l);
         }
     }

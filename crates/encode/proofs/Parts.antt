@@ -127,7 +127,7 @@ module _ (f : List ℕ) (T : Tables) (n t : ℕ) (v : NodeView) (k : ConstantSee
 
 -- A field's bytes are those of its pattern.
 module _ (T : Tables) (patterns : List File.FieldPattern) (x t : ℕ) (r : Found) (e : foundOption r ≡ fieldPattern patterns x) where
-  pub field-bytes : (p : ℕ) → r ≡ Fo.At p → fieldBytes (ConstantRules.constant T) patterns x t ≡ bytesOf T p t
+  pub field-bytes : (p : ℕ) → r ≡ Fo.Just p → fieldBytes (ConstantRules.constant T) patterns x t ≡ bytesOf T p t
   unfolding fieldBytes bytesOf _whenSome_
   field-bytes p q = sym (ap (λ (o : Option ℕ). o whenSome λ p. ConstantRules.constant T p t whenSome bytesOnly) (sym (ap foundOption q) ∙ e))
 

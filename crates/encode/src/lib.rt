@@ -191,7 +191,7 @@ fn put_field(
         Wrote (orEmpty bytes) at (now (buf .entry)) r (now (buf .exit))
         ) ⌝ }
 {
-    let Found::At(p) = field_pattern(file, pairs, n, name) else {
+    let Found::Just(p) = field_pattern(file, pairs, n, name) else {
         return at;
     };
     put_constant(file, index, buf, at, p, ty)

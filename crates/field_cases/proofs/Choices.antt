@@ -60,7 +60,7 @@ module _ (T : Tables) (n t : ℕ) where
       pub no-union : ur ≡ Ru.Nothing → unchosen s ≡ alternative s
       no-union e = nothing-left (recordFields (nodeAt T n)) ∙ ap (λ o. alternativeChoice (recordFields (nodeAt T n)) o n s) (subst (SeenRun f (alternativeAt f) 8 (unionTy (typeAt T t))) e union .is)
 
-      module _ (k at m from : ℕ) (ep : pr ≡ Ru.Of k at) (eu : ur ≡ Ru.Of m from) where
+      module _ (k at m from : ℕ) (ep : pr ≡ Ru.Just k at) (eu : ur ≡ Ru.Just m from) where
         both-are : onlyChoice (onlyField (run (patternAt f) 4 k at)) (run (alternativeAt f) 8 m from) n s ≡ alternative s
         unfolding alternativeChoice
         both-are =

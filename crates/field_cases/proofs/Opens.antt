@@ -22,7 +22,7 @@ use Rattle.field_cases.specs.Pieces.{Lower, patternsOf, openFields, fiel
 use Rattle.field_cases.specs.declared.Piece.{Piece}
 
 -- a run's records are inside the file
-pub run-inside : {A : Type 0} (f : List ℕ) (g : ℕ → A) (w : ℕ) (o : Option (List A)) (r : Run) → SeenRun f g w o r → (k from : ℕ) → r ≡ Ru.Of k from → from + w * k ≤ length f
+pub run-inside : {A : Type 0} (f : List ℕ) (g : ℕ → A) (w : ℕ) (o : Option (List A)) (r : Run) → SeenRun f g w o r → (k from : ℕ) → r ≡ Ru.Just k from → from + w * k ≤ length f
 run-inside f g w o r s k from e = subst (SeenRun f g w o) e s .inside
 
 none-open : (o : Option (List File.FieldPattern)) → openFields o none ≡ []
@@ -40,7 +40,7 @@ module _ (f : List ℕ) (T : Tables) (n t : ℕ) (a : Run) (pairs : SeenRun f (p
     unfolding fieldsFor
     no-fields e = ap (openFields (recordFields (nodeAt T n))) (sym (subst (SeenRun f (fieldAt f) 4 (recordTy (typeAt T t))) e fields .is)) ∙ none-open (recordFields (nodeAt T n))
 
-    module _ (m at k from : ℕ) (ea : a ≡ Ru.Of m at) (eb : b ≡ Ru.Of k from) where
+    module _ (m at k from : ℕ) (ea : a ≡ Ru.Just m at) (eb : b ≡ Ru.Just k from) where
       pairs-are : recordFields (nodeAt T n) ≡ some (run (patternAt f) 4 m at)
       pairs-are = sym (subst (SeenRun f (patternAt f) 4 (recordFields (nodeAt T n))) ea pairs .is)
 

@@ -135,7 +135,7 @@ module _ (T : Tables) (n : ℕ) where
     abbrev by-fields : Option (List FieldPattern) → Start
     by-fields o = elim o [ some fields ↦ Start.Partial s | none ↦ Start.Done (unresolved (ops T) T n before s) ]
 
-    pub pieces-some : (i at : ℕ) → run ≡ Ru.Of i at → Start.Partial s ≡ piecesStart T n before s
+    pub pieces-some : (i at : ℕ) → run ≡ Ru.Just i at → Start.Partial s ≡ piecesStart T n before s
     unfolding piecesStart
     pieces-some i at e = ap by-fields (subst (SeenRun f (patternAt f) 4 (recordFields (nodeAt T n))) e k .is)
 

@@ -63,7 +63,7 @@ module _ (f : List ℕ) (o : Option (List FieldPattern)) (u : Option (List Alter
   unfolding isInjection
   no-record e = ap (λ (p : Option (List FieldPattern)). isInjection p u) (subst (SeenRun f (patternAt f) 4 o) e k .is)
 
-  module _ (i at : ℕ) (e : r ≡ Ru.Of i at) (q : Run) (l : SeenRun f (alternativeAt f) 8 u q) where
+  module _ (i at : ℕ) (e : r ≡ Ru.Just i at) (q : Run) (l : SeenRun f (alternativeAt f) 8 u q) where
     as-some : isInjection (some (run (patternAt f) 4 i at)) u ≡ isInjection o u
     as-some = ap (λ (p : Option (List FieldPattern)). isInjection p u) (subst (SeenRun f (patternAt f) 4 o) e k .is)
 
@@ -71,7 +71,7 @@ module _ (f : List ℕ) (o : Option (List FieldPattern)) (u : Option (List Alter
     unfolding isInjection
     no-union g = ap (isInjection (some (run (patternAt f) 4 i at))) (subst (SeenRun f (alternativeAt f) 8 u) g l .is) ∙ as-some
 
-    pub record-and-union : (j from : ℕ) → q ≡ Ru.Of j from → true ≡ isInjection o u
+    pub record-and-union : (j from : ℕ) → q ≡ Ru.Just j from → true ≡ isInjection o u
     unfolding isInjection
     record-and-union j from g = ap (isInjection (some (run (patternAt f) 4 i at))) (subst (SeenRun f (alternativeAt f) 8 u) g l .is) ∙ as-some
 

@@ -156,7 +156,7 @@ unchosen s = record { payload = none; state = s }
 
 abbrev pub payloadOf : Code-choice.Choice → Option Payload
 payloadOf Ch.Nothing = none
-payloadOf (Ch.Payload disc n t) = some (record { disc = disc; node = n; type = t })
+payloadOf (Ch.Just disc n t) = some (record { disc = disc; node = n; type = t })
 
 abbrev pub choosingOf : Chosen → State → Choosing
 choosingOf r s = record { payload = payloadOf (r .choice); state = s }

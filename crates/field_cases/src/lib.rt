@@ -70,7 +70,7 @@ pub struct Met {
 // The alternative that `inject` goes on with, if any: its disc, its payload's pattern and type.
 pub enum Choice {
     Nothing,
-    Payload(u32, usize, usize),
+    Just(u32, usize, usize),
 }
 
 pub struct Chosen {
@@ -93,7 +93,7 @@ pub fn pairs_of(file: &[u8], index: &[u16], node: usize) -> Run
         ) ⌝ }
 {
     if let NodeView::Record(k, at) = node_of(file, index, node) {
-        Run::Of(k, at)
+        Run::Just(k, at)
     } else {
         Run::Nothing
     }
@@ -106,10 +106,10 @@ pub fn pieces(file: &[u8], index: &[u16], node: usize, ty: usize) -> usize
     ensures counts { λ r. ⌜ r ≡ length (fieldsFor (tablesOf (now (file .entry))) node ty) ⌝ }
     ensures bounded { λ r. ⌜ r < fileLimit ⌝ }
 {
-    let Run::Of(n, at) = pairs_of(file, index, node) else {
+    let Run::Just(n, at) = pairs_of(file, index, node) else {
         return 0;
     };
-    if let Run::Of(k, from) = record_ty(file, index, ty) {
+    if let Run::Just(k, from) = record_ty(file, index, ty) {
         k
     } else {
         0
@@ -123,13 +123,13 @@ pub fn piece_at(file: &[u8], index: &[u16], node: usize, ty: usize, i: usize) ->
     requires { ⌜ i < length (fieldsFor (tablesOf (now file)) node ty) ⌝ }
     ensures { λ r. ⌜ Pieced (tablesOf (now (file .entry))) node ty i r ⌝ }
 {
-    let Run::Of(n, at) = pairs_of(file, index, node) else {
+    let Run::Just(n, at) = pairs_of(file, index, node) else {
         return Piece {
             pattern: Found::Nothing,
             ty: 0,
         };
     };
-    let Run::Of(k, from) = record_ty(file, index, ty) else {
+    let Run::Just(k, from) = record_ty(file, index, ty) else {
         return Piece {
             pattern: Found::Nothing,
             ty: 0,
@@ -205,7 +205,7 @@ fn begin_pieces(
         ) ⌝ }
     ensures unset { λ r. ⌜ r .slot ≡ slotBeside (r .next) (r .slot) ⌝ }
 {
-    if let Run::Of(_, _) = pairs_of(file, index, node) {
+    if let Run::Just(_, _) = pairs_of(file, index, node) {
         let slot = Slot::plain(SlotKind::Const(0));
         return Begun {
             next: Next::Partial,
@@ -288,10 +288,10 @@ fn is_injection(file: &[u8], index: &[u16], node: usize, ty: usize) -> bool
         r ≡ isInjection (recordFields (nodeAt T node)) (unionTy (typeAt T ty))
         ) ⌝ }
 {
-    let Run::Of(_, _) = pairs_of(file, index, node) else {
+    let Run::Just(_, _) = pairs_of(file, index, node) else {
         return false;
     };
-    if let Run::Of(_, _) = union_ty(file, index, ty) {
+    if let Run::Just(_, _) = union_ty(file, index, ty) {
         true
     } else {
         false
@@ -470,7 +470,7 @@ fn meet_const(
         return unopened(walk);
     }
     Met {
-        opens: Found::At(folded),
+        opens: Found::Just(folded),
         walk,
     }
 }
@@ -537,10 +537,10 @@ fn choose_alternative(
         choosingOf r after ≡ alternativeChoice (recordFields (nodeAt T node)) (unionTy (typeAt T ty)) node before
         ) ⌝ }
 {
-    let Run::Of(k, at) = pairs_of(file, index, node) else {
+    let Run::Just(k, at) = pairs_of(file, index, node) else {
         return unchosen(w);
     };
-    let Run::Of(m, from) = union_ty(file, index, ty) else {
+    let Run::Just(m, from) = union_ty(file, index, ty) else {
         return unchosen(w);
     };
     if k != 1 {
@@ -550,7 +550,7 @@ fn choose_alternative(
     let MaybeAlternative::Just(a) = alternative_of(file, from, m, p.name) else {
         return unchosen(w.diagnose(work, node, Code::RejectUnknownAlternative, true));
     };
-    let choice = Choice::Payload(a.disc, p.node, a.ty);
+    let choice = Choice::Just(a.disc, p.node, a.ty);
     Chosen { choice, walk: w }
 }
 

@@ -15,7 +15,7 @@ use Rattle.fields.specs.declared.MaybeAddress.the-variants as Address
 
 abbrev pub placeOf : FieldAt → Option Lookup.FieldAt
 placeOf Place.Nothing = none
-placeOf (Place.At i t) = some (record { index = i; type = t })
+placeOf (Place.Just i t) = some (record { index = i; type = t })
 
 abbrev pub nameOption : MaybeName → Option ℕ
 nameOption Name.Nothing = none

@@ -44,7 +44,7 @@ use views::long_at;
 // A field's place in its record type, and its type.
 pub enum FieldAt {
     Nothing,
-    At(u16, usize),
+    Just(u16, usize),
 }
 
 pub enum MaybeName {
@@ -66,7 +66,7 @@ fn field_from(file: &[u8], at: usize, n: usize, name: usize) -> FieldAt
     while i < n {
         let f = field_ty_at(file, at, i);
         if f.name == name {
-            return FieldAt::At(i as u16, f.ty);
+            return FieldAt::Just(i as u16, f.ty);
         }
         i += 1;
     }
@@ -217,7 +217,7 @@ pub fn key_field(file: &[u8], index: &[u16], address: Address, ty: usize, name: 
 {
     match field_of(file, index, ty, name) {
         FieldAt::Nothing => nothing(),
-        FieldAt::At(i, t) => just(Slot::field(address, FieldPath::field(i), t)),
+        FieldAt::Just(i, t) => just(Slot::field(address, FieldPath::field(i), t)),
     }
 }
 
@@ -239,7 +239,7 @@ pub fn path_field(
 {
     match field_of(file, index, ty, name) {
         FieldAt::Nothing => nothing(),
-        FieldAt::At(i, t) => just(Slot::field(address, within(path).then(i as u32), t)),
+        FieldAt::Just(i, t) => just(Slot::field(address, within(path).then(i as u32), t)),
     }
 }
 
@@ -318,6 +318,6 @@ pub fn folded_slot(file: &[u8], index: &[u16], folded: usize, name: usize) -> Ma
 {
     match folded_field(file, index, folded, name) {
         Found::Nothing => nothing(),
-        Found::At(n) => just(Slot::plain(SlotKind::Const(n))),
+        Found::Just(n) => just(Slot::plain(SlotKind::Const(n))),
     }
 }

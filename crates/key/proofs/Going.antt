@@ -60,7 +60,7 @@ module _ (T : Tables) (a n t : ℕ) (missing : State → State) (place : ℕ →
             is = λ m l. next m l Fo.Nothing e ∙ ap (left T a n t missing place m (i + 1)) (sym q);
           }
 
-      pub going-given : (j : ℕ) → r .pattern ≡ Fo.At j → (q : FieldPath) → Holds q (place i) → Walks T a j (r .ty) (pathOf q) s s′ → Going T a n t missing place (i + 1) s₀ s′ w₀ p₀ w′ p′
+      pub going-given : (j : ℕ) → r .pattern ≡ Fo.Just j → (q : FieldPath) → Holds q (place i) → Walks T a j (r .ty) (pathOf q) s s′ → Going T a n t missing place (i + 1) s₀ s′ w₀ p₀ w′ p′
       unfolding turn
       going-given j e q o x =
           record {
@@ -68,7 +68,7 @@ module _ (T : Tables) (a n t : ℕ) (missing : State → State) (place : ℕ →
             work-long = ew ∙ v .work-long;
             plan-long = ep ∙ v .plan-long;
             is = λ m l.
-                next m l (Fo.At j) e
+                next m l (Fo.Just j) e
                 ∙ ap (left T a n t missing place m (i + 1))
                 (ap (λ (y : File.FieldPath). fieldBelow (ops T) T a m j (r .ty) y s) (sym (o .is)) ∙ sym (x .is m (omega (arith, k .lower .lower))));
           }

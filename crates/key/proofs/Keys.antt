@@ -42,11 +42,11 @@ module _ (f : List ℕ) (T : Tables) (a n t : ℕ) (s₀ : State) (r : Run) (k :
       ∙ ap (λ (x : File.FieldPath). field (ops T) T a n t x s₀) (p .is)
       ∙ ap (λ o. by o (recordFields (nodeAt T n))) (subst (SeenRun f (fieldAt f) 4 (recordTy (typeAt T t))) e k .is)
 
-  module _ (m from : ℕ) (e : r ≡ Ru.Of m from) (pr : Run) (l : SeenRun f (patternAt f) 4 (recordFields (nodeAt T n)) pr) where
+  module _ (m from : ℕ) (e : r ≡ Ru.Just m from) (pr : Run) (l : SeenRun f (patternAt f) 4 (recordFields (nodeAt T n)) pr) where
     type-is : some (run (fieldAt f) 4 m from) ≡ recordTy (typeAt T t)
     type-is = subst (SeenRun f (fieldAt f) 4 (recordTy (typeAt T t))) e k .is
 
-    pub key-record : (i at : ℕ) → pr ≡ Ru.Of i at → s ≡ eachField (field (ops T) T a) skip fieldPath (patternsOf T n) 0 (fieldsFor T n t) s₀ → s ≡ key (ops T) T a n t s₀
+    pub key-record : (i at : ℕ) → pr ≡ Ru.Just i at → s ≡ eachField (field (ops T) T a) skip fieldPath (patternsOf T n) 0 (fieldsFor T n t) s₀ → s ≡ key (ops T) T a n t s₀
     unfolding key recordKey patternsOf fieldsFor openFields
     key-record i at d q =
         let p : some (run (patternAt f) 4 i at) ≡ recordFields (nodeAt T n) = subst (SeenRun f (patternAt f) 4 (recordFields (nodeAt T n))) d l .is in

@@ -85,9 +85,9 @@ module _ (T : Tables) (a n : ℕ) (slot : File.Slot) (t : ℕ) (path : File.Fiel
   unfolding opened
   matched-done e = record { is = λ m h. matched-is m Fo.Nothing e }
 
-  pub matched-partial : (k : ℕ) → r .opens ≡ Fo.At k → (s₂ : State) → Gives T a t (λ g. partial (ops T) T a g k t path s₁) s₂ → Gives T a t (λ g. matched (ops T) T a g n slot t path s₀) s₂
+  pub matched-partial : (k : ℕ) → r .opens ≡ Fo.Just k → (s₂ : State) → Gives T a t (λ g. partial (ops T) T a g k t path s₁) s₂ → Gives T a t (λ g. matched (ops T) T a g n slot t path s₀) s₂
   unfolding opened
-  matched-partial k e s₂ p = record { is = λ m h. p .is m h ∙ matched-is m (Fo.At k) e }
+  matched-partial k e s₂ p = record { is = λ m h. p .is m h ∙ matched-is m (Fo.Just k) e }
 
 -- `inject`
 module _ (T : Tables) (a n t : ℕ) (path : File.FieldPath) (s₀ s₁ : State) (r : Chosen) (b : choosingOf r s₁ ≡ choosing T n t path s₀) where
@@ -101,7 +101,7 @@ module _ (T : Tables) (a n t : ℕ) (path : File.FieldPath) (s₀ s₁ : State) 
   unfolding injected
   inject-done e = record { is = λ m h. inject-is m Ch.Nothing e }
 
-  module _ (d k c : ℕ) (e : r .choice ≡ Ch.Payload d k c) where
+  module _ (d k c : ℕ) (e : r .choice ≡ Ch.Just d k c) where
     pub inject-lower : Sound T → t < length (T .types) → Lower T t c
     inject-lower S h = choosing-lower T t n s₀ (record { disc = d; node = k; type = c }) path S h (ap (λ (x : Choosing). x .payload) (sym b) ∙ ap payloadOf e)
 
@@ -115,7 +115,7 @@ module _ (T : Tables) (a n t : ℕ) (path : File.FieldPath) (s₀ s₁ : State) 
               (w .is m (omega (arith, l .lower))
               ∙ ap (λ (p : File.FieldPath). fieldBelow (ops T) T a m k c p s₂) (o .is)
               ∙ ap (fieldBelow (ops T) T a m k c (payload path d)) tag)
-              ∙ inject-is m (Ch.Payload d k c) e;
+              ∙ inject-is m (Ch.Just d k c) e;
         }
 
 -- `partial`

@@ -73,7 +73,7 @@ module _ (f : List ℕ) (T : Tables) (t : ℕ) (r : Run) (k : SeenRun f (fieldAt
   unfolding fieldsOf wholeFields
   matching-none e a n slot s = ap (λ o. wholeFields (ops T) T a n slot 0 (Option·getD o []) s) (subst (SeenRun f (fieldAt f) 4 (recordTy (typeAt T t))) e k .is)
 
-  module _ (m at : ℕ) (e : r ≡ Ru.Of m at) where
+  module _ (m at : ℕ) (e : r ≡ Ru.Just m at) where
     pub fields-inside : at + 4 * m ≤ length f
     fields-inside = subst (SeenRun f (fieldAt f) 4 (recordTy (typeAt T t))) e k .inside
 

@@ -105,7 +105,7 @@ pub fn matched(
 {
     let m = meet(file, index, work, plan, node, slot, ty, address, path, w);
     let opens = m.opens;
-    let Found::At(n) = opens else {
+    let Found::Just(n) = opens else {
         return m.walk;
     };
     partial(file, index, work, plan, n, ty, address, path, m.walk)
@@ -142,7 +142,7 @@ pub fn partial(
         let pattern = p.pattern;
         let step = i as u32;
         i += 1;
-        if let Found::At(n) = pattern {
+        if let Found::Just(n) = pattern {
             let q = path.then(step);
             l = field(file, index, work, plan, n, p.ty, address, q, l);
         }
@@ -176,7 +176,7 @@ pub fn inject(
     let c = choose(file, index, work, plan, node, ty, path, w);
     let open = c.walk;
     let choice = c.choice;
-    let Choice::Payload(disc, n, t) = choice else {
+    let Choice::Just(disc, n, t) = choice else {
         return open;
     };
     let level = open.level;
@@ -215,7 +215,7 @@ fn record_key(
         let pattern = p.pattern;
         let path = FieldPath::field(i as u16);
         i += 1;
-        if let Found::At(n) = pattern {
+        if let Found::Just(n) = pattern {
             l = field(file, index, work, plan, n, p.ty, address, path, l);
         } else {
             l = l.skip();
@@ -287,7 +287,7 @@ fn whole_fields(
         after ≡ WalkRules.wholeFields (ops T) T (address .0) node (slotOf slot) 0 (fieldsOf T ty) before
         ) ⌝ }
 {
-    let Run::Of(n, at) = record_ty(file, index, ty) else {
+    let Run::Just(n, at) = record_ty(file, index, ty) else {
         return w;
     };
     let mut l = w;
@@ -405,11 +405,11 @@ pub fn key(
         after ≡ WalkRules.key (ops T) T (address .0) node ty before
         ) ⌝ }
 {
-    let Run::Of(_, _) = record_ty(file, index, ty) else {
+    let Run::Just(_, _) = record_ty(file, index, ty) else {
         let path = FieldPath::field(0);
         return field(file, index, work, plan, node, ty, address, path, w);
     };
-    if let Run::Of(_, _) = pairs_of(file, index, node) {
+    if let Run::Just(_, _) = pairs_of(file, index, node) {
         return record_key(file, index, work, plan, node, ty, address, w);
     }
     whole_key(file, index, work, plan, node, ty, address, w)

@@ -56,10 +56,10 @@ module _ (f : List ℕ) (p : ℕ) (x : Readable f p) where
 
 -- what was found, as a view
 module _ (f : List ℕ) (o : Option Slot) (r : Found) (s : SeenAt f o r) where
-  pub found-reads : (p : ℕ) → r ≡ Fo.At p → Readable f p
+  pub found-reads : (p : ℕ) → r ≡ Fo.Just p → Readable f p
   found-reads p e = subst (FoundReads f) e (s .reads)
 
-  pub found-slot : (p : ℕ) (v : SlotView) → r ≡ Fo.At p → SeenView f (slotFrom f p) v → SeenSlot f o (Ms.Just v)
+  pub found-slot : (p : ℕ) (v : SlotView) → r ≡ Fo.Just p → SeenView f (slotFrom f p) v → SeenSlot f o (Ms.Just v)
   found-slot p v e w = record { is = w .is ∙ ap (slotAt f) (sym e) ∙ s .is; inside = w .inside }
 
   pub found-none : r ≡ Fo.Nothing → SeenSlot f o Ms.Nothing
@@ -108,7 +108,7 @@ pub place-none : (n : ℕ) → n ≡ 0 → Fo.Nothing ≡ placeOf n
 unfolding placeOf
 place-none n e = sym (ap placeOf e)
 
-pub place-next : (n p : ℕ) → n ≡ suc p → Fo.At p ≡ placeOf n
+pub place-next : (n p : ℕ) → n ≡ suc p → Fo.Just p ≡ placeOf n
 unfolding placeOf
 place-next n p e = sym (ap placeOf e)
 
@@ -116,11 +116,11 @@ place-next n p e = sym (ap placeOf e)
 module _ (f : List ℕ) (p x : ℕ) (found : ℕ) (w : ℕ) (e : w ≡ word f p) where
   pub later-hit : (n : ℕ) → n ≡ suc p → w ≡ x → placeOf n ≡ later f p x (placeOf found)
   unfolding later
-  later-hit n g h = sym (place-next n p g) ∙ sym (ap (λ (t : Bool). elim t as (λ _. Found) [ true ↦ Fo.At p | false ↦ placeOf found ]) (eq-eqb (word f p) x (sym e ∙ h)))
+  later-hit n g h = sym (place-next n p g) ∙ sym (ap (λ (t : Bool). elim t as (λ _. Found) [ true ↦ Fo.Just p | false ↦ placeOf found ]) (eq-eqb (word f p) x (sym e ∙ h)))
 
   pub later-miss : (w ≡ x → ⊥) → placeOf found ≡ later f p x (placeOf found)
   unfolding later
-  later-miss h = sym (ap (λ (t : Bool). elim t as (λ _. Found) [ true ↦ Fo.At p | false ↦ placeOf found ]) (ne-eqb (word f p) x (λ g. h (e ∙ g))))
+  later-miss h = sym (ap (λ (t : Bool). elim t as (λ _. Found) [ true ↦ Fo.Just p | false ↦ placeOf found ]) (ne-eqb (word f p) x (λ g. h (e ∙ g))))
 
 module _ (f : List ℕ) (x : ℕ) where
   abbrev all : Option Binding
@@ -189,8 +189,8 @@ module _ (f : List ℕ) (x : ℕ) where
           turn : all ≡ lastOr (bindingAt f found) (λ b. eqb (b .name) x) (n .value ∷ rest)
           turn = s .same ∙ ap (lastOr (bindingAt f found) (λ b. eqb (b .name) x)) (one-more (s .fuel) (s .fuel - 1) (drop p f) (drop q f) (n .value) fuelled (n .is))
 
-          goes : (c : Bool) → eqb (word f p) x ≡ c → next ≡ (elim c as (λ _. Found) [ true ↦ Fo.At p | false ↦ found ])
-          goes c t = e ∙ ap (λ (c : Bool). elim c as (λ _. Found) [ true ↦ Fo.At p | false ↦ found ]) t
+          goes : (c : Bool) → eqb (word f p) x ≡ c → next ≡ (elim c as (λ _. Found) [ true ↦ Fo.Just p | false ↦ found ])
+          goes c t = e ∙ ap (λ (c : Bool). elim c as (λ _. Found) [ true ↦ Fo.Just p | false ↦ found ]) t
 
           yes : eqb (word f p) x ≡ true → Scanning q next
           yes t =

@@ -59,14 +59,14 @@ bindingRead (refused n) = none
 
 unfoldable pub bindingAt : List ℕ → Found → Option Binding
 bindingAt f Fo.Nothing = none
-bindingAt f (Fo.At p) = bindingRead (readAt f Read.binding p)
+bindingAt f (Fo.Just p) = bindingRead (readAt f Read.binding p)
 
 unfoldable pub slotAt : List ℕ → Found → Option Slot
 slotAt f r = bindingAt f r whenSome λ b. some (b .slot)
 
 -- the slot of the binding that is read at p
 abbrev pub slotFrom : List ℕ → ℕ → Option Slot
-slotFrom f p = slotAt f (Fo.At p)
+slotFrom f p = slotAt f (Fo.Just p)
 
 -- the bytes after the kind of a slot that is no field
 abbrev pub plainSizes : List ℕ
@@ -80,11 +80,11 @@ endOf (Refused n) = 0
 -- position + 1, or 0 if nothing was found
 unfoldable pub placeOf : ℕ → Found
 placeOf zero = Fo.Nothing
-placeOf (suc p) = Fo.At p
+placeOf (suc p) = Fo.Just p
 
 -- the place p if the binding there has the name, else what was found before it
 unfoldable pub later : List ℕ → ℕ → ℕ → Found → Found
-later f p x found = elim (eqb (word f p) x) [ true ↦ Fo.At p | false ↦ found ]
+later f p x found = elim (eqb (word f p) x) [ true ↦ Fo.Just p | false ↦ found ]
 
 -- how far the bytes a and b are from low and high: 0 where they are the same
 abbrev pub apart : ℕ → ℕ → ℕ → ℕ → ℕ
@@ -103,7 +103,7 @@ pub record Readable (f : List ℕ) (p : ℕ) : Type 0 where
 
 abbrev pub FoundReads : List ℕ → Found → Type 0
 FoundReads f Fo.Nothing = Unit {0}
-FoundReads f (Fo.At p) = Readable f p
+FoundReads f (Fo.Just p) = Readable f p
 
 -- a place is that of the slot o, or there is none
 pub record SeenAt (f : List ℕ) (o : Option Slot) (r : Found) : Type 0 where

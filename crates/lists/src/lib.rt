@@ -307,7 +307,7 @@ fn place(found: usize) -> Found
     if found == 0 {
         return Found::Nothing;
     }
-    Found::At(found - 1)
+    Found::Just(found - 1)
 }
 
 // The binding at p if it has the name, else what was found before it.
@@ -470,7 +470,7 @@ fn made_slot(bytes: &[u8], name: usize) -> MaybeSlotView
     if nearest(bytes, (name % 256) as u8, (name / 256 % 256) as u8) != 0 {
         return MaybeSlotView::Nothing;
     }
-    if let Found::At(p) = find(bytes, name) {
+    if let Found::Just(p) = find(bytes, name) {
         MaybeSlotView::Just(slot_at(bytes, p))
     } else {
         MaybeSlotView::Nothing

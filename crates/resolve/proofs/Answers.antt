@@ -208,7 +208,7 @@ rooms-of T a e h = h (slotOf (a .slot)) (ap (λ (b : Bool). maybe b (slotOf (a .
 -- a node by what it reads of
 abbrev pub stepBy : Tables → (ℕ → Resolver State) → ℕ → Node → Base → Resolver State
 stepBy T f n node Bs.Nothing = λ s. record { slot = leafSlot T (ops T .lookup s) n node; walk = s }
-stepBy T f n node (Bs.Of read b) = f b whenFound readPast T n read
+stepBy T f n node (Bs.Just read b) = f b whenFound readPast T n read
 
 by-base : (T : Tables) (f : ℕ → Resolver State) (n : ℕ) (node : Node) (s : State) → stepBy T f n node (baseOf node) s ≡ resolveNode (ops T) T f n node s
 unfolding baseOf leafSlot resolveNode give _whenFound_
@@ -267,14 +267,14 @@ read-at T n s {x} {y} {l} {w} {r} {w′} e h = subst (λ (x : Read). Answers (re
 pub rooms-from : (T : Tables) {g : Resolver State} {l : Lists} {w : List ℕ} {r : Answer} {w′ : List ℕ} → Answers g l w r w′ → ((s : State) → GivenSlotRoom T (g s .slot)) → GivenSlotRoom T (given r)
 rooms-from T {g} {l} {w} {r} {w′} h k s e = k (stateWith l newLevel measuring w []) s (sym (ap (λ (a : ResolveRules.Answer State). a .slot) (h .is newLevel measuring [])) ∙ e)
 
-pub no-base : {read : Read} {b : ℕ} → Bs.Of read b ≡ Bs.Nothing → ⊥
+pub no-base : {read : Read} {b : ℕ} → Bs.Just read b ≡ Bs.Nothing → ⊥
 no-base e = let z : _≡_ {A = ℕ} 0 1 = cc in omega arith
 
-same-base : {read read′ : Read} {b c : ℕ} → Bs.Of read b ≡ Bs.Of read′ c → b ≡ c
+same-base : {read read′ : Read} {b c : ℕ} → Bs.Just read b ≡ Bs.Just read′ c → b ≡ c
 same-base e = cc
 
 -- a base is lower than its access
-lower-base : (n : ℕ) (node : Node) (read : Read) (b : ℕ) → Each (λ c. c < n) (childNodes node) → Bs.Of read b ≡ baseOf node → b < n
+lower-base : (n : ℕ) (node : Node) (read : Read) (b : ℕ) → Each (λ c. c < n) (childNodes node) → Bs.Just read b ≡ baseOf node → b < n
 unfolding baseOf childNodes
 lower-base n (Node.Int bytes) read b h e = absurd (no-base e)
 lower-base n (Node.Str x) read b h e = absurd (no-base e)
@@ -294,7 +294,7 @@ lower-base n (Node.Fact p c) read b h e = absurd (no-base e)
 lower-base n Node.Arith read b h e = absurd (no-base e)
 lower-base n Node.Error read b h e = absurd (no-base e)
 
-pub base-lower : (T : Tables) → Lower T → (n : ℕ) (read : Read) (b : ℕ) → Bs.Of read b ≡ baseOf (nodeAt T n) → b < n
+pub base-lower : (T : Tables) → Lower T → (n : ℕ) (read : Read) (b : ℕ) → Bs.Just read b ≡ baseOf (nodeAt T n) → b < n
 unfolding nodeAt baseOf
 base-lower T lower n read b e =
     ⊎-elim (λ h. lower-base n (nodeAt T n) read b (lower n h) e)

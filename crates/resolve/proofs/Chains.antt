@@ -46,23 +46,23 @@ module _ (T : Tables) where
   other-reads n b e g = g ∙ ap (reads n) (sym e)
 
   -- a node that reads of another is no constant, and one of the file's
-  reader : (n : ℕ) (read : Read) (b : ℕ) → readOf T n ≡ Bs.Of read b → (isConstant T n ≡ false) × (baseOf (nodeAt T n) ≡ Bs.Of read b)
+  reader : (n : ℕ) (read : Read) (b : ℕ) → readOf T n ≡ Bs.Just read b → (isConstant T n ≡ false) × (baseOf (nodeAt T n) ≡ Bs.Just read b)
   unfolding readOf
   reader n read b =
-      by-test (λ (x : Base). x ≡ Bs.Of read b → (isConstant T n ≡ false) × (baseOf (nodeAt T n) ≡ Bs.Of read b)) (isConstant T n) (λ e g. absurd (no-base (sym g)))
+      by-test (λ (x : Base). x ≡ Bs.Just read b → (isConstant T n ≡ false) × (baseOf (nodeAt T n) ≡ Bs.Just read b)) (isConstant T n) (λ e g. absurd (no-base (sym g)))
       (λ e g. (e, g))
 
-  pub reader-in : (n : ℕ) (read : Read) (b : ℕ) → readOf T n ≡ Bs.Of read b → n < length (T .nodes)
+  pub reader-in : (n : ℕ) (read : Read) (b : ℕ) → readOf T n ≡ Bs.Just read b → n < length (T .nodes)
   unfolding nodeAt baseOf
   reader-in n read b e =
       ⊎-elim (λ h. h) (λ h. absurd (no-base (sym (reader n read b e .1) ∙ ap baseOf (List·getD-eq-default (T .nodes) Node.Error h)))) (lt-or-le n (length (T .nodes)))
 
   -- the way down
-  chain-more : (most m n : ℕ) (read : Read) (b : ℕ) → most ≡ m + 1 → readOf T n ≡ Bs.Of read b → chain T most n ≡ n ∷ chain T m b
+  chain-more : (most m n : ℕ) (read : Read) (b : ℕ) → most ≡ m + 1 → readOf T n ≡ Bs.Just read b → chain T most n ≡ n ∷ chain T m b
   unfolding chain
   chain-more most m n read b h e = ap (λ (k : ℕ). chain T k n) (h ∙ add-one m) ∙ ap (passing n (chain T m)) e
 
-  bottom-more : (most m n : ℕ) (read : Read) (b : ℕ) → most ≡ m + 1 → readOf T n ≡ Bs.Of read b → bottom T most n ≡ bottom T m b
+  bottom-more : (most m n : ℕ) (read : Read) (b : ℕ) → most ≡ m + 1 → readOf T n ≡ Bs.Just read b → bottom T most n ≡ bottom T m b
   unfolding bottom
   bottom-more most m n read b h e = ap (λ (k : ℕ). bottom T k n) (h ∙ add-one m) ∙ ap (ending n (bottom T m)) e
 
@@ -104,7 +104,7 @@ module _ (T : Tables) where
       }
 
   module _ {before : List ℕ} {node : ℕ} {trail : List ℕ} {n k : ℕ} (d : Down before node trail n k) where
-    pub down-more : (read : Read) (b : ℕ) → readOf T n ≡ Bs.Of read b → k < length before → Down before node (set trail k n) b (k + 1)
+    pub down-more : (read : Read) (b : ℕ) → readOf T n ≡ Bs.Just read b → k < length before → Down before node (set trail k n) b (k + 1)
     down-more read b e h =
         let m : length before - k ≡ (length before - (k + 1)) + 1 = omega arith in
         let c = chain-more (length before - k) (length before - (k + 1)) n read b m e in
@@ -141,7 +141,7 @@ module _ (T : Tables) where
     where
       go : ((b : ℕ) → length (chain T m b) ≤ m) → (x : Base) → length (passing n (chain T m) x) ≤ suc m
       go rec Bs.Nothing = omega arith
-      go rec (Bs.Of read b) = omega (arith, rec b)
+      go rec (Bs.Just read b) = omega (arith, rec b)
 
   -- a trail that was not filled
   pub not-filled : (before : List ℕ) (node : ℕ) {trail : List ℕ} {c : Chain} → (c ≡ record { passed = length (chain T (length before) node); node = bottom T (length before) node }) × (trail ≡ sets before 0 (chain T (length before) node))
@@ -158,7 +158,7 @@ module _ (T : Tables) where
     where
       go : ((b : ℕ) → length (chain T m b) < m → readOf T (bottom T m b) ≡ Bs.Nothing) → (x : Base) → readOf T n ≡ x → length (passing n (chain T m) x) < suc m → readOf T (ending n (bottom T m) x) ≡ Bs.Nothing
       go rec Bs.Nothing e h = e
-      go rec (Bs.Of read b) e h = rec b (omega arith)
+      go rec (Bs.Just read b) e h = rec b (omega arith)
 
   -- what was written, and only that, is the chain
   pub chain-kept : (before trail : List ℕ) (node : ℕ) → trail ≡ sets before 0 (chain T (length before) node) → length (chain T (length before) node) ≤ length before
@@ -182,7 +182,7 @@ module _ (T : Tables) where
     where
       go : (x : Base) → GivenSlotRoom T (a .slot) → GivenSlotRoom T (readBy T n x a .slot)
       go Bs.Nothing h = λ s e. absurd (some≢none s (sym e))
-      go (Bs.Of read b) h = read-room S n read a h
+      go (Bs.Just read b) h = read-room S n read a h
 
   -- with k nodes left: the whole climb is the climb that is left
   pub record Up (trail : List ℕ) (passed : ℕ) (end : Answer) (w : List ℕ) (below : Answer) (w′ : List ℕ) (k : ℕ) : Type 0 where
@@ -218,7 +218,7 @@ module _ (T : Tables) where
         let b = gives-is {w = w} h (no-slot u) in
         record { is = λ level target plan. b .is level target plan ∙ ap (λ (x : Base). readBy T n x (answerOf a level target w plan)) e; tidy = b .tidy }
 
-    pub up-read : {r : Answer} {w′ : List ℕ} (read : Read) (b : ℕ) → Bs.Of read b ≡ baseOf (nodeAt T n) → Follows (readPast T n read) a w r w′ → Climbs (readUp T n) a w r w′
+    pub up-read : {r : Answer} {w′ : List ℕ} (read : Read) (b : ℕ) → Bs.Just read b ≡ baseOf (nodeAt T n) → Follows (readPast T n read) a w r w′ → Climbs (readUp T n) a w r w′
     unfolding readUp
     up-read {r} {w′} read b e h = record { is = λ level target plan. h .is level target plan ∙ ap (λ (x : Base). readBy T n x (answerOf a level target w plan)) e; tidy = h .tidy }
 
@@ -231,17 +231,17 @@ module _ (T : Tables) where
       where
         go : ((b : ℕ) → length (chain T m b) ≤ b) → (x : Base) → readOf T n ≡ x → length (passing n (chain T m) x) ≤ n
         go rec Bs.Nothing e = omega arith
-        go rec (Bs.Of read b) e = omega (arith, rec b, base-lower T lower n read b (sym (reader n read b e .1)))
+        go rec (Bs.Just read b) e = omega (arith, rec b, base-lower T lower n read b (sym (reader n read b e .1)))
 
     pub chain-few : (limit most n : ℕ) → 0 < limit → length (T .nodes) ≤ limit → length (chain T most n) < limit
     chain-few limit most n h l = go (readOf T n) refl
       where
         go : (x : Base) → readOf T n ≡ x → length (chain T most n) < limit
         go Bs.Nothing e = let c = ap length (chain-end most n e) in omega (arith, c)
-        go (Bs.Of read b) e = omega (arith, reader-in n read b e, chain-below most n)
+        go (Bs.Just read b) e = omega (arith, reader-in n read b e, chain-below most n)
 
     -- a node reads of the node below it what `resolve` gives there; one that reads of no other is a leaf
-    up-step : (n : ℕ) (read : Read) (b : ℕ) (s : State) → readOf T n ≡ Bs.Of read b → readUp T n (resolve (ops T) T b s) ≡ resolve (ops T) T n s
+    up-step : (n : ℕ) (read : Read) (b : ℕ) (s : State) → readOf T n ≡ Bs.Just read b → readUp T n (resolve (ops T) T b s) ≡ resolve (ops T) T n s
     unfolding readUp _whenFound_
     up-step n read b s e =
         let r = reader n read b e in
@@ -261,7 +261,7 @@ module _ (T : Tables) where
       where
         go : ((b : ℕ) → climb T (chain T m b) (resolve (ops T) T (bottom T m b) s) ≡ resolve (ops T) T b s) → (x : Base) → readOf T n ≡ x → climb T (passing n (chain T m) x) (resolve (ops T) T (ending n (bottom T m) x) s) ≡ resolve (ops T) T n s
         go rec Bs.Nothing e = refl
-        go rec (Bs.Of read b) e = ap (readUp T n) (rec b) ∙ up-step n read b s e
+        go rec (Bs.Just read b) e = ap (readUp T n) (rec b) ∙ up-step n read b s e
 
     -- down and up again is `resolve`
     module _ (before : List ℕ) (node : ℕ) {trail : List ℕ} {c : Chain} (d : (c ≡ record { passed = length (chain T (length before) node); node = bottom T (length before) node }) × (trail ≡ sets before 0 (chain T (length before) node)))

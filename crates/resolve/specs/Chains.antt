@@ -9,7 +9,7 @@ use Rattle.rules.specs.Resolve.{follow}
 use Rattle.state.specs.State.{State}
 use Rattle.resolve.specs.Resolved.{baseOf, readPast}
 use Rattle.resolve.specs.declared.Base.{Base}
-use Rattle.resolve.specs.declared.Base.the-variants.{Nothing, Of}
+use Rattle.resolve.specs.declared.Base.the-variants.{Nothing, Just}
 
 -- a constant is its own slot, and reads of no other node
 unfoldable pub readOf : Tables → ℕ → Base
@@ -17,7 +17,7 @@ readOf T n = elim (isConstant T n) [ true ↦ Nothing | false ↦ baseOf (nodeAt
 
 abbrev pub passing : ℕ → (ℕ → List ℕ) → Base → List ℕ
 passing n below Nothing = []
-passing n below (Of read base) = n ∷ below base
+passing n below (Just read base) = n ∷ below base
 
 -- the nodes that are passed on the way down from n, at most so many
 unfoldable pub chain : Tables → ℕ → ℕ → List ℕ
@@ -26,7 +26,7 @@ chain T (suc most) n = passing n (chain T most) (readOf T n)
 
 abbrev pub ending : ℕ → (ℕ → ℕ) → Base → ℕ
 ending n below Nothing = n
-ending n below (Of read base) = below base
+ending n below (Just read base) = below base
 
 -- the node where that way ends
 unfoldable pub bottom : Tables → ℕ → ℕ → ℕ
@@ -35,7 +35,7 @@ bottom T (suc most) n = ending n (bottom T most) (readOf T n)
 
 abbrev pub readBy : Tables → ℕ → Base → ResolveRules.Answer State → ResolveRules.Answer State
 readBy T n Nothing below = record { slot = none; walk = below .walk }
-readBy T n (Of read base) below = follow below (readPast T n read)
+readBy T n (Just read base) below = follow below (readPast T n read)
 
 -- what a node reads, of the answer of the node below it
 unfoldable pub readUp : Tables → ℕ → ResolveRules.Answer State → ResolveRules.Answer State

@@ -19,7 +19,7 @@ use Rattle.resolve.specs.declared.Answer.{Answer}
 use Rattle.resolve.specs.declared.Read.{Read}
 use Rattle.resolve.specs.declared.Read.the-variants.{Key, Value, Select}
 use Rattle.resolve.specs.declared.Base.{Base}
-use Rattle.resolve.specs.declared.Base.the-variants.{Nothing, Of}
+use Rattle.resolve.specs.declared.Base.the-variants.{Nothing, Just}
 
 abbrev pub given : Answer → Option File.Slot
 given r = maybe (r .some) (slotOf (r .slot))
@@ -68,9 +68,9 @@ baseOf Node.Never = Nothing
 baseOf (Node.Prefix x) = Nothing
 baseOf (Node.Fuzzy x d a) = Nothing
 baseOf (Node.Record fs) = Nothing
-baseOf (Node.Access x n) = Of (Key x) n
-baseOf (Node.Value n) = Of Value n
-baseOf (Node.Select x n) = Of (Select x) n
+baseOf (Node.Access x n) = Just (Key x) n
+baseOf (Node.Value n) = Just Value n
+baseOf (Node.Select x n) = Just (Select x) n
 baseOf Node.Disjunction = Nothing
 baseOf Node.Subquery = Nothing
 baseOf (Node.Fact p n) = Nothing

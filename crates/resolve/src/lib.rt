@@ -74,7 +74,7 @@ pub enum Read {
 
 pub enum Base {
     Nothing,
-    Of(Read, usize),
+    Just(Read, usize),
 }
 
 // How many nodes of a chain of reads were passed, and the node below them.
@@ -362,7 +362,7 @@ fn select_field(
 {
     match union_ty(file, index, ty) {
         Run::Nothing => declined(work, node, Code::NyiFactField, lists),
-        Run::Of(n, at) => selected(
+        Run::Just(n, at) => selected(
             work,
             address,
             path,
@@ -472,9 +472,9 @@ fn base_of(file: &[u8], index: &[u16], node: usize) -> Base
         NodeView::Prefix(x) => Base::Nothing,
         NodeView::Fuzzy(x, d, a) => Base::Nothing,
         NodeView::Record(n, at) => Base::Nothing,
-        NodeView::Access(x, n) => Base::Of(Read::Key(x), n),
-        NodeView::Value(n) => Base::Of(Read::Value, n),
-        NodeView::Select(x, n) => Base::Of(Read::Select(x), n),
+        NodeView::Access(x, n) => Base::Just(Read::Key(x), n),
+        NodeView::Value(n) => Base::Just(Read::Value, n),
+        NodeView::Select(x, n) => Base::Just(Read::Select(x), n),
         NodeView::Disjunction => Base::Nothing,
         NodeView::Subquery => Base::Nothing,
         NodeView::Fact(p, n) => Base::Nothing,
@@ -581,7 +581,7 @@ fn descend(file: &[u8], index: &[u16], node: usize, trail: &mut [u16]) -> Chain
     let mut n = node;
     let mut k: usize = 0;
     while k < trail.len() {
-        let Base::Of(_, base) = read_of(file, index, n) else {
+        let Base::Just(_, base) = read_of(file, index, n) else {
             return Chain { passed: k, node: n };
         };
         trail[k] = n as u16;
@@ -602,7 +602,7 @@ fn read_up(file: &[u8], index: &[u16], work: &mut [u8], node: usize, below: Answ
 {
     match base_of(file, index, node) {
         Base::Nothing => gives(nothing(), below.lists),
-        Base::Of(read, _) => read_past(file, index, work, node, read, below),
+        Base::Just(read, _) => read_past(file, index, work, node, read, below),
     }
 }
 

@@ -89,7 +89,7 @@ module _ (T : Tables) (x n : ℕ) (r : Found) (e : foundOption r ≡ varName (no
   abbrev is : Option ℕ → Bool
   is o = elim o [ none ↦ false | some y ↦ eqb y x ]
 
-  pub var-is : (y : ℕ) → r ≡ Fo.At y → eqb y x ≡ isVar T x n
+  pub var-is : (y : ℕ) → r ≡ Fo.Just y → eqb y x ≡ isVar T x n
   unfolding isVar
   var-is y h = ap is (ap foundOption (sym h) ∙ e)
 

@@ -30,7 +30,7 @@ fn is_var(file: &[u8], index: &[u16], node: usize, name: usize) -> bool
     ensures { λ r. ⌜ r ≡ isVar (tablesOf (now (file .entry))) name node ⌝ }
 {
     match var_name(file, index, node) {
-        Found::At(x) => x == name,
+        Found::Just(x) => x == name,
         Found::Nothing => false,
     }
 }

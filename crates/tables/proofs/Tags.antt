@@ -96,7 +96,7 @@ module _ (f : List ℕ) (node : Node) (v : NodeView) (s : SeenNode f node v) whe
   pub var-not : OneOf (0 ∷ 1 ∷ 2 ∷ 4 ∷ 5 ∷ 6 ∷ 7 ∷ 8 ∷ 9 ∷ 10 ∷ 11 ∷ 12 ∷ 13 ∷ 14 ∷ 15 ∷ 16 ∷ []) (tagOf NodeViews.the-type v) → none ≡ varName node
   var-not w = sym (no-var f v w) ∙ ap varName (s .is)
 
-  pub record-is : (n at : ℕ) → v ≡ Nv.Record n at → SeenRun f (patternAt f) 4 (recordFields node) (Ru.Of n at)
+  pub record-is : (n at : ℕ) → v ≡ Nv.Record n at → SeenRun f (patternAt f) 4 (recordFields node) (Ru.Just n at)
   unfolding recordFields
   record-is n at e = let r = subst (SeenNode f node) e s in record { is = ap recordFields (r .is); inside = r .inside }
 
@@ -104,14 +104,14 @@ module _ (f : List ℕ) (node : Node) (v : NodeView) (s : SeenNode f node v) whe
   record-not w = record { is = sym (no-record f v w) ∙ ap recordFields (s .is); inside = tt }
 
 module _ (f : List ℕ) (ty : Ty) (v : TypeView) (s : SeenType f ty v) where
-  pub fields-are : (n at : ℕ) → v ≡ Tv.Record n at → SeenRun f (fieldAt f) 4 (recordTy ty) (Ru.Of n at)
+  pub fields-are : (n at : ℕ) → v ≡ Tv.Record n at → SeenRun f (fieldAt f) 4 (recordTy ty) (Ru.Just n at)
   unfolding recordTy
   fields-are n at e = let r = subst (SeenType f ty) e s in record { is = ap recordTy (r .is); inside = r .inside }
 
   pub fields-not : OneOf (0 ∷ 1 ∷ 2 ∷ 3 ∷ 5 ∷ []) (tagOf TypeViews.the-type v) → SeenRun f (fieldAt f) 4 (recordTy ty) Ru.Nothing
   fields-not w = record { is = sym (no-fields f v w) ∙ ap recordTy (s .is); inside = tt }
 
-  pub alternatives-are : (n at : ℕ) → v ≡ Tv.Union n at → SeenRun f (alternativeAt f) 8 (unionTy ty) (Ru.Of n at)
+  pub alternatives-are : (n at : ℕ) → v ≡ Tv.Union n at → SeenRun f (alternativeAt f) 8 (unionTy ty) (Ru.Just n at)
   unfolding unionTy
   alternatives-are n at e = let r = subst (SeenType f ty) e s in record { is = ap unionTy (r .is); inside = r .inside }
 

@@ -19,11 +19,11 @@ use Rattle.tables.specs.declared.MaybeSlotView.the-variants as Ms
 
 abbrev pub foundOption : Found → Option ℕ
 foundOption Fo.Nothing = none
-foundOption (Fo.At n) = some n
+foundOption (Fo.Just n) = some n
 
 abbrev pub runOption : {A : Type 0} → (ℕ → A) → ℕ → Run → Option (List A)
 runOption at w Ru.Nothing = none
-runOption at w (Ru.Of n p) = some (run at w n p)
+runOption at w (Ru.Just n p) = some (run at w n p)
 
 abbrev pub alternativeOption : MaybeAlternative → Option File.Alternative
 alternativeOption Ma.Nothing = none
@@ -36,7 +36,7 @@ slotOption f (Ms.Just s) = some (slotViewed f s)
 -- what an answer points at lies within the file
 abbrev pub RunInside : List ℕ → ℕ → Run → Type 0
 RunInside f w Ru.Nothing = Unit {0}
-RunInside f w (Ru.Of n p) = p + w * n ≤ length f
+RunInside f w (Ru.Just n p) = p + w * n ≤ length f
 
 abbrev pub MaybeInside : List ℕ → MaybeSlotView → Type 0
 MaybeInside f Ms.Nothing = Unit {0}

@@ -27,13 +27,13 @@ use views::type_at;
 // The number that a search found.
 pub enum Found {
     Nothing,
-    At(usize),
+    Just(usize),
 }
 
 // Fields, alternatives or pairs: how many there are, and where the first stands.
 pub enum Run {
     Nothing,
-    Of(usize, usize),
+    Just(usize, usize),
 }
 
 pub enum MaybeAlternative {
@@ -66,7 +66,7 @@ pub fn var_name(file: &[u8], index: &[u16], n: usize) -> Found
     ensures { λ r. ⌜ foundOption r ≡ varName (nodeAt (tablesOf (now (file .entry))) n) ⌝ }
 {
     if let NodeView::Var(x) = node_at(file, index, n) {
-        Found::At(x)
+        Found::Just(x)
     } else {
         Found::Nothing
     }
@@ -82,7 +82,7 @@ pub fn record_ty(file: &[u8], index: &[u16], t: usize) -> Run
         ) ⌝ }
 {
     if let TypeView::Record(n, at) = type_at(file, index, t) {
-        Run::Of(n, at)
+        Run::Just(n, at)
     } else {
         Run::Nothing
     }
@@ -98,7 +98,7 @@ pub fn union_ty(file: &[u8], index: &[u16], t: usize) -> Run
         ) ⌝ }
 {
     if let TypeView::Union(n, at) = type_at(file, index, t) {
-        Run::Of(n, at)
+        Run::Just(n, at)
     } else {
         Run::Nothing
     }
@@ -113,7 +113,7 @@ pub fn field_pattern(file: &[u8], at: usize, n: usize, name: usize) -> Found
     while k < n {
         let p = field_pattern_at(file, at, k);
         if p.name == name {
-            return Found::At(p.node);
+            return Found::Just(p.node);
         }
         k += 1;
     }
@@ -162,7 +162,7 @@ fn const_of(file: &[u8], index: &[u16], name: usize) -> Found
         return Found::Nothing;
     };
     if let SlotView::Const(m) = s {
-        Found::At(m)
+        Found::Just(m)
     } else {
         Found::Nothing
     }
@@ -174,10 +174,10 @@ pub fn folded(file: &[u8], index: &[u16], node: usize) -> usize
     requires { ⌜ node < length (tablesOf (now file) .nodes) ⌝ }
     ensures { λ r. ⌜ r ≡ standsFor (tablesOf (now (file .entry))) node ⌝ }
 {
-    let Found::At(x) = var_name(file, index, node) else {
+    let Found::Just(x) = var_name(file, index, node) else {
         return node;
     };
-    if let Found::At(m) = const_of(file, index, x) {
+    if let Found::Just(m) = const_of(file, index, x) {
         m
     } else {
         node

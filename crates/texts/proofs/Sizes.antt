@@ -31,7 +31,7 @@ use Rattle.texts.proofs.Past.{node-past}
 
 number : Size → ℕ
 number Si.Nothing = 0
-number (Si.Of k) = k
+number (Si.Just k) = k
 
 -- the length that a constant carries
 abbrev pub carried : Const → ℕ
