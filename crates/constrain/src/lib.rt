@@ -19,7 +19,6 @@ ghost use Rattle.walk.specs.Walk.{walkState};
 ghost use Rattle.constrain.specs.Constrain.{isNothing, isSome, narrowOr, patternFor, isConstrained};
 use constant::Const;
 use constant::constant;
-use entries::node_of;
 use file::CONSTRAINTS;
 use file::NODES;
 use lists::Code;
@@ -30,6 +29,7 @@ use views::Anchor;
 use views::NodeView;
 use views::constraint_at;
 use views::count_of;
+use views::node_of;
 use walk::Walk;
 
 // Whether there was a constant that narrowed the walk.

@@ -12,10 +12,10 @@ ghost use Rattle.state.specs.State.{State};
 ghost use Rattle.state.specs.Ops.{ops};
 ghost use Rattle.file.specs.Tables.{Indexed, tablesOf};
 ghost use Rattle.paths.specs.Paths.{pathOf};
-ghost use Rattle.views.specs.Views.{patternAt, predicateOption};
+ghost use Rattle.views.specs.Views.{nodeEntry, patternAt, predicateOption};
 ghost use Rattle.slots.specs.Slots.{slotOf};
 ghost use Rattle.accepted_file.specs.AcceptedFile.{AcceptedFile};
-ghost use Rattle.tables.specs.Tables.{SeenRun};
+ghost use Rattle.tables.specs.Tables.{pairsIn, SeenRun};
 ghost use Rattle.walk.specs.Walk.{walkState};
 ghost use Rattle.field_cases.specs.Pieces.{Fits, fieldsFor, Pieced};
 ghost use Rattle.field_cases.specs.FieldCases.{isInjection, startOf, slotBeside, doneWith};
@@ -24,7 +24,6 @@ ghost use Rattle.field_cases.specs.FieldCases.{meetingOf, meeting, choos
 use constrain::constrain;
 use constrain::narrow;
 use constrain::ranged;
-use entries::node_of;
 use fields::fact_ty;
 use lists::Code;
 use lists::lookup;
@@ -44,6 +43,7 @@ use views::MaybePredicate;
 use views::NodeView;
 use views::field_pattern_at;
 use views::field_ty_at;
+use views::node_of;
 use walk::Walk;
 
 // What `field` goes on with.
@@ -87,9 +87,13 @@ pub struct Piece {
 // A Record's pairs, of any node.
 pub fn pairs_of(file: &[u8], index: &[u16], node: usize) -> Run
     requires { ⌜ Indexed (now file) (now index) ⌝ }
-    ensures { λ r. ⌜ (
+    ensures shows { λ r. ⌜ (
         let f = now (file .entry) in
         SeenRun f (patternAt f) 4 (recordFields (nodeAt (tablesOf f) node)) r
+        ) ⌝ }
+    ensures view { λ r. ⌜ (
+        let f = now (file .entry) in
+        r ≡ pairsIn (nodeEntry (tablesOf f) f (now (index .entry)) node)
         ) ⌝ }
 {
     if let NodeView::Record(k, at) = node_of(file, index, node) {

@@ -12,9 +12,6 @@ ghost use Rattle.accepted_file.specs.AcceptedFile.{AcceptedFile};
 ghost use Rattle.tables.specs.Tables.{foundOption};
 ghost use Rattle.slots.specs.Slots.{IsSlot, PathRoom};
 ghost use Rattle.fields.specs.Found.{placeOf, nameOption, addressOption, hoistedName, fetches, valueSide};
-use entries::node_of;
-use entries::predicate_of;
-use entries::type_of;
 use file::FETCHED;
 use file::HOISTED;
 use file::wide;
@@ -40,6 +37,9 @@ use views::fetched_at;
 use views::field_ty_at;
 use views::hoisted_at;
 use views::long_at;
+use views::node_of;
+use views::predicate_of;
+use views::type_of;
 
 // A field's place in its record type, and its type.
 pub enum FieldAt {

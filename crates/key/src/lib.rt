@@ -13,7 +13,6 @@ ghost use Rattle.walk.specs.Walk.{walkState};
 ghost use Rattle.field_cases.specs.Pieces.{Fits, patternsOf, fieldsFor};
 ghost use Rattle.field_cases.specs.FieldCases.{injectAt};
 ghost use Rattle.key.specs.Cycle.{Walks, Gives, fieldsOf, wholeField};
-use entries::node_of;
 use field_cases::Choice;
 use field_cases::Next;
 use field_cases::begin;
@@ -35,6 +34,7 @@ use tables::record_ty;
 use views::FieldTy;
 use views::NodeView;
 use views::field_ty_at;
+use views::node_of;
 use walk::Walk;
 
 // One key field: seek, splice, residual, or capture.

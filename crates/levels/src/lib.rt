@@ -17,7 +17,6 @@ ghost use Rattle.lists.specs.Lists.{endsOf, stateWith, overrun};
 ghost use Rattle.level_frame.specs.LevelFrame.{frameOf};
 ghost use Rattle.walk.specs.Walk.{walkState};
 ghost use Rattle.levels.specs.Written.{unleveled, betweenLevels, writtenOf};
-use entries::predicate_of;
 use key::key;
 use level_frame::Frame;
 use level_frame::measure;
@@ -33,6 +32,7 @@ use seek::SeekBuilder;
 use seek::Target;
 use views::count_of;
 use views::level_at;
+use views::predicate_of;
 use walk::Walk;
 
 const PLAN_LIMIT: usize = 16384;

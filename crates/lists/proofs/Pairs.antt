@@ -13,8 +13,8 @@ use Rattle.state.specs.State.{bindingsIn}
 use Rattle.file.specs.Steps.{word, stepAt}
 use Rattle.tables.specs.Tables.{SeenSlot}
 use Rattle.tables.specs.declared.MaybeSlotView.the-variants as Ms
-use Rattle.lists.specs.Lists.{placeOf, endOf, apart, nearest, SeenAt}
-use Rattle.lists.proofs.Scans.{Scanning, scan-start, scan-none, scan-end, scan-ended, scan-more, forward, later-miss, place-none, found-none}
+use Rattle.lists.specs.Lists.{placeOf, endOf, apart, nearest, lastPlace, viewAt}
+use Rattle.lists.proofs.Scans.{Last, Scanning, scan-start, scan-none, scan-end, scan-ended, scan-more, forward, later-miss, place-none, found-none, view-none}
 
 module _ (f : List ℕ) (low high : ℕ) where
   pub none-yet : 255 ≡ nearest f low high 0
@@ -43,7 +43,10 @@ module _ (f : List ℕ) (low high : ℕ) where
 
 -- a name that no binding has
 abbrev Unfound : List ℕ → ℕ → Type 0
-Unfound f x = SeenAt f (lookup (bindingsIn (length f) f) x) (placeOf 0)
+Unfound f x = Last f x (placeOf 0)
+
+abbrev Unseen : List ℕ → ℕ → Type 0
+Unseen f x = SeenSlot f (lookup (bindingsIn (length f) f) x) Ms.Nothing × (Ms.Nothing ≡ viewAt f (lastPlace f x))
 
 module _ (f : List ℕ) (x : ℕ) (no-word : (p : ℕ) → p + 2 ≤ length f → word f p ≡ x → ⊥) where
   -- a scan that has found nothing finds nothing
@@ -59,8 +62,11 @@ module _ (f : List ℕ) (x : ℕ) (no-word : (p : ℕ) → p + 2 ≤ length f �
           let i : suc q ≤ length f = d .within in
           again (suc q) (omega arith) (scan-more f x p (placeOf 0) s (suc q) d (placeOf 0) (omega arith) (later-miss f p x 0 (word f p) refl (no-word p (omega arith))))
 
-  no-binding : SeenSlot f (lookup (bindingsIn (length f) f) x) Ms.Nothing
-  no-binding = found-none f _ (placeOf 0) (scan-nothing (length f) 0 (omega arith) (scan-start f x)) (sym (place-none 0 refl))
+  no-binding : Unseen f x
+  no-binding =
+      let l = scan-nothing (length f) 0 (omega arith) (scan-start f x) in
+      let z = sym (place-none 0 refl) in
+      (found-none f _ (placeOf 0) (l .0) z, view-none f (placeOf 0) _ (l .1) z)
 
 -- a word's two bytes are the number's
 low-byte : (a b x : ℕ) → a < 256 → a + 256 * b ≡ x → a ≡ x % 256
@@ -70,7 +76,7 @@ high-byte : (a b x : ℕ) → a < 256 → b < 256 → a + 256 * b ≡ x → b �
 high-byte a b x h k e = omega arith
 
 -- a name whose two bytes stand nowhere side by side
-pub passed : (f : List ℕ) (x r : ℕ) → ((i : ℕ) → getD f i 0 < 256) → r ≡ nearest f (x % 256) (x / 256 % 256) (length f - 1) → (r ≡ 0 → ⊥) → SeenSlot f (lookup (bindingsIn (length f) f) x) Ms.Nothing
+pub passed : (f : List ℕ) (x r : ℕ) → ((i : ℕ) → getD f i 0 < 256) → r ≡ nearest f (x % 256) (x / 256 % 256) (length f - 1) → (r ≡ 0 → ⊥) → Unseen f x
 unfolding word
 passed f x r bytes e k =
     no-binding f x (λ p i w. k (e ∙ met f _ _ (length f - 1) p (omega arith) (low-byte _ (getD f (p + 1) 0) x (bytes p) w) (high-byte (getD f p 0) _ x (bytes p) (bytes (p + 1)) w)))

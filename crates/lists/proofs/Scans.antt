@@ -16,7 +16,7 @@ use Rattle.rules.specs.Read.Read.{got, refused}
 use Rattle.rules.specs.Constant.{lookup}
 use Rattle.rules.proofs.Cases.{ways}
 use Rattle.state.specs.State.{bindingsIn}
-use Rattle.file.specs.Steps.{word, readAt, stepAt}
+use Rattle.file.specs.Steps.{word, stepOf, readAt, stepAt}
 use Rattle.file.specs.declared.Step.{Step}
 use Rattle.file.specs.declared.Step.the-variants.{Next, Refused}
 use Rattle.file.proofs.Readers.{bind-inv, needs-fixed, needs-first, fixed-u16}
@@ -29,9 +29,9 @@ use Rattle.tables.specs.declared.Found.{Found}
 use Rattle.tables.specs.declared.Found.the-variants as Fo
 use Rattle.tables.specs.Tables.{SeenSlot}
 use Rattle.tables.specs.declared.MaybeSlotView.the-variants as Ms
-use Rattle.views.specs.Views.{slotViewed, SlotInside}
+use Rattle.views.specs.Views.{slotView, slotViewed, SlotInside}
 use Rattle.views.specs.declared.SlotView.{SlotView}
-use Rattle.lists.specs.Lists.{bindingRead, bindingAt, slotAt, slotFrom, placeOf, endOf, later, Readable, FoundReads, SeenAt, SeenView}
+use Rattle.lists.specs.Lists.{bindingRead, bindingAt, slotAt, slotFrom, placeOf, endOf, later, lastFrom, lastPlace, viewAt, Readable, FoundReads, SeenAt, SeenView}
 
 -- a binding that was read at p: its name, then its slot
 pub binding-read : (f : List ℕ) (p : ℕ) (b : Binding) (rest : List ℕ) → readAt f binding p ≡ got b rest → BindingRead f p b
@@ -66,8 +66,22 @@ module _ (f : List ℕ) (o : Option Slot) (r : Found) (s : SeenAt f o r) where
   unfolding slotAt bindingAt _whenSome_
   found-none e = record { is = ap (slotAt f) (sym e) ∙ s .is; inside = tt }
 
-pub seen-as : (f : List ℕ) (o : Option Slot) (r found : Found) → r ≡ found → SeenAt f o found → SeenAt f o r
-seen-as f o r found e s = subst (SeenAt f o) (sym e) s
+-- and as the view of its place
+module _ (f : List ℕ) (r last : Found) (e : r ≡ last) where
+  pub view-found : (p : ℕ) (v : SlotView) → r ≡ Fo.Just p → v ≡ slotView f (p + 2) → Ms.Just v ≡ viewAt f last
+  unfolding viewAt
+  view-found p v g h = ap Ms.Just h ∙ ap (viewAt f) (sym g ∙ e)
+
+  pub view-none : r ≡ Fo.Nothing → Ms.Nothing ≡ viewAt f last
+  unfolding viewAt
+  view-none g = ap (viewAt f) (sym g ∙ e)
+
+-- what a scan of the whole finds
+abbrev pub Last : List ℕ → ℕ → Found → Type 0
+Last f x found = SeenAt f (lookup (bindingsIn (length f) f) x) found × (found ≡ lastPlace f x)
+
+pub seen-as : (f : List ℕ) (x : ℕ) (r found : Found) → r ≡ found → Last f x found → Last f x r
+seen-as f x r found e s = subst (Last f x) (sym e) s
 
 -- it ends past its name
 pub past-name : (f : List ℕ) (p q : ℕ) (b : Binding) → p ≤ length f → q ≤ length f → readAt f binding p ≡ got b (drop q f) → p + 2 ≤ q
@@ -132,30 +146,41 @@ module _ (f : List ℕ) (x : ℕ) where
     pub fuel : ℕ
     pub enough : length f ≤ p + fuel
     pub same : all ≡ lastOr (bindingAt f found) (λ b. eqb (b .name) x) (bindingsIn fuel (drop p f))
+    pub place : lastPlace f x ≡ lastFrom fuel f x p found
     pub reads : FoundReads f found
 
   pub scan-start : Scanning 0 (placeOf 0)
-  unfolding bindingAt placeOf
-  scan-start = record { within = omega arith; fuel = length f; enough = omega arith; same = refl; reads = tt }
+  unfolding bindingAt placeOf lastPlace
+  scan-start = record { within = omega arith; fuel = length f; enough = omega arith; same = refl; place = refl; reads = tt }
 
   module _ (p : ℕ) (found : Found) (s : Scanning p found) where
+    -- where no record is read, what was found stays
+    ends-here : (n k : ℕ) → Read.binding (drop p f) ≡ refused k → lastFrom n f x p found ≡ found
+    unfolding lastFrom stepAt stepOf readAt
+    ends-here zero k e = refl
+    ends-here (suc n) k e =
+        ap (λ (r : Read.Read Binding). elim (stepOf f r) as (λ _. Found) [ Next q ↦ lastFrom n f x q (later f p x found) | Refused y ↦ found ]) e
+
     seen : all ≡ bindingAt f found → SeenAt f (lookup (bindingsIn (length f) f) x) found
     unfolding slotAt lookup
     seen e = record { is = ap (λ (o : Option Binding). o whenSome λ b. some (b .slot)) (sym e); reads = s .reads }
 
-    stopped : (k : ℕ) → Read.binding (drop p f) ≡ refused k → SeenAt f (lookup (bindingsIn (length f) f) x) found
+    stopped : (k : ℕ) → Read.binding (drop p f) ≡ refused k → Last f x found
     unfolding lastOr
-    stopped k e = seen (s .same ∙ ap (lastOr (bindingAt f found) (λ b. eqb (b .name) x)) (none-left (s .fuel) (drop p f) k e))
+    stopped k e = (
+      seen (s .same ∙ ap (lastOr (bindingAt f found) (λ b. eqb (b .name) x)) (none-left (s .fuel) (drop p f) k e)),
+      sym (s .place ∙ ends-here (s .fuel) k e),
+    )
 
-    pub scan-end : length f ≤ p → SeenAt f (lookup (bindingsIn (length f) f) x) found
+    pub scan-end : length f ≤ p → Last f x found
     scan-end h = stopped 3 (ap Read.binding (drop-of-length-le f h) ∙ nothing-read)
 
     module _ (q : ℕ) (e : q ≡ endOf (stepAt f binding p)) where
-      pub scan-none : q ≡ 0 → SeenAt f (lookup (bindingsIn (length f) f) x) found
+      pub scan-none : q ≡ 0 → Last f x found
       unfolding readAt endOf
       scan-none z = go (stepAt f binding p) refl e
         where
-          go : (r : Step) → stepAt f binding p ≡ r → q ≡ endOf r → SeenAt f (lookup (bindingsIn (length f) f) x) found
+          go : (r : Step) → stepAt f binding p ≡ r → q ≡ endOf r → Last f x found
           go (Next y) g h =
               let n = ended f binding p y suffix-binding (s .within) g in
               absurd (omega (arith, h, z, past-name f p y (n .value) (s .within) (n .within) (n .is)))
@@ -176,6 +201,15 @@ module _ (f : List ℕ) (x : ℕ) where
       hit : eqb (word f p) x ≡ eqb (n .value .name) x
       hit = ap (λ (b : Binding). eqb (b .name) x) (binding-read f p (n .value) (drop q f) (n .is) .is)
 
+      -- the record at p is passed
+      goes-on : (k m : ℕ) → k ≡ suc m → lastFrom k f x p found ≡ lastFrom m f x q (later f p x found)
+      unfolding lastFrom stepAt stepOf
+      goes-on k m h =
+          let l : length f - length (drop q f) ≡ q = omega (arith, length-drop q f, n .within) in
+          ap (λ (i : ℕ). lastFrom i f x p found) h
+          ∙ ap (λ (r : Read.Read Binding). elim (stepOf f r) as (λ _. Found) [ Next y ↦ lastFrom m f x y (later f p x found) | Refused y ↦ found ]) (n .is)
+          ∙ ap (λ (y : ℕ). lastFrom m f x y (later f p x found)) l
+
       pub scan-more : (next : Found) → p < length f → next ≡ later f p x found → Scanning q next
       unfolding later readAt bindingAt
       scan-more next h e = ways (eqb (word f p) x) (Scanning q next) yes no'
@@ -185,6 +219,9 @@ module _ (f : List ℕ) (x : ℕ) where
 
           fuelled : s .fuel ≡ suc (s .fuel - 1)
           fuelled = omega (arith, s .enough)
+
+          onward : lastPlace f x ≡ lastFrom (s .fuel - 1) f x q next
+          onward = s .place ∙ goes-on (s .fuel) (s .fuel - 1) fuelled ∙ ap (lastFrom (s .fuel - 1) f x q) (sym e)
 
           turn : all ≡ lastOr (bindingAt f found) (λ b. eqb (b .name) x) (n .value ∷ rest)
           turn = s .same ∙ ap (lastOr (bindingAt f found) (λ b. eqb (b .name) x)) (one-more (s .fuel) (s .fuel - 1) (drop p f) (drop q f) (n .value) fuelled (n .is))
@@ -199,6 +236,7 @@ module _ (f : List ℕ) (x : ℕ) where
                 fuel = s .fuel - 1;
                 enough = omega (arith, s .enough, forward);
                 same = turn ∙ last-hit _ x (n .value) rest (sym hit ∙ t) ∙ ap (λ (o : Option Binding). lastOr o (λ b. eqb (b .name) x) rest) (sym (ap (bindingAt f) (goes true t) ∙ ap bindingRead (n .is)));
+                place = onward;
                 reads = subst (FoundReads f) (sym (goes true t)) (record { value = n .value; rest = drop q f; reads = n .is });
               }
 
@@ -209,5 +247,6 @@ module _ (f : List ℕ) (x : ℕ) where
                 fuel = s .fuel - 1;
                 enough = omega (arith, s .enough, forward);
                 same = turn ∙ last-miss _ x (n .value) rest (sym hit ∙ t) ∙ ap (λ (r : Found). lastOr (bindingAt f r) (λ b. eqb (b .name) x) rest) (sym (goes false t));
+                place = onward;
                 reads = subst (FoundReads f) (sym (goes false t)) (s .reads);
               }

@@ -6,7 +6,7 @@ use mathlib.Core.List.{List, [], _∷_}
 use mathlib.Core.Option.{Option, none, some}
 use lib.Bits.{bitOr, bitXor}
 use lib.Dec.{eqb}
-use lib.ListN.{getD}
+use lib.ListN.{length, getD}
 use Rattle.rules.specs.Base.{_whenSome_}
 use Rattle.rules.specs.Limits.{stepLimit}
 use Rattle.rules.specs.File.{Tables, Slot, Binding}
@@ -14,16 +14,18 @@ use Rattle.state.specs.Ops.{roomy}
 use Rattle.rules.specs.Events as Events
 use Rattle.rules.specs.Read as Read
 use Rattle.rules.specs.Read.Read.{got, refused}
-use Rattle.file.specs.Steps.{word, readAt}
+use Rattle.file.specs.Steps.{word, readAt, stepAt}
 use Rattle.file.specs.declared.Step.{Step}
 use Rattle.file.specs.declared.Step.the-variants.{Next, Refused}
 use Rattle.state.specs.State as InState
 use Rattle.state.specs.State.{Level, Target, State, state, ends}
-use Rattle.views.specs.Views.{slotViewed, SlotInside}
+use Rattle.views.specs.Views.{slotView, slotViewed, SlotInside}
 use Rattle.views.specs.declared.SlotView.{SlotView}
 use Rattle.views.specs.declared.SlotView.the-variants as Sv
 use Rattle.tables.specs.declared.Found.{Found}
 use Rattle.tables.specs.declared.Found.the-variants as Fo
+use Rattle.tables.specs.declared.MaybeSlotView.{MaybeSlotView}
+use Rattle.tables.specs.declared.MaybeSlotView.the-variants as Ms
 use Rattle.lists.specs.declared.Ends.{Ends}
 use Rattle.lists.specs.declared.Lists.{Lists}
 use Rattle.lists.specs.declared.Code.{Code}
@@ -85,6 +87,19 @@ placeOf (suc p) = Fo.Just p
 -- the place p if the binding there has the name, else what was found before it
 unfoldable pub later : List ℕ → ℕ → ℕ → Found → Found
 later f p x found = elim (eqb (word f p) x) [ true ↦ Fo.Just p | false ↦ found ]
+
+-- the place of the last binding of a name, from the record at p on and up to the first that is none; n is no less than the records left
+unfoldable pub lastFrom : ℕ → List ℕ → ℕ → ℕ → Found → Found
+lastFrom zero f x p found = found
+lastFrom (suc n) f x p found = elim (stepAt f Read.binding p) [ Next q ↦ lastFrom n f x q (later f p x found) | Refused k ↦ found ]
+
+unfoldable pub lastPlace : List ℕ → ℕ → Found
+lastPlace f x = lastFrom (length f) f x 0 Fo.Nothing
+
+-- the slot of the binding at a place: it follows the name's two bytes
+unfoldable pub viewAt : List ℕ → Found → MaybeSlotView
+viewAt f Fo.Nothing = Ms.Nothing
+viewAt f (Fo.Just p) = Ms.Just (slotView f (p + 2))
 
 -- how far the bytes a and b are from low and high: 0 where they are the same
 abbrev pub apart : ℕ → ℕ → ℕ → ℕ → ℕ

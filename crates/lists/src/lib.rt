@@ -22,13 +22,13 @@ ghost use Rattle.file.specs.Steps.{word, stepAt};
 ghost use Rattle.file.specs.Tables.{tablesOf};
 ghost use Rattle.paths.specs.Paths.{pathOf};
 ghost use Rattle.views.specs.Views as Views;
-ghost use Rattle.views.specs.Views.{sizeOf, orNone, predicateOption, pathAt, PathInside, SlotInside};
+ghost use Rattle.views.specs.Views.{sizeOf, predicateMaybe, predicateOption, pathAt, slotView, PathInside, SlotInside};
 ghost use Rattle.accepted_file.specs.AcceptedFile.{AcceptedFile};
 ghost use Rattle.tables.specs.Tables.{SeenSlot};
 ghost use Rattle.slots.specs.Slots.{slotOf, Stands, IsSlot};
 ghost use Rattle.records.specs.Records.{put, reach};
 ghost use Rattle.lists.specs.Lists.{stateWith, overrun, codeOf, fitsTables, placeOf, plainSizes, endOf};
-ghost use Rattle.lists.specs.Lists.{later, apart, nearest, slotFrom, Readable, SeenAt, SeenView, ShortSlot};
+ghost use Rattle.lists.specs.Lists.{later, apart, nearest, slotFrom, lastPlace, viewAt, Readable, SeenAt, SeenView, ShortSlot};
 use fields::path_at;
 use file::DEPTHS;
 use file::least;
@@ -375,10 +375,11 @@ fn end_at(bytes: &[u8], p: usize) -> usize
 
 // The last binding of a name among records one after another, up to the first that is none.
 fn find(bytes: &[u8], name: usize) -> Found
-    ensures { λ r. ⌜ (
+    ensures shows { λ r. ⌜ (
         let records = now (bytes .entry) in
         SeenAt records (Constant.lookup (bindingsIn (length records) records) name) r
         ) ⌝ }
+    ensures place { λ r. ⌜ r ≡ lastPlace (now (bytes .entry)) name ⌝ }
 {
     let mut found: usize = 0;
     let mut p: usize = 0;
@@ -402,7 +403,7 @@ fn register_at(bytes: &[u8], p: usize) -> Address
 
 fn predicate_from(bytes: &[u8], p: usize) -> MaybePredicate
     requires { ⌜ p + 2 ≤ length (now bytes) ⌝ }
-    ensures { λ r. ⌜ predicateOption r ≡ orNone (word (now (bytes .entry)) p) ⌝ }
+    ensures { λ r. ⌜ r ≡ predicateMaybe (word (now (bytes .entry)) p) ⌝ }
 {
     let n = word_at(bytes, p);
     if n == 65535 {
@@ -423,7 +424,8 @@ fn past_path(bytes: &[u8], at: usize) -> usize
 // The slot of the binding that stands at at.
 fn slot_at(bytes: &[u8], at: usize) -> SlotView
     requires { ⌜ Readable (now bytes) at ⌝ }
-    ensures { λ r. ⌜ SeenView (now (bytes .entry)) (slotFrom (now (bytes .entry)) at) r ⌝ }
+    ensures shows { λ r. ⌜ SeenView (now (bytes .entry)) (slotFrom (now (bytes .entry)) at) r ⌝ }
+    ensures view { λ r. ⌜ r ≡ slotView (now (bytes .entry)) (at + 2) ⌝ }
 {
     let q = at + 2;
     let p = q + 1;
@@ -462,10 +464,11 @@ fn nearest(bytes: &[u8], low: u8, high: u8) -> u8
 // The slot of a name's last entry among the records. Most names have none, and then their two bytes seldom stand anywhere: no record
 // is read.
 fn made_slot(bytes: &[u8], name: usize) -> MaybeSlotView
-    ensures { λ r. ⌜ (
+    ensures shows { λ r. ⌜ (
         let records = now (bytes .entry) in
         SeenSlot records (Constant.lookup (bindingsIn (length records) records) name) r
         ) ⌝ }
+    ensures view { λ r. ⌜ r ≡ viewAt (now (bytes .entry)) (lastPlace (now (bytes .entry)) name) ⌝ }
 {
     if nearest(bytes, (name % 256) as u8, (name / 256 % 256) as u8) != 0 {
         return MaybeSlotView::Nothing;

@@ -22,7 +22,6 @@ ghost use Rattle.tables.specs.Tables.{alternativeOption};
 ghost use Rattle.resolve.specs.Resolved.{given, found, answerWith, Answers, Follows, Climbs, GivenSlotRoom};
 ghost use Rattle.resolve.specs.Resolved.{baseOf, readSlot, readPast, leafSlot, leafAt};
 ghost use Rattle.resolve.specs.Chains.{readOf, chain, bottom, readUp, climb};
-use entries::node_of;
 use fields::MaybeAddress;
 use fields::MaybeName;
 use fields::fact_ty;
@@ -57,6 +56,7 @@ use tables::union_ty;
 use views::MaybePredicate;
 use views::NodeView;
 use views::count_of;
+use views::node_of;
 
 // A slot, if the read gives one, and the lists with what it added.
 pub struct Answer {

@@ -19,7 +19,7 @@ use Rattle.paths.specs.Paths.{pathOf}
 use Rattle.paths.specs.declared.FieldPath.{FieldPath}
 use Rattle.views.specs.Views.{anchorOf}
 use Rattle.views.specs.declared.Anchor.{Anchor}
-use Rattle.seek.specs.Seek.{sumsOf, summed, counted, overrun, countsOf, setIn, guideOf, rangeOf, edgesOf, levelOf, targetOf, stateOf, countsFit, narrowSums, kept, fell}
+use Rattle.seek.specs.Seek.{sumsOf, summed, counted, overrun, countsOf, setIn, guideOf, rangeOf, edgesOf, levelOf, targetOf, stateOf, countsFit, narrowSums, kept, fell, guidedAt, rangedAt, narrowedTo}
 use Rattle.seek.specs.declared.Counts.{Counts}
 use Rattle.seek.specs.declared.Sums.{Sums}
 use Rattle.seek.specs.declared.SeekBuilder.{SeekBuilder}
@@ -132,37 +132,20 @@ range-stays false true ranged g path at prefix h = absurd (true≢false (sym h))
 range-stays false false false g path at prefix h = refl
 range-stays false false true g path at prefix h = ap (λ q. some (record { path = q; prefix = prefix })) (sym (same-path at path h))
 
-abbrev guidedAt : SeekBuilder → Counts → FieldPath → ℕ → ℕ → Anchor → SeekBuilder
-guidedAt l k path name distance anchor =
-    record {
-      over = l .over;
-      building = l .building;
-      plain = l .plain;
-      counts = k;
-      path = path;
-      range = l .range;
-      guide = record { set = true; distance = distance; anchor = anchor; term = name };
-      lo = l .lo;
-      hi = l .hi;
-      folded = l .folded;
-      target = l .target;
-    }
+-- the level itself, by whether the counts fit
+module _ (b : SeekBuilder) (s s0 : Sums) (es : s ≡ narrowSums s0) (e0 : s0 ≡ summed (b .counts)) (make : Counts → SeekBuilder) where
+  abbrev taken : Bool → SeekBuilder
+  taken t = elim t [ true ↦ make (counted (narrowSums (summed (b .counts)))) | false ↦ overrun b ]
 
-abbrev rangedAt : SeekBuilder → Counts → FieldPath → ℕ → SeekBuilder
-rangedAt l k path name =
-    record {
-      over = l .over;
-      building = l .building;
-      plain = l .plain;
-      counts = k;
-      path = path;
-      range = record { set = true; name = name };
-      guide = l .guide;
-      lo = l .lo;
-      hi = l .hi;
-      folded = l .folded;
-      target = l .target;
-    }
+  fitting : (t : Bool) → countsFit (b .plain) (sumsOf s) ≡ t → taken t ≡ narrowedTo make b
+  unfolding narrowedTo
+  fitting t h = ap taken (sym h ∙ ap (λ (x : Sums). countsFit (b .plain) (sumsOf x)) (es ∙ ap narrowSums e0))
+
+  pub made-yes : (k : Counts) → k ≡ counted s → countsFit (b .plain) (sumsOf s) ≡ true → make k ≡ narrowedTo make b
+  made-yes k ek h = ap make (ek ∙ ap counted (es ∙ ap narrowSums e0)) ∙ fitting true h
+
+  pub made-no : (r : SeekBuilder) → r ≡ overrun b → countsFit (b .plain) (sumsOf s) ≡ false → r ≡ narrowedTo make b
+  made-no r er h = er ∙ fitting false h
 
 module _ (b l : SeekBuilder) (s s0 : Sums) (T : Tables) (e : Ends) (w p : List ℕ) (el : l ≡ fell b) (es : s ≡ narrowSums s0) (e0 : s0 ≡ summed (b .counts)) where
   counts-narrowed : sumsOf s ≡ narrowed (countsOf (b .counts))

@@ -4,14 +4,17 @@ use mathlib.Core.List.{List, [], _∷_}
 use mathlib.Core.Option.{Option, none, some, Option·getD}
 use Prim.Native.Nat.{ℕ, _+_, _<_}
 use Rattle.rules.specs.Base.{_whenSome_, both}
-use Rattle.rules.specs.File.{Tables, nameAt}
+use Rattle.rules.specs.File.{Tables, nameAt, fieldPath}
 use Rattle.rules.specs.Constant.{constant, bytesOnly, encodePrefix}
 use Rattle.rules.specs.Placement as Placement
 use Rattle.rules.specs.Placement.{RangeEdge, Edges}
 use Rattle.state.specs.State as InState
 use Rattle.state.specs.State.{Ends, Level, State, state, counts, fits}
-use Rattle.paths.specs.Paths.{pathOf}
+use Rattle.paths.specs.Paths.{pathOf, pathFor}
+use Rattle.paths.specs.declared.FieldPath.{FieldPath}
 use Rattle.views.specs.Views.{anchorOf}
+use Rattle.views.specs.declared.Anchor.{Anchor}
+use Rattle.views.specs.declared.Anchor.the-variants as An
 use Rattle.seek.specs.declared.Counts.{Counts}
 use Rattle.seek.specs.declared.Sums.{Sums}
 use Rattle.seek.specs.declared.Edge.{Edge}
@@ -182,6 +185,26 @@ restSums size c =
       rest = c .rest + size;
     }
 
+-- a level that builds, with nothing set
+abbrev pub noEdge : Edge
+noEdge = record { set = false; inclusive = false; node = 0; ty = 0 }
+
+unfoldable pub newBuilder : Target → SeekBuilder
+newBuilder target =
+    record {
+      over = false;
+      building = true;
+      plain = true;
+      counts = noCounts;
+      path = pathFor (fieldPath 0);
+      range = record { set = false; name = 0 };
+      guide = record { set = false; distance = 0; anchor = An.Prefix; term = 0 };
+      lo = noEdge;
+      hi = noEdge;
+      folded = record { first = 0; second = 0 };
+      target = target;
+    }
+
 -- what is set in a level that fell
 unfoldable pub kept : Bool → Bool → Bool
 kept building set = elim building [ true ↦ false | false ↦ set ]
@@ -251,6 +274,51 @@ grownBy plain s at b =
       | true ↦ record { level = recounted plain (counted s) b; place = record { write = t .writing; joined = t .joining; at = at } }
       | false ↦ record { level = overrun b; place = record { write = false; joined = t .joining; at = at } }
     ]
+
+-- the level with other counts and a guide, and with other counts and a range; the path is that of what was set last
+abbrev pub guidedAt : SeekBuilder → Counts → FieldPath → ℕ → ℕ → Anchor → SeekBuilder
+guidedAt b c path name distance anchor =
+    record {
+      over = b .over;
+      building = b .building;
+      plain = b .plain;
+      counts = c;
+      path = path;
+      range = b .range;
+      guide = record { set = true; distance = distance; anchor = anchor; term = name };
+      lo = b .lo;
+      hi = b .hi;
+      folded = b .folded;
+      target = b .target;
+    }
+
+abbrev pub rangedAt : SeekBuilder → Counts → FieldPath → ℕ → SeekBuilder
+rangedAt b c path name =
+    record {
+      over = b .over;
+      building = b .building;
+      plain = b .plain;
+      counts = c;
+      path = path;
+      range = record { set = true; name = name };
+      guide = b .guide;
+      lo = b .lo;
+      hi = b .hi;
+      folded = b .folded;
+      target = b .target;
+    }
+
+-- one narrowing more that is neither part nor residual, if it fits: what it makes of the level, by the counts
+unfoldable pub narrowedTo : (Counts → SeekBuilder) → SeekBuilder → SeekBuilder
+narrowedTo make b =
+    let s = narrowSums (summed (b .counts)) in
+    elim (countsFit (b .plain) (sumsOf s)) [ true ↦ make (counted s) | false ↦ overrun b ]
+
+unfoldable pub guidedBy : FieldPath → ℕ → ℕ → Anchor → SeekBuilder → SeekBuilder
+guidedBy path name distance anchor b = narrowedTo (λ c. guidedAt (fell b) c path name distance anchor) b
+
+unfoldable pub rangedBy : FieldPath → ℕ → SeekBuilder → SeekBuilder
+rangedBy path name b = narrowedTo (λ c. rangedAt (fell b) c path name) b
 
 -- where the next part is written, and the next residual
 unfoldable pub partPlace : SeekBuilder → ℕ

@@ -11,7 +11,7 @@ ghost use Rattle.state.specs.State.{Ends};
 ghost use Rattle.state.specs.Ops as Ops;
 ghost use Rattle.paths.specs.Paths.{pathOf};
 ghost use Rattle.views.specs.Views.{anchorOf};
-ghost use Rattle.seek.specs.Seek.{stateOf, levelOf};
+ghost use Rattle.seek.specs.Seek.{stateOf, levelOf, guidedBy, rangedBy};
 use crate::Guide;
 use crate::Range;
 use crate::SeekBuilder;
@@ -45,12 +45,13 @@ impl SeekBuilder {
 
     fn guided(self, path: FieldPath, name: usize, distance: u8, anchor: Anchor) -> SeekBuilder
         requires { ⌜ ((T : Tables) → Ops.attachable (levelOf T self) (pathOf path) ≡ true) ⌝ }
-        ensures { λ r. ⌜ ((T : Tables) (e : Ends) (w p : List ℕ) →
+        ensures places { λ r. ⌜ ((T : Tables) (e : Ends) (w p : List ℕ) →
             let guide : Placement.Guide = record { path = pathOf path; term = name; distance = distance; anchor = anchorOf anchor } in
             let before = stateOf T self e w p in
             let after = stateOf T r e w p in
             after ≡ Ops.grow (Ops.withGuide guide (levelOf T self)) 0 [] before
             ) ⌝ }
+        ensures whole { λ r. ⌜ r ≡ guidedBy path name distance anchor self ⌝ }
     {
         let c = self.counts;
         let s = c.sums().with_narrowing();
@@ -121,11 +122,12 @@ impl SeekBuilder {
     // A prefix while building: the range.
     pub fn ranged(self, path: FieldPath, name: u16) -> SeekBuilder
         requires { ⌜ self .building ≡ true ⌝ }
-        ensures { λ r. ⌜ ((T : Tables) (e : Ends) (w p : List ℕ) →
+        ensures places { λ r. ⌜ ((T : Tables) (e : Ends) (w p : List ℕ) →
             let before = stateOf T self e w p in
             let after = stateOf T r e w p in
             after ≡ Ops.grow (Ops.withRange (pathOf path) (encodePrefix (nameAt T name)) (levelOf T self)) 0 [] before
             ) ⌝ }
+        ensures whole { λ r. ⌜ r ≡ rangedBy path name self ⌝ }
     {
         let c = self.counts;
         let s = c.sums().with_narrowing();

@@ -8,7 +8,7 @@ ghost use Rattle.rules.specs.Base.{both};
 ghost use Rattle.rules.specs.File.{Tables};
 ghost use Rattle.state.specs.State.{Ends, newLevel, state};
 ghost use Rattle.state.specs.Ops as Ops;
-ghost use Rattle.seek.specs.Seek.{targetOf, stateOf, kept, fell, overrun};
+ghost use Rattle.seek.specs.Seek.{targetOf, stateOf, newBuilder, kept, fell, overrun};
 use paths::FieldPath;
 use records::Place;
 use views::Anchor;
@@ -112,7 +112,10 @@ pub fn kept(building: bool, set: bool) -> bool
 impl SeekBuilder {
     // A level starts building, with nothing set.
     pub fn new(target: Target) -> Self
-        ensures { λ r. ⌜ ((T : Tables) (e : Ends) (w p : List ℕ) → stateOf T r e w p ≡ state false e newLevel (targetOf target) w p) ⌝ }
+        ensures starts { λ r. ⌜ ((T : Tables) (e : Ends) (w p : List ℕ) →
+            stateOf T r e w p ≡ state false e newLevel (targetOf target) w p
+            ) ⌝ }
+        ensures whole { λ r. ⌜ r ≡ newBuilder target ⌝ }
     {
         let edge = Edge {
             set: false,

@@ -20,9 +20,10 @@ use Rattle.rules.proofs.Choices.{by-test₂}
 use Rattle.rules.proofs.Each.{each-imply}
 use Rattle.rules.proofs.Sound.{Passed, numbers-in}
 use Rattle.file.specs.Tables.{lastFrom, lastBinding}
-use Rattle.views.specs.Views.{run, alternativeAt, patternAt, alternativeOf, patternOf, slotViewed, bindingAt, SeenBinding}
+use Rattle.file.specs.Sections as Sections
+use Rattle.views.specs.Views.{run, startAt, bindingView, alternativeAt, patternAt, alternativeOf, patternOf, slotViewed, bindingAt, SeenBinding}
 use Rattle.accepted_file.specs.AcceptedFile.{flag}
-use Rattle.tables.specs.Tables.{SeenSlot, constBound}
+use Rattle.tables.specs.Tables.{boundIn, SeenSlot, constBound}
 use Rattle.tables.specs.declared.MaybeSlotView.{MaybeSlotView}
 use Rattle.tables.specs.declared.MaybeSlotView.the-variants as Ms
 use Rattle.tables.proofs.Tags.{no-const}
@@ -146,11 +147,18 @@ module _ (T : Tables) (x : ℕ) where
       (told-from (T .bindings) x (T .bindings) 0 0 none (omega arith) (λ j l. ap (λ (i : ℕ). getD (T .bindings) i noBinding) (zero-add j)) refl)
 
   -- a name that is none of the file's
+  unnamed : Passed T → length (T .names) ≤ x → last ≡ none
+  unfolding bindingIn isName
+  unnamed k h =
+      none-named (T .bindings) x
+      (each-imply (λ b e. let l : b .name < length (T .names) = ltb-lt _ _ (both-left (isName T (b .name)) _ e) in ne-eqb (b .name) x (λ q. omega arith)) (numbers-in T k .bindings))
+
   pub no-name : Passed T → length (T .names) ≤ x → none ≡ lookup (T .bindings) x
-  unfolding lookup bindingIn isName _whenSome_
-  no-name k h =
-      sym (ap (λ (o : Option Binding). o whenSome λ b. some (b .slot)) (none-named (T .bindings) x
-      (each-imply (λ b e. let l : b .name < length (T .names) = ltb-lt _ _ (both-left (isName T (b .name)) _ e) in ne-eqb (b .name) x (λ q. omega arith)) (numbers-in T k .bindings))))
+  unfolding lookup _whenSome_
+  no-name k h = sym (ap (λ (o : Option Binding). o whenSome λ b. some (b .slot)) (unnamed k h))
+
+  pub no-last : Passed T → length (T .names) ≤ x → lastBinding T x ≡ 0
+  no-last k h = subst (Told (T .bindings) (lastBinding T x)) (unnamed k h) (told (lastBinding T x) refl)
 
   pub last-none : (n : ℕ) → n ≡ lastBinding T x → n ≡ 0 → none ≡ lookup (T .bindings) x
   unfolding lookup _whenSome_
@@ -171,6 +179,16 @@ module _ (T : Tables) (x : ℕ) where
 -- the binding that was found, as its view has it
 pub last-slot : (f : List ℕ) (o : Option Slot) (b : Binding) (v : BindingView) → SeenBinding f b v → some (b .slot) ≡ o → SeenSlot f o (Ms.Just (v .slot))
 last-slot f o b v s e = record { is = ap (λ (b : Binding). some (b .slot)) (s .is) ∙ e; inside = s .inside }
+
+-- the same by the number that the index has
+module _ (f ix : List ℕ) (n m : ℕ) (e : n ≡ m) where
+  pub bound-none : n ≡ 0 → Ms.Nothing ≡ boundIn f ix m
+  bound-none z = ap (boundIn f ix) (sym z ∙ e)
+
+  pub bound-some : (v : BindingView) → (n ≡ 0 → ⊥) → v ≡ bindingView f (startAt ix Sections.bindings (n - 1)) → Ms.Just (v .slot) ≡ boundIn f ix m
+  bound-some v z g =
+      let s : suc (n - 1) ≡ n = omega arith in
+      ap (λ (b : BindingView). Ms.Just (b .slot)) g ∙ ap (boundIn f ix) (s ∙ e)
 
 -- the Const of the slot that was found
 module _ (f : List ℕ) (o : Option Slot) (r : MaybeSlotView) (s : SeenSlot f o r) where

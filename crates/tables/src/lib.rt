@@ -5,10 +5,11 @@ ghost use lib.ListN.{length};
 ghost use Rattle.rules.specs.File.{typeAt, nodeAt, varName, recordTy, unionTy, isConstant};
 ghost use Rattle.rules.specs.Constant as Constant;
 ghost use Rattle.rules.specs.Constant.{fieldPattern, standsFor};
-ghost use Rattle.file.specs.Tables.{Indexed, tablesOf};
-ghost use Rattle.views.specs.Views.{run, fieldAt, alternativeAt, patternAt};
+ghost use Rattle.file.specs.Sections as Sections;
+ghost use Rattle.file.specs.Tables.{Indexed, tablesOf, lastBinding};
+ghost use Rattle.views.specs.Views.{run, startAt, typeView, fieldAt, alternativeAt, patternAt};
 ghost use Rattle.accepted_file.specs.AcceptedFile.{AcceptedFile};
-ghost use Rattle.tables.specs.Tables.{constBound, foundOption, alternativeOption, SeenRun, SeenSlot};
+ghost use Rattle.tables.specs.Tables.{constBound, foundOption, alternativeOption, fieldsIn, alternativesIn, boundIn, SeenRun, SeenSlot};
 use file::CONSTANTS;
 use file::LAST_BINDINGS;
 use file::NAMES;
@@ -76,10 +77,11 @@ pub fn var_name(file: &[u8], index: &[u16], n: usize) -> Found
 pub fn record_ty(file: &[u8], index: &[u16], t: usize) -> Run
     requires { ⌜ Indexed (now file) (now index) ⌝ }
     requires { ⌜ t < length (tablesOf (now file) .types) ⌝ }
-    ensures { λ r. ⌜ (
+    ensures shows { λ r. ⌜ (
         let f = now (file .entry) in
         SeenRun f (fieldAt f) 4 (recordTy (typeAt (tablesOf f) t)) r
         ) ⌝ }
+    ensures view { λ r. ⌜ r ≡ fieldsIn (typeView (now (file .entry)) (startAt (now (index .entry)) Sections.types t)) ⌝ }
 {
     if let TypeView::Record(n, at) = type_at(file, index, t) {
         Run::Just(n, at)
@@ -92,10 +94,11 @@ pub fn record_ty(file: &[u8], index: &[u16], t: usize) -> Run
 pub fn union_ty(file: &[u8], index: &[u16], t: usize) -> Run
     requires { ⌜ Indexed (now file) (now index) ⌝ }
     requires { ⌜ t < length (tablesOf (now file) .types) ⌝ }
-    ensures { λ r. ⌜ (
+    ensures shows { λ r. ⌜ (
         let f = now (file .entry) in
         SeenRun f (alternativeAt f) 8 (unionTy (typeAt (tablesOf f) t)) r
         ) ⌝ }
+    ensures view { λ r. ⌜ r ≡ alternativesIn (typeView (now (file .entry)) (startAt (now (index .entry)) Sections.types t)) ⌝ }
 {
     if let TypeView::Union(n, at) = type_at(file, index, t) {
         Run::Just(n, at)
@@ -139,7 +142,11 @@ pub fn alternative_of(file: &[u8], at: usize, n: usize, name: usize) -> MaybeAlt
 // The slot of a name's last entry among the file's own bindings: its number stands in the index.
 pub fn lookup(file: &[u8], index: &[u16], name: usize) -> MaybeSlotView
     requires { ⌜ AcceptedFile (now file) (now index) ⌝ }
-    ensures { λ r. ⌜ SeenSlot (now (file .entry)) (Constant.lookup (tablesOf (now (file .entry)) .bindings) name) r ⌝ }
+    ensures shows { λ r. ⌜ SeenSlot (now (file .entry)) (Constant.lookup (tablesOf (now (file .entry)) .bindings) name) r ⌝ }
+    ensures view { λ r. ⌜ (
+        let f = now (file .entry) in
+        r ≡ boundIn f (now (index .entry)) (lastBinding (tablesOf f) name)
+        ) ⌝ }
 {
     if name >= count_of(file, index, NAMES) {
         return MaybeSlotView::Nothing;

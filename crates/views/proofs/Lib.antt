@@ -3,3 +3,4 @@ pub mod Entries
 pub mod Nodes
 pub mod Slots
 pub mod Arms
+mod Past

@@ -56,12 +56,17 @@ shown-fetched f p q a r e u v =
     ∙ ap (λ (j : ℕ). record { address = record { 0 = word f p }; path = p + 2; register = record { 0 = j } }) v
     ∙ ap (fetchedView f) e
 
--- a binding with a slot of kind k is the view of that binding
+-- a slot of kind k is the view of that slot
+pub shown-slot : (f : List ℕ) (p k : ℕ) (s : SlotView) → getD f p 0 ≡ k → s ≡ getD (slotViews f (p + 1)) k (Sv.Const 0) → s ≡ slotView f p
+unfolding slotView byteAt
+shown-slot f p k s g h = h ∙ ap (λ (j : ℕ). getD (slotViews f (p + 1)) j (Sv.Const 0)) (sym g)
+
+-- and a binding with such a slot the view of that binding
 pub shown-binding : (f : List ℕ) (p q k w : ℕ) (s : SlotView) → p ≡ q → getD f (p + 2) 0 ≡ k → w ≡ word f p → s ≡ getD (slotViews f (p + 2 + 1)) k (Sv.Const 0) → _≡_ {A = BindingView} (record { name = w; slot = s }) (bindingView f q)
-unfolding bindingView slotView byteAt
+unfolding bindingView
 shown-binding f p q k w s e g u h =
     ap (λ (j : ℕ). record { name = j; slot = s }) u
-    ∙ ap (λ (y : SlotView). record { name = word f p; slot = y }) (h ∙ ap (λ (j : ℕ). getD (slotViews f (p + 2 + 1)) j (Sv.Const 0)) (sym g))
+    ∙ ap (λ (y : SlotView). record { name = word f p; slot = y }) (shown-slot f (p + 2) k s g h)
     ∙ ap (bindingView f) e
 
 -- binding t, which starts at p: its name, then its slot

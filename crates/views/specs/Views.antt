@@ -5,9 +5,10 @@ use mathlib.Core.Bool.{true, false}
 use mathlib.Core.List.{List, [], _∷_}
 use mathlib.Core.Option.{Option, none, some}
 use lib.ListN.{length, getD}
-use lib.Dec.{eqb}
+use lib.Dec.{eqb, ltb}
 use Rattle.rules.specs.File as File
 use Rattle.rules.specs.File.{Tables, Ty, Node, Slot}
+use Rattle.file.specs.Sections as Sections
 use Rattle.file.specs.Steps.{word, baseOf}
 use Rattle.views.specs.declared.TypeView.{TypeView}
 use Rattle.views.specs.declared.TypeView.the-variants as Tv
@@ -122,6 +123,10 @@ typeViews f p =
 unfoldable pub typeView : List ℕ → ℕ → TypeView
 typeView f p = getD (typeViews f p) (byteAt f p) Tv.Int
 
+-- the view of type t, whose record starts where the index says; Int past the last
+unfoldable pub typeEntry : Tables → List ℕ → List ℕ → ℕ → TypeView
+typeEntry T f ix t = elim (ltb t (length (T .types))) [ true ↦ typeView f (startAt ix Sections.types t) | false ↦ Tv.Int ]
+
 -- the view of a node whose record starts at p, by its kind, and of what follows the kind at q
 abbrev pub nodeViews : List ℕ → ℕ → List NodeView
 nodeViews f q =
@@ -146,6 +151,10 @@ nodeViews f q =
 
 unfoldable pub nodeView : List ℕ → ℕ → NodeView
 nodeView f p = getD (nodeViews f (p + 1)) (byteAt f p) Nv.Error
+
+-- the view of node n; Error past the last
+unfoldable pub nodeEntry : Tables → List ℕ → List ℕ → ℕ → NodeView
+nodeEntry T f ix n = elim (ltb n (length (T .nodes))) [ true ↦ nodeView f (startAt ix Sections.nodes n) | false ↦ Nv.Error ]
 
 -- the view of a slot at p, by its kind, and of what follows the kind at q
 abbrev pub slotViews : List ℕ → ℕ → List SlotView

@@ -1,4 +1,5 @@
 // Views of the records of a file that was read. A view carries numbers and positions; what they stand for is the written rules' entry.
+// Types, nodes and predicates come by any number too: past a section's count they are what the written rules give there.
 ghost use mathlib.Core.Path.{_≡_};
 ghost use Prim.Native.Nat.{_+_, _*_, _≤_, _<_};
 ghost use lib.ListN.{length};
@@ -6,7 +7,7 @@ ghost use Rattle.rules.specs.File.{nameAt, typeAt, predicateAt, nodeAt};
 ghost use Rattle.file.specs.Sections as Sections;
 ghost use Rattle.file.specs.Steps.{word, sectionCount, limitOf, indexLength};
 ghost use Rattle.file.specs.Tables.{Indexed, tablesOf};
-ghost use Rattle.views.specs.Views.{sizeOf, startAt, pastPath, long, orNone, anchorAt, opKind, opOf, typeOption, predicateMaybe, textView, typeView, nodeView, bindingView, fetchedView, fieldAt, alternativeAt, patternAt, fieldOf, alternativeOf, patternOf, predicateOf, bindingAt, hoistedAt, fetchedAt, constraintAt, comparisonAt, levelEntryAt, hoistedOf, constraintOf, comparisonOf, levelOf, PathInside, SeenType, SeenNode, SeenBinding, SeenFetched, SeenText};
+ghost use Rattle.views.specs.Views.{sizeOf, startAt, pastPath, long, orNone, anchorAt, opKind, opOf, typeOption, predicateMaybe, textView, typeView, nodeView, typeEntry, nodeEntry, bindingView, fetchedView, fieldAt, alternativeAt, patternAt, fieldOf, alternativeOf, patternOf, predicateOf, bindingAt, hoistedAt, fetchedAt, constraintAt, comparisonAt, levelEntryAt, hoistedOf, constraintOf, comparisonOf, levelOf, PathInside, SeenType, SeenNode, SeenBinding, SeenFetched, SeenText};
 use file::BINDINGS;
 use file::COMPARISONS;
 use file::CONSTRAINTS;
@@ -471,5 +472,47 @@ pub fn level_at(file: &[u8], index: &[u16], k: usize) -> LevelEntry
         predicate,
         node: word_at(file, p + 2),
         address,
+    }
+}
+
+// Type t, and Int past the last.
+pub fn type_of(file: &[u8], index: &[u16], t: usize) -> TypeView
+    requires { ⌜ Indexed (now file) (now index) ⌝ }
+    ensures shows { λ r. ⌜ SeenType (now (file .entry)) (typeAt (tablesOf (now (file .entry))) t) r ⌝ }
+    ensures view { λ r. ⌜ r ≡ typeEntry (tablesOf (now (file .entry))) (now (file .entry)) (now (index .entry)) t ⌝ }
+{
+    if t < count_of(file, index, TYPES) {
+        type_at(file, index, t)
+    } else {
+        TypeView::Int
+    }
+}
+
+// Node n, and Error past the last.
+pub fn node_of(file: &[u8], index: &[u16], n: usize) -> NodeView
+    requires { ⌜ Indexed (now file) (now index) ⌝ }
+    ensures shows { λ r. ⌜ SeenNode (now (file .entry)) (nodeAt (tablesOf (now (file .entry))) n) r ⌝ }
+    ensures view { λ r. ⌜ r ≡ nodeEntry (tablesOf (now (file .entry))) (now (file .entry)) (now (index .entry)) n ⌝ }
+{
+    if n < count_of(file, index, NODES) {
+        node_at(file, index, n)
+    } else {
+        NodeView::Error
+    }
+}
+
+// Predicate p; past the last, one with key type 0 and no value.
+pub fn predicate_of(file: &[u8], index: &[u16], p: PredicateId) -> Predicate
+    requires { ⌜ Indexed (now file) (now index) ⌝ }
+    ensures { λ r. ⌜ predicateOf r ≡ predicateAt (tablesOf (now (file .entry))) (p .0) ⌝ }
+{
+    let n = wide16(p.0);
+    if n < count_of(file, index, PREDICATES) {
+        predicate_at(file, index, p)
+    } else {
+        Predicate {
+            key: 0,
+            value: MaybeType::Nothing,
+        }
     }
 }

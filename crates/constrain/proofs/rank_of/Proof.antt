@@ -5,7 +5,7 @@ use Rattle.constrain.proofs.rank_of.Tie as tie
 use Rattle.constrain.proofs.rank_of.Reads as reads
 use Rattle.constrain.proofs.rank_of.Lts as lts
 use Rattle.constrain.proofs.anchor_rank.Reads as anchor-rank-reads
-use Rattle.entries.proofs.node_of.Reads as node-of-reads
+use Rattle.views.proofs.node_of.Reads as node-of-reads
 
 node-of-requires : tie.Need-node-of-requires
 node-of-requires c κs = search needs
@@ -20,13 +20,13 @@ anchor-rank-requires : tie.Need-anchor-rank-requires
 anchor-rank-requires c κs = search needs
 
 returns : tie.Need-returns
-returns c = rank-prefix _ _ _ (c .before .before .node-of .ensures) _ (c .enum-told .given .1)
+returns c = rank-prefix _ _ _ (c .before .before .node-of .ensures .0) _ (c .enum-told .given .1)
 
 returns-2 : tie.Need-returns-2
-returns-2 c = rank-fuzzy _ _ _ (c .before .before .before .before .node-of .ensures) _ _ _ _ (c .before .before .a .given .1) (c .anchor-rank .ensures)
+returns-2 c = rank-fuzzy _ _ _ (c .before .before .before .before .node-of .ensures .0) _ _ _ _ (c .before .before .a .given .1) (c .anchor-rank .ensures)
 
 returns-3 : tie.Need-returns-3
-returns-3 c = rank-other _ _ _ (c .before .node-of .ensures) (c .match .keys3)
+returns-3 c = rank-other _ _ _ (c .before .node-of .ensures .0) (c .match .keys3)
 
 pub rank-of-spec : {M : Type 1} → statement M
 rank-of-spec =

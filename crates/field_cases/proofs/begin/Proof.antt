@@ -75,16 +75,16 @@ same-length-2 : tie.Need-same-length-2
 same-length-2 c = search needs
 
 returns-2 : tie.Need-returns-2
-returns-2 c = (as-var _ _ _ _ _ _ _ (over-is _ _ _ _ ∙ c .before .before .before .before .before .before .before .before .before .before .before .if1 .left) _ (c .before .before .before .before .before .before .before .before .before .before .node-of .ensures) _ (c .before .before .before .before .before .before .before .before .x .given .1) _ (c .before .before .before .before .begin-variable .ensures .0), c .before .before .before .before .begin-variable .ensures .1)
+returns-2 c = (as-var _ _ _ _ _ _ _ (over-is _ _ _ _ ∙ c .before .before .before .before .before .before .before .before .before .before .before .if1 .left) _ (c .before .before .before .before .before .before .before .before .before .before .node-of .ensures .0) _ (c .before .before .before .before .before .before .before .before .x .given .1) _ (c .before .before .before .before .begin-variable .ensures .0), c .before .before .before .before .begin-variable .ensures .1)
 
 returns-3 : tie.Need-returns-3
-returns-3 c = (done-is _ (c .done2 .result) _ _ _ (c .done2 .ensures) ∙ as-wildcard _ _ _ _ _ _ _ (over-is _ _ _ _ ∙ c .before .before .before .before .before .if1 .left) _ (c .before .before .before .before .node-of .ensures) (c .before .before .enum-told .given .1) _ (c .before .skip .ensures _ _ _), done-unset (c .done2 .result) _ (c .done2 .ensures))
+returns-3 c = (done-is _ (c .done2 .result) _ _ _ (c .done2 .ensures) ∙ as-wildcard _ _ _ _ _ _ _ (over-is _ _ _ _ ∙ c .before .before .before .before .before .if1 .left) _ (c .before .before .before .before .node-of .ensures .0) (c .before .before .enum-told .given .1) _ (c .before .skip .ensures _ _ _), done-unset (c .done2 .result) _ (c .done2 .ensures))
 
 same-length-3 : tie.Need-same-length-3
 same-length-3 c = search needs
 
 returns-4 : tie.Need-returns-4
-returns-4 c = (done-is _ (c .done3 .result) _ _ _ (c .done3 .ensures) ∙ as-never _ _ _ _ _ _ _ (over-is _ _ _ _ ∙ c .before .before .before .before .before .before .before .before .if1 .left) _ (c .before .before .before .before .before .before .before .node-of .ensures) (c .before .before .before .before .before .enum-told2 .given .1) _ (c .before .before .before .diagnose .ensures _ _), done-unset (c .done3 .result) _ (c .done3 .ensures))
+returns-4 c = (done-is _ (c .done3 .result) _ _ _ (c .done3 .ensures) ∙ as-never _ _ _ _ _ _ _ (over-is _ _ _ _ ∙ c .before .before .before .before .before .before .before .before .if1 .left) _ (c .before .before .before .before .before .before .before .node-of .ensures .0) (c .before .before .before .before .before .enum-told2 .given .1) _ (c .before .before .before .diagnose .ensures _ _), done-unset (c .done3 .result) _ (c .done3 .ensures))
 
 same-length-4 : tie.Need-same-length-4
 same-length-4 c = search needs
@@ -93,7 +93,7 @@ same-length-5 : tie.Need-same-length-5
 same-length-5 c = search needs
 
 returns-5 : tie.Need-returns-5
-returns-5 c = (done-is _ (c .done4 .result) _ _ _ (c .done4 .ensures) ∙ as-prefix _ _ _ _ _ _ _ (over-is _ _ _ _ ∙ c .before .before .before .before .before .before .before .before .before .before .before .if1 .left) _ (c .before .before .before .before .before .before .before .before .before .before .node-of .ensures) _ (c .before .before .before .before .before .ranged .ensures) _ (c .before .before .before .before .before .before .before .before .enum-told3 .given .1), done-unset (c .done4 .result) _ (c .done4 .ensures))
+returns-5 c = (done-is _ (c .done4 .result) _ _ _ (c .done4 .ensures) ∙ as-prefix _ _ _ _ _ _ _ (over-is _ _ _ _ ∙ c .before .before .before .before .before .before .before .before .before .before .before .if1 .left) _ (c .before .before .before .before .before .before .before .before .before .before .node-of .ensures .0) _ (c .before .before .before .before .before .ranged .ensures) _ (c .before .before .before .before .before .before .before .before .enum-told3 .given .1), done-unset (c .done4 .result) _ (c .done4 .ensures))
 
 same-length-6 : tie.Need-same-length-6
 same-length-6 c = search needs
@@ -102,19 +102,19 @@ same-length-7 : tie.Need-same-length-7
 same-length-7 c = search needs
 
 returns-6 : tie.Need-returns-6
-returns-6 c = (done-is _ (c .done5 .result) _ _ _ (c .done5 .ensures) ∙ as-fuzzy _ _ _ _ _ _ _ (over-is _ _ _ _ ∙ c .before .before .before .before .before .before .before .before .before .before .before .if1 .left) _ (c .before .before .before .before .before .before .before .before .before .before .node-of .ensures) _ (c .before .before .before .before .before .ranged2 .ensures) _ _ _ (c .before .before .before .before .before .before .before .before .enum-told4 .given .1), done-unset (c .done5 .result) _ (c .done5 .ensures))
+returns-6 c = (done-is _ (c .done5 .result) _ _ _ (c .done5 .ensures) ∙ as-fuzzy _ _ _ _ _ _ _ (over-is _ _ _ _ ∙ c .before .before .before .before .before .before .before .before .before .before .before .if1 .left) _ (c .before .before .before .before .before .before .before .before .before .before .node-of .ensures .0) _ (c .before .before .before .before .before .ranged2 .ensures) _ _ _ (c .before .before .before .before .before .before .before .before .enum-told4 .given .1), done-unset (c .done5 .result) _ (c .done5 .ensures))
 
 same-length-8 : tie.Need-same-length-8
 same-length-8 c = search needs
 
 returns-7 : tie.Need-returns-7
-returns-7 c = (done-is _ (c .done6 .result) _ _ _ (c .done6 .ensures) ∙ as-disjunction _ _ _ _ _ _ _ (over-is _ _ _ _ ∙ c .before .before .before .before .before .before .before .before .if1 .left) _ (c .before .before .before .before .before .before .before .node-of .ensures) (c .before .before .before .before .before .enum-told5 .given .1) _ (c .before .before .before .diagnose2 .ensures _ _), done-unset (c .done6 .result) _ (c .done6 .ensures))
+returns-7 c = (done-is _ (c .done6 .result) _ _ _ (c .done6 .ensures) ∙ as-disjunction _ _ _ _ _ _ _ (over-is _ _ _ _ ∙ c .before .before .before .before .before .before .before .before .if1 .left) _ (c .before .before .before .before .before .before .before .node-of .ensures .0) (c .before .before .before .before .before .enum-told5 .given .1) _ (c .before .before .before .diagnose2 .ensures _ _), done-unset (c .done6 .result) _ (c .done6 .ensures))
 
 same-length-9 : tie.Need-same-length-9
 same-length-9 c = search needs
 
 returns-8 : tie.Need-returns-8
-returns-8 c = (as-place _ _ _ _ _ _ _ (over-is _ _ _ _ ∙ c .before .before .before .before .before .before .if1 .left) _ (c .before .before .before .before .before .node-of .ensures) (c .before .before .before .before .match .keys7) _ (c .before .before .begin-place .ensures .0 _), c .before .before .begin-place .ensures .1)
+returns-8 c = (as-place _ _ _ _ _ _ _ (over-is _ _ _ _ ∙ c .before .before .before .before .before .before .if1 .left) _ (c .before .before .before .before .before .node-of .ensures .0) (c .before .before .before .before .match .keys7) _ (c .before .before .begin-place .ensures .0 _), c .before .before .begin-place .ensures .1)
 
 pub begin-spec : {M : Type 1} → statement M
 begin-spec =

@@ -14,7 +14,7 @@ plain-requires : tie.Need-plain-requires
 plain-requires c κs = search needs
 
 returns : tie.Need-returns
-returns c = (λ plan earlier e. pieces-some _ _ earlier _ _ _ (c .before .before .before .pairs-of .ensures) _ _ (c .before .enum-told .given .1), c .plain .ensures)
+returns c = (λ plan earlier e. pieces-some _ _ earlier _ _ _ (c .before .before .before .pairs-of .ensures .0) _ _ (c .before .enum-told .given .1), c .plain .ensures)
 
 enum-told-2 : tie.Need-enum-told-2
 enum-told-2 c = search needs
@@ -29,7 +29,7 @@ same-length : tie.Need-same-length
 same-length c = search needs
 
 returns-2 : tie.Need-returns-2
-returns-2 c = (λ plan earlier e. done-is _ (c .done .result) _ _ plan (c .done .ensures) ∙ pieces-none _ _ earlier _ _ _ (c .before .before .before .before .before .before .before .pairs-of .ensures) (c .before .before .before .before .before .enum-told2 .given .1) _ (c .before .before .before .unresolved .ensures plan earlier e), done-unset (c .done .result) _ (c .done .ensures))
+returns-2 c = (λ plan earlier e. done-is _ (c .done .result) _ _ plan (c .done .ensures) ∙ pieces-none _ _ earlier _ _ _ (c .before .before .before .before .before .before .before .pairs-of .ensures .0) (c .before .before .before .before .before .enum-told2 .given .1) _ (c .before .before .before .unresolved .ensures plan earlier e), done-unset (c .done .result) _ (c .done .ensures))
 
 pub begin-pieces-spec : {M : Type 1} → statement M
 begin-pieces-spec =

@@ -19,7 +19,7 @@ unchosen-requires : tie.Need-unchosen-requires
 unchosen-requires c κs = search needs
 
 returns : tie.Need-returns
-returns c = λ plan. unchosen-is _ _ _ _ plan (c .unchosen .ensures) ∙ no-record _ _ _ _ _ _ (c .before .before .before .pairs-of .ensures) (c .before .enum-told .given .1)
+returns c = λ plan. unchosen-is _ _ _ _ plan (c .unchosen .ensures) ∙ no-record _ _ _ _ _ _ (c .before .before .before .pairs-of .ensures .0) (c .before .enum-told .given .1)
 
 union-ty-requires : tie.Need-union-ty-requires
 union-ty-requires c κs = search needs
@@ -34,7 +34,7 @@ unchosen-requires-2 : tie.Need-unchosen-requires-2
 unchosen-requires-2 c κs = search needs
 
 returns-2 : tie.Need-returns-2
-returns-2 c = λ plan. unchosen-is _ _ _ _ plan (c .unchosen2 .ensures) ∙ no-union _ _ _ _ _ _ (c .before .before .before .before .before .before .before .pairs-of .ensures) _ (c .before .before .before .union-ty .ensures) (c .before .enum-told2 .given .1)
+returns-2 c = λ plan. unchosen-is _ _ _ _ plan (c .unchosen2 .ensures) ∙ no-union _ _ _ _ _ _ (c .before .before .before .before .before .before .before .pairs-of .ensures .0) _ (c .before .before .before .union-ty .ensures .0) (c .before .enum-told2 .given .1)
 
 diagnose-requires : tie.Need-diagnose-requires
 diagnose-requires c κs = search needs
@@ -46,13 +46,13 @@ same-length : tie.Need-same-length
 same-length c = search needs
 
 returns-3 : tie.Need-returns-3
-returns-3 c = λ plan. unchosen-is _ _ _ _ plan (c .unchosen3 .ensures) ∙ arity _ _ _ _ _ _ (c .before .before .before .before .before .before .before .before .before .before .before .before .before .pairs-of .ensures) _ (c .before .before .before .before .before .before .before .before .before .union-ty .ensures) _ _ _ _ (c .before .before .before .before .before .before .before .before .before .before .before .k .given .1) (c .before .before .before .before .before .before .before .m .given .1) (c .before .before .before .before .before .if1 .taken) _ (c .before .before .before .diagnose .ensures _ plan)
+returns-3 c = λ plan. unchosen-is _ _ _ _ plan (c .unchosen3 .ensures) ∙ arity _ _ _ _ _ _ (c .before .before .before .before .before .before .before .before .before .before .before .before .before .pairs-of .ensures .0) _ (c .before .before .before .before .before .before .before .before .before .union-ty .ensures .0) _ _ _ _ (c .before .before .before .before .before .before .before .before .before .before .before .k .given .1) (c .before .before .before .before .before .before .before .m .given .1) (c .before .before .before .before .before .if1 .taken) _ (c .before .before .before .diagnose .ensures _ plan)
 
 field-pattern-at-requires : tie.Need-field-pattern-at-requires
-field-pattern-at-requires c κs = omega (arith, run-inside _ _ _ _ _ (c .before .before .before .before .before .before .before .before .pairs-of .ensures) _ _ (c .before .before .before .before .before .before .k .given .1), c .if1 .left)
+field-pattern-at-requires c κs = omega (arith, run-inside _ _ _ _ _ (c .before .before .before .before .before .before .before .before .pairs-of .ensures .0) _ _ (c .before .before .before .before .before .before .k .given .1), c .if1 .left)
 
 alternative-of-requires : tie.Need-alternative-of-requires
-alternative-of-requires c κs = run-inside _ _ _ _ _ (c .before .before .before .before .before .union-ty .ensures) _ _ (c .before .before .before .m .given .1)
+alternative-of-requires c κs = run-inside _ _ _ _ _ (c .before .before .before .before .before .union-ty .ensures .0) _ _ (c .before .before .before .m .given .1)
 
 enum-known-a : tie.Need-enum-known-a
 enum-known-a c = search needs
@@ -70,10 +70,10 @@ same-length-2 : tie.Need-same-length-2
 same-length-2 c = search needs
 
 returns-4 : tie.Need-returns-4
-returns-4 c = λ plan. unchosen-is _ _ _ _ plan (c .unchosen4 .ensures) ∙ unknown _ _ _ _ _ _ (c .before .before .before .before .before .before .before .before .before .before .before .before .before .before .before .before .before .pairs-of .ensures) _ (c .before .before .before .before .before .before .before .before .before .before .before .before .before .union-ty .ensures) _ _ _ _ (c .before .before .before .before .before .before .before .before .before .before .before .before .before .before .before .k .given .1) (c .before .before .before .before .before .before .before .before .before .before .before .m .given .1) (c .before .before .before .before .before .before .before .before .before .if1 .left) _ (c .before .before .before .before .before .before .before .before .field-pattern-at .ensures) _ (c .before .before .before .before .before .before .before .alternative-of .ensures) (c .before .before .before .before .before .enum-told3 .given .1) _ (c .before .before .before .diagnose2 .ensures _ plan)
+returns-4 c = λ plan. unchosen-is _ _ _ _ plan (c .unchosen4 .ensures) ∙ unknown _ _ _ _ _ _ (c .before .before .before .before .before .before .before .before .before .before .before .before .before .before .before .before .before .pairs-of .ensures .0) _ (c .before .before .before .before .before .before .before .before .before .before .before .before .before .union-ty .ensures .0) _ _ _ _ (c .before .before .before .before .before .before .before .before .before .before .before .before .before .before .before .k .given .1) (c .before .before .before .before .before .before .before .before .before .before .before .m .given .1) (c .before .before .before .before .before .before .before .before .before .if1 .left) _ (c .before .before .before .before .before .before .before .before .field-pattern-at .ensures) _ (c .before .before .before .before .before .before .before .alternative-of .ensures) (c .before .before .before .before .before .enum-told3 .given .1) _ (c .before .before .before .diagnose2 .ensures _ plan)
 
 returns-5 : tie.Need-returns-5
-returns-5 c = λ plan. known _ _ _ _ _ _ (c .before .before .before .before .before .before .before .before .before .before .before .before .before .pairs-of .ensures) _ (c .before .before .before .before .before .before .before .before .before .union-ty .ensures) _ _ _ _ (c .before .before .before .before .before .before .before .before .before .before .before .k .given .1) (c .before .before .before .before .before .before .before .m .given .1) (c .before .before .before .before .before .if1 .left) _ (c .before .before .before .before .field-pattern-at .ensures) _ (c .before .before .before .alternative-of .ensures) _ (c .before .a .given .1)
+returns-5 c = λ plan. known _ _ _ _ _ _ (c .before .before .before .before .before .before .before .before .before .before .before .before .before .pairs-of .ensures .0) _ (c .before .before .before .before .before .before .before .before .before .union-ty .ensures .0) _ _ _ _ (c .before .before .before .before .before .before .before .before .before .before .before .k .given .1) (c .before .before .before .before .before .before .before .m .given .1) (c .before .before .before .before .before .if1 .left) _ (c .before .before .before .before .field-pattern-at .ensures) _ (c .before .before .before .alternative-of .ensures) _ (c .before .a .given .1)
 
 pub choose-alternative-spec : {M : Type 1} → statement M
 choose-alternative-spec =

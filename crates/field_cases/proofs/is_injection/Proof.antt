@@ -17,7 +17,7 @@ enum-told-2 : tie.Need-enum-told-2
 enum-told-2 c = search needs
 
 returns : tie.Need-returns
-returns c = no-record _ _ _ _ (c .before .before .pairs-of .ensures) (c .enum-told2 .given .1)
+returns c = no-record _ _ _ _ (c .before .before .pairs-of .ensures .0) (c .enum-told2 .given .1)
 
 union-ty-requires : tie.Need-union-ty-requires
 union-ty-requires c κs = search needs
@@ -29,10 +29,10 @@ enum-told-4 : tie.Need-enum-told-4
 enum-told-4 c = search needs
 
 returns-2 : tie.Need-returns-2
-returns-2 c = record-and-union _ _ _ _ (c .before .before .before .before .before .pairs-of .ensures) _ _ (c .before .before .before .enum-told .given .1) _ (c .before .before .union-ty .ensures) _ _ (c .enum-told3 .given .1)
+returns-2 c = record-and-union _ _ _ _ (c .before .before .before .before .before .pairs-of .ensures .0) _ _ (c .before .before .before .enum-told .given .1) _ (c .before .before .union-ty .ensures .0) _ _ (c .enum-told3 .given .1)
 
 returns-3 : tie.Need-returns-3
-returns-3 c = no-union _ _ _ _ (c .before .before .before .before .before .pairs-of .ensures) _ _ (c .before .before .before .enum-told .given .1) _ (c .before .before .union-ty .ensures) (c .enum-told4 .given .1)
+returns-3 c = no-union _ _ _ _ (c .before .before .before .before .before .pairs-of .ensures .0) _ _ (c .before .before .before .enum-told .given .1) _ (c .before .before .union-ty .ensures .0) (c .enum-told4 .given .1)
 
 pub is-injection-spec : {M : Type 1} → statement M
 is-injection-spec =

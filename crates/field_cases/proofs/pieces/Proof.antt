@@ -20,7 +20,7 @@ enum-told : tie.Need-enum-told
 enum-told c = search needs
 
 returns : tie.Need-returns
-returns c = (ap length (sym (no-pairs _ _ _ _ _ (c .before .before .pairs-of .ensures) (c .enum-told .given .1))), omega arith)
+returns c = (ap length (sym (no-pairs _ _ _ _ _ (c .before .before .pairs-of .ensures .0) (c .enum-told .given .1))), omega arith)
 
 record-ty-requires : tie.Need-record-ty-requires
 record-ty-requires c κs = search needs
@@ -32,10 +32,10 @@ enum-told-2 : tie.Need-enum-told-2
 enum-told-2 c = search needs
 
 returns-2 : tie.Need-returns-2
-returns-2 c = (count-is _ _ _ _ _ (c .before .before .before .before .before .before .before .pairs-of .ensures) _ (c .before .before .before .record-ty .ensures) _ _ _ _ (c .before .before .before .before .before .n .given .1) (c .before .k .given .1), omega (arith, run-inside _ _ _ _ _ (c .before .before .before .record-ty .ensures) _ _ (c .before .k .given .1), c .before .before .before .before .before .before .before .before .before .before .pre .0 .indexed .small))
+returns-2 c = (count-is _ _ _ _ _ (c .before .before .before .before .before .before .before .pairs-of .ensures .0) _ (c .before .before .before .record-ty .ensures .0) _ _ _ _ (c .before .before .before .before .before .n .given .1) (c .before .k .given .1), omega (arith, run-inside _ _ _ _ _ (c .before .before .before .record-ty .ensures .0) _ _ (c .before .k .given .1), c .before .before .before .before .before .before .before .before .before .before .pre .0 .indexed .small))
 
 returns-3 : tie.Need-returns-3
-returns-3 c = (ap length (sym (no-fields _ _ _ _ _ (c .before .before .before .before .before .before .pairs-of .ensures) _ (c .before .before .record-ty .ensures) (c .enum-told2 .given .1))), omega arith)
+returns-3 c = (ap length (sym (no-fields _ _ _ _ _ (c .before .before .before .before .before .before .pairs-of .ensures .0) _ (c .before .before .record-ty .ensures .0) (c .enum-told2 .given .1))), omega arith)
 
 pub pieces-spec : {M : Type 1} → statement M
 pieces-spec =

@@ -27,27 +27,27 @@ enum-known-n-2 c = search needs
 
 returns : tie.Need-returns
 unfolding factTy
-returns c = fact-seen _ (c .before .before .type-of .ensures) (c .enum-told .given .1)
+returns c = fact-seen _ (c .before .before .type-of .ensures .0) (c .enum-told .given .1)
 
 returns-2 : tie.Need-returns-2
 unfolding factTy
-returns-2 c = fact-seen _ (c .before .before .type-of .ensures) (c .enum-told2 .given .1)
+returns-2 c = fact-seen _ (c .before .before .type-of .ensures .0) (c .enum-told2 .given .1)
 
 returns-3 : tie.Need-returns-3
 unfolding factTy
-returns-3 c = fact-seen _ (c .before .before .type-of .ensures) (c .enum-told3 .given .1)
+returns-3 c = fact-seen _ (c .before .before .type-of .ensures .0) (c .enum-told3 .given .1)
 
 returns-4 : tie.Need-returns-4
 unfolding factTy
-returns-4 c = fact-seen _ (c .before .before .before .type-of .ensures) (c .before .p .given .1)
+returns-4 c = fact-seen _ (c .before .before .before .type-of .ensures .0) (c .before .p .given .1)
 
 returns-5 : tie.Need-returns-5
 unfolding factTy
-returns-5 c = fact-seen _ (c .before .before .before .type-of .ensures) (c .before .n .given .1)
+returns-5 c = fact-seen _ (c .before .before .before .type-of .ensures .0) (c .before .n .given .1)
 
 returns-6 : tie.Need-returns-6
 unfolding factTy
-returns-6 c = fact-seen _ (c .before .before .before .type-of .ensures) (c .before .n2 .given .1)
+returns-6 c = fact-seen _ (c .before .before .before .type-of .ensures .0) (c .before .n2 .given .1)
 
 pub fact-ty-spec : {M : Type 1} → statement M
 fact-ty-spec =

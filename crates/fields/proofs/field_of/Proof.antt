@@ -28,7 +28,7 @@ enum-known-n c = search needs
 
 field-from-requires : tie.Need-field-from-requires
 field-from-requires c κs =
-    let h = fields-inside _ _ (c .before .before .before .type-of .ensures) (c .before .n .given .1) in
+    let h = fields-inside _ _ (c .before .before .before .type-of .ensures .0) (c .before .n .given .1) in
     (h, omega (arith, c .before .before .before .before .before .before .pre .small))
 
 enum-known-n-2 : tie.Need-enum-known-n-2
@@ -36,27 +36,27 @@ enum-known-n-2 c = search needs
 
 returns : tie.Need-returns
 unfolding fieldOf recordTy _whenSome_
-returns c = field-seen _ _ (c .before .before .type-of .ensures) (c .enum-told .given .1)
+returns c = field-seen _ _ (c .before .before .type-of .ensures .0) (c .enum-told .given .1)
 
 returns-2 : tie.Need-returns-2
 unfolding fieldOf recordTy _whenSome_
-returns-2 c = field-seen _ _ (c .before .before .type-of .ensures) (c .enum-told2 .given .1)
+returns-2 c = field-seen _ _ (c .before .before .type-of .ensures .0) (c .enum-told2 .given .1)
 
 returns-3 : tie.Need-returns-3
 unfolding fieldOf recordTy _whenSome_
-returns-3 c = field-seen _ _ (c .before .before .type-of .ensures) (c .enum-told3 .given .1)
+returns-3 c = field-seen _ _ (c .before .before .type-of .ensures .0) (c .enum-told3 .given .1)
 
 returns-4 : tie.Need-returns-4
 unfolding fieldOf recordTy _whenSome_
-returns-4 c = field-seen _ _ (c .before .before .before .type-of .ensures) (c .before .p .given .1)
+returns-4 c = field-seen _ _ (c .before .before .before .type-of .ensures .0) (c .before .p .given .1)
 
 returns-5 : tie.Need-returns-5
 unfolding fieldOf recordTy _whenSome_
-returns-5 c = c .field-from .ensures ∙ field-seen _ _ (c .before .before .before .before .type-of .ensures) (c .before .before .n .given .1)
+returns-5 c = c .field-from .ensures ∙ field-seen _ _ (c .before .before .before .before .type-of .ensures .0) (c .before .before .n .given .1)
 
 returns-6 : tie.Need-returns-6
 unfolding fieldOf recordTy _whenSome_
-returns-6 c = field-seen _ _ (c .before .before .before .type-of .ensures) (c .before .n2 .given .1)
+returns-6 c = field-seen _ _ (c .before .before .before .type-of .ensures .0) (c .before .n2 .given .1)
 
 pub field-of-spec : {M : Type 1} → statement M
 field-of-spec =

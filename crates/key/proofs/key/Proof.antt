@@ -26,7 +26,7 @@ same-length-2 : tie.Need-same-length-2
 same-length-2 c = search needs
 
 returns : tie.Need-returns
-returns c = key-scalar _ _ _ _ _ _ _ (c .before .before .before .before .before .before .before .before .before .before .record-ty .ensures) _ (c .before .before .before .before .before .before .before .before .enum-told2 .given .1) (c .before .before .before .before .before .before .before .before .before .before .before .before .before .before .before .pre .1) _ (c .before .before .before .before .before .before .before .field .ensures .0) (c .before .before .before .before .field2 .ensures)
+returns c = key-scalar _ _ _ _ _ _ _ (c .before .before .before .before .before .before .before .before .before .before .record-ty .ensures .0) _ (c .before .before .before .before .before .before .before .before .enum-told2 .given .1) (c .before .before .before .before .before .before .before .before .before .before .before .before .before .before .before .pre .1) _ (c .before .before .before .before .before .before .before .field .ensures .0) (c .before .before .before .before .field2 .ensures)
 
 pairs-of-requires : tie.Need-pairs-of-requires
 pairs-of-requires c κs = search needs
@@ -44,7 +44,7 @@ same-length-4 : tie.Need-same-length-4
 same-length-4 c = search needs
 
 returns-2 : tie.Need-returns-2
-returns-2 c = key-record _ _ _ _ _ _ _ (c .before .before .before .before .before .before .before .before .before .before .before .before .record-ty .ensures) _ _ _ (c .before .before .before .before .before .before .before .before .before .before .enum-told .given .1) _ (c .before .before .before .before .before .before .before .before .before .pairs-of .ensures) _ _ (c .before .before .before .before .before .before .before .enum-told3 .given .1) (c .before .before .before .before .record-key .ensures)
+returns-2 c = key-record _ _ _ _ _ _ _ (c .before .before .before .before .before .before .before .before .before .before .before .before .record-ty .ensures .0) _ _ _ (c .before .before .before .before .before .before .before .before .before .before .enum-told .given .1) _ (c .before .before .before .before .before .before .before .before .before .pairs-of .ensures .0) _ _ (c .before .before .before .before .before .before .before .enum-told3 .given .1) (c .before .before .before .before .record-key .ensures)
 
 enum-told-4 : tie.Need-enum-told-4
 enum-told-4 c = search needs
@@ -59,7 +59,7 @@ same-length-6 : tie.Need-same-length-6
 same-length-6 c = search needs
 
 returns-3 : tie.Need-returns-3
-returns-3 c = key-whole _ _ _ _ _ _ _ (c .before .before .before .before .before .before .before .before .before .before .before .before .record-ty .ensures) _ _ _ (c .before .before .before .before .before .before .before .before .before .before .enum-told .given .1) _ (c .before .before .before .before .before .before .before .before .before .pairs-of .ensures) (c .before .before .before .before .before .before .before .enum-told4 .given .1) (c .before .before .before .before .whole-key .ensures)
+returns-3 c = key-whole _ _ _ _ _ _ _ (c .before .before .before .before .before .before .before .before .before .before .before .before .record-ty .ensures .0) _ _ _ (c .before .before .before .before .before .before .before .before .before .before .enum-told .given .1) _ (c .before .before .before .before .before .before .before .before .before .pairs-of .ensures .0) (c .before .before .before .before .before .before .before .enum-told4 .given .1) (c .before .before .before .before .whole-key .ensures)
 
 pub key-spec : {M : Type 1} → statement M
 key-spec =

@@ -28,10 +28,10 @@ same-length-2 : tie.Need-same-length-2
 same-length-2 c = search needs
 
 returns : tie.Need-returns
-returns c = whole-var _ _ _ _ _ _ _ _ (c .before .before .before .before .before .before .before .before .before .before .node-of .ensures) _ _ (c .before .before .before .before .before .before .before .before .x .given .1) (c .before .before .before .before .whole-variable .ensures)
+returns c = whole-var _ _ _ _ _ _ _ _ (c .before .before .before .before .before .before .before .before .before .before .node-of .ensures .0) _ _ (c .before .before .before .before .before .before .before .before .x .given .1) (c .before .before .before .before .whole-variable .ensures)
 
 returns-2 : tie.Need-returns-2
-returns-2 c = whole-wildcard _ _ _ _ _ _ _ _ (c .before .before .before .node-of .ensures) _ (c .before .enum-told .given .1) (c .skip .ensures _ _ _)
+returns-2 c = whole-wildcard _ _ _ _ _ _ _ _ (c .before .before .before .node-of .ensures .0) _ (c .before .enum-told .given .1) (c .skip .ensures _ _ _)
 
 same-length-3 : tie.Need-same-length-3
 same-length-3 c = search needs
@@ -40,7 +40,7 @@ same-length-4 : tie.Need-same-length-4
 same-length-4 c = search needs
 
 returns-3 : tie.Need-returns-3
-returns-3 c = whole-other _ _ _ _ _ _ _ _ (c .before .before .before .before .before .before .before .before .node-of .ensures) _ (c .before .before .before .before .before .before .before .match .keys3) (c .before .before .before .before .whole-read .ensures)
+returns-3 c = whole-other _ _ _ _ _ _ _ _ (c .before .before .before .before .before .before .before .before .node-of .ensures .0) _ (c .before .before .before .before .before .before .before .match .keys3) (c .before .before .before .before .whole-read .ensures)
 
 pub whole-key-spec : {M : Type 1} → statement M
 whole-key-spec =

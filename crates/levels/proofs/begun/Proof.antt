@@ -11,7 +11,7 @@ new-requires : tie.Need-new-requires
 new-requires c κs = search needs
 
 returns : tie.Need-returns
-returns c T w p = let a = c .before .args in begun-is T (a .over) (a .ends) _ _ w p (c .new .ensures T (endsOf (a .ends)) w p)
+returns c T w p = let a = c .before .args in begun-is T (a .over) (a .ends) _ _ w p (c .new .ensures .0 T (endsOf (a .ends)) w p)
 
 pub begun-spec : {M : Type 1} → statement M
 begun-spec = tie.close (tie.spec new-requires returns)

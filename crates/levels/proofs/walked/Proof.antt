@@ -6,7 +6,7 @@ use Rattle.levels.proofs.walked.Statement.{statement}
 use Rattle.levels.proofs.walked.Tie as tie
 use Rattle.levels.proofs.walked.Reads as reads
 use Rattle.levels.proofs.walked.Lts as lts
-use Rattle.entries.proofs.predicate_of.Reads as predicate-of-reads
+use Rattle.views.proofs.predicate_of.Reads as predicate-of-reads
 use Rattle.key.proofs.key.Reads as key-reads
 use Rattle.views.proofs.level_at.Reads as level-at-reads
 

@@ -25,7 +25,7 @@ enum-known-v : tie.Need-enum-known-v
 enum-known-v c = search needs
 
 fitted-requires : tie.Need-fitted-requires
-fitted-requires c κs = (c .before .before .before .before .before .before .before .before .before .pre, view-inside _ _ _ (c .before .before .before .made-slot .ensures) _ (c .before .v .given .1))
+fitted-requires c κs = (c .before .before .before .before .before .before .before .before .before .pre, view-inside _ _ _ (c .before .before .before .made-slot .ensures .0) _ (c .before .v .given .1))
 
 enum-told : tie.Need-enum-told
 enum-told c = search needs
@@ -34,10 +34,10 @@ own-slot-requires : tie.Need-own-slot-requires
 own-slot-requires c κs = search needs
 
 returns : tie.Need-returns
-returns c = λ lv tg p. slot-as (c .fitted .ensures) (of-made _ _ lv tg _ p _ (c .before .before .before .before .before .before .made-end .result) (c .before .before .before .before .before .before .made-end .ensures .0) _ (c .before .before .before .before .made-slot .ensures) _ (c .before .before .v .given .1))
+returns c = λ lv tg p. slot-as (c .fitted .ensures) (of-made _ _ lv tg _ p _ (c .before .before .before .before .before .before .made-end .result) (c .before .before .before .before .before .before .made-end .ensures .0) _ (c .before .before .before .before .made-slot .ensures .0) _ (c .before .before .v .given .1))
 
 returns-2 : tie.Need-returns-2
-returns-2 c = λ lv tg p. slot-as (c .own-slot .ensures) (of-file _ _ lv tg _ p _ (c .before .before .before .before .before .made-end .result) (c .before .before .before .before .before .made-end .ensures .0) _ (c .before .before .before .made-slot .ensures) (c .before .enum-told .given .1))
+returns-2 c = λ lv tg p. slot-as (c .own-slot .ensures) (of-file _ _ lv tg _ p _ (c .before .before .before .before .before .made-end .result) (c .before .before .before .before .before .made-end .ensures .0) _ (c .before .before .before .made-slot .ensures .0) (c .before .enum-told .given .1))
 
 pub lookup-spec : {M : Type 1} → statement M
 lookup-spec =

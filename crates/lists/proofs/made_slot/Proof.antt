@@ -1,4 +1,4 @@
-use Rattle.lists.proofs.Scans.{found-reads, found-slot, found-none}
+use Rattle.lists.proofs.Scans.{found-reads, found-slot, found-none, view-found, view-none}
 use Rattle.lists.proofs.Pairs.{passed}
 use borrow.Author.Needs.{needs}
 use Rattle.lists.proofs.made_slot.Statement.{statement}
@@ -28,16 +28,21 @@ enum-known-p : tie.Need-enum-known-p
 enum-known-p c = search needs
 
 slot-at-requires : tie.Need-slot-at-requires
-slot-at-requires c κs = found-reads _ _ _ (c .before .before .before .find .ensures) _ (c .before .p .given .1)
+slot-at-requires c κs = found-reads _ _ _ (c .before .before .before .find .ensures .0) _ (c .before .p .given .1)
 
 enum-told : tie.Need-enum-told
 enum-told c = search needs
 
 returns-2 : tie.Need-returns-2
-returns-2 c = found-slot _ _ _ (c .before .before .before .before .find .ensures) _ _ (c .before .before .p .given .1) (c .slot-at .ensures)
+returns-2 c =
+    let e = c .before .before .before .before .find .ensures in
+    let p = c .before .before .p .given .1 in
+    (found-slot _ _ _ (e .0) _ _ p (c .slot-at .ensures .0), view-found _ _ _ (e .1) _ _ p (c .slot-at .ensures .1))
 
 returns-3 : tie.Need-returns-3
-returns-3 c = found-none _ _ _ (c .before .before .find .ensures) (c .enum-told .given .1)
+returns-3 c =
+    let e = c .before .before .find .ensures in
+    (found-none _ _ _ (e .0) (c .enum-told .given .1), view-none _ _ _ (e .1) (c .enum-told .given .1))
 
 pub made-slot-spec : {M : Type 1} → statement M
 made-slot-spec =

@@ -20,7 +20,7 @@ enum-known-v : tie.Need-enum-known-v
 enum-known-v c = search needs
 
 fitted-requires : tie.Need-fitted-requires
-fitted-requires c κs = (c .before .before .before .before .before .before .pre, view-inside _ _ _ (c .before .before .before .lookup .ensures) _ (c .before .v .given .1))
+fitted-requires c κs = (c .before .before .before .before .before .before .pre, view-inside _ _ _ (c .before .before .before .lookup .ensures .0) _ (c .before .v .given .1))
 
 enum-told : tie.Need-enum-told
 enum-told c = search needs
@@ -29,11 +29,11 @@ nothing-requires : tie.Need-nothing-requires
 nothing-requires c κs = search needs
 
 returns : tie.Need-returns
-returns c = slot-as (c .fitted .ensures) (ap (checkedSlot _) (view-is _ _ _ (c .before .before .before .before .lookup .ensures) _ (c .before .before .v .given .1)))
+returns c = slot-as (c .fitted .ensures) (ap (checkedSlot _) (view-is _ _ _ (c .before .before .before .before .lookup .ensures .0) _ (c .before .before .v .given .1)))
 
 returns-2 : tie.Need-returns-2
 unfolding checkedSlot
-returns-2 c = slot-as (no-slot (c .nothing .ensures)) (ap (checkedSlot (tablesOf (now (c .before .before .before .before .before .before .args .file)))) (nothing-is _ _ _ (c .before .before .before .lookup .ensures) (c .before .enum-told .given .1)))
+returns-2 c = slot-as (no-slot (c .nothing .ensures)) (ap (checkedSlot (tablesOf (now (c .before .before .before .before .before .before .args .file)))) (nothing-is _ _ _ (c .before .before .before .lookup .ensures .0) (c .before .enum-told .given .1)))
 
 pub own-slot-spec : {M : Type 1} → statement M
 own-slot-spec =

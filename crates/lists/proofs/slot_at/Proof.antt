@@ -1,7 +1,11 @@
 use native.Mathlib.Omega.{arith}
 use mathlib.Core.Path.{ap, ap₂, _∙_}
 use Rattle.rules.specs.File.{Slot}
-use Rattle.views.proofs.Slots.{row-here, key-here, derived-here, field-here, value-here, const-here, field-is}
+use Prim.Native.Nat.{_+_}
+use Rattle.views.specs.Views.{predicateOption}
+use Rattle.views.specs.declared.SlotView.the-variants as Sv
+use Rattle.views.proofs.Entries.{predicate-option}
+use Rattle.views.proofs.Slots.{shown-slot, row-here, key-here, derived-here, field-here, value-here, const-here, field-is}
 use Rattle.lists.proofs.Scans.{there, seen-view}
 use Rattle.lists.proofs.slot_at.Statement.{statement}
 use Rattle.lists.proofs.slot_at.Tie as tie
@@ -67,22 +71,46 @@ word-at-requires-3 : tie.Need-word-at-requires-3
 word-at-requires-3 c κs = const-here _ _ _ (there _ _ (c .before .before .before .pre)) (omega (arith, (there _ _ (c .before .before .before .pre)) .kinded .known)) .0
 
 returns : tie.Need-returns
-returns c = seen-view _ _ (c .before .before .before .before .before .pre) _ (ap₂ Slot.Row (c .before .register-at .ensures) (c .predicate-from .ensures) ∙ row-here _ _ _ (there _ _ (c .before .before .before .before .before .pre)) (omega arith) .1) tt
+returns c =
+    let r = c .before .before .before .before .before .pre in (
+      seen-view _ _ r _ (ap₂ Slot.Row (c .before .register-at .ensures) (ap predicateOption (c .predicate-from .ensures) ∙ predicate-option _) ∙ row-here _ _ _ (there _ _ r) (omega arith) .1) tt,
+      shown-slot _ _ 0 _ (omega arith) (ap₂ (λ a o. Sv.Row (record { 0 = a }) o) (c .before .register-at .ensures) (c .predicate-from .ensures)),
+    )
 
 returns-2 : tie.Need-returns-2
-returns-2 c = seen-view _ _ (c .before .before .before .before .before .pre) _ (ap₂ Slot.Key (c .before .register-at2 .ensures) (c .word-at .ensures .0) ∙ key-here _ _ _ (there _ _ (c .before .before .before .before .before .pre)) (omega arith) .1) tt
+returns-2 c =
+    let r = c .before .before .before .before .before .pre in (
+      seen-view _ _ r _ (ap₂ Slot.Key (c .before .register-at2 .ensures) (c .word-at .ensures .0) ∙ key-here _ _ _ (there _ _ r) (omega arith) .1) tt,
+      shown-slot _ _ 1 _ (omega arith) (ap₂ (λ a t. Sv.Key (record { 0 = a }) t) (c .before .register-at2 .ensures) (c .word-at .ensures .0)),
+    )
 
 returns-3 : tie.Need-returns-3
-returns-3 c = seen-view _ _ (c .before .before .before .before .pre) _ (ap Slot.Derived (c .register-at3 .ensures) ∙ derived-here _ _ _ (there _ _ (c .before .before .before .before .pre)) (omega arith) .1) tt
+returns-3 c =
+    let r = c .before .before .before .before .pre in (
+      seen-view _ _ r _ (ap Slot.Derived (c .register-at3 .ensures) ∙ derived-here _ _ _ (there _ _ r) (omega arith) .1) tt,
+      shown-slot _ _ 2 _ (omega arith) (ap (λ a. Sv.Derived (record { 0 = a })) (c .register-at3 .ensures)),
+    )
 
 returns-4 : tie.Need-returns-4
-returns-4 c = seen-view _ _ (c .before .before .before .before .before .pre) _ (field-is _ _ _ (there _ _ (c .before .before .before .before .before .pre)) _ _ (omega arith) (c .before .register-at4 .ensures) (c .past-path .ensures)) (field-here _ _ _ (there _ _ (c .before .before .before .before .before .pre)) (omega arith) .path)
+returns-4 c =
+    let r = c .before .before .before .before .before .pre in (
+      seen-view _ _ r _ (field-is _ _ _ (there _ _ r) _ _ (omega arith) (c .before .register-at4 .ensures) (c .past-path .ensures)) (field-here _ _ _ (there _ _ r) (omega arith) .path),
+      shown-slot _ _ 3 _ (omega arith) (ap₂ (λ a t. Sv.Field (record { 0 = a }) (c .before .before .before .before .before .args .at + 2 + 1 + 2) t) (c .before .register-at4 .ensures) (c .past-path .ensures)),
+    )
 
 returns-5 : tie.Need-returns-5
-returns-5 c = seen-view _ _ (c .before .before .before .before .before .pre) _ (ap₂ Slot.Value (c .before .register-at5 .ensures) (c .word-at2 .ensures .0) ∙ value-here _ _ _ (there _ _ (c .before .before .before .before .before .pre)) (omega arith) .1) tt
+returns-5 c =
+    let r = c .before .before .before .before .before .pre in (
+      seen-view _ _ r _ (ap₂ Slot.Value (c .before .register-at5 .ensures) (c .word-at2 .ensures .0) ∙ value-here _ _ _ (there _ _ r) (omega arith) .1) tt,
+      shown-slot _ _ 4 _ (omega arith) (ap₂ (λ a t. Sv.Value (record { 0 = a }) t) (c .before .register-at5 .ensures) (c .word-at2 .ensures .0)),
+    )
 
 returns-6 : tie.Need-returns-6
-returns-6 c = seen-view _ _ (c .before .before .before .before .pre) _ (ap Slot.Const (c .word-at3 .ensures .0) ∙ const-here _ _ _ (there _ _ (c .before .before .before .before .pre)) (omega (arith, (there _ _ (c .before .before .before .before .pre)) .kinded .known)) .1) tt
+returns-6 c =
+    let r = c .before .before .before .before .pre in (
+      seen-view _ _ r _ (ap Slot.Const (c .word-at3 .ensures .0) ∙ const-here _ _ _ (there _ _ r) (omega (arith, there _ _ r .kinded .known)) .1) tt,
+      shown-slot _ _ 5 _ (omega (arith, there _ _ r .kinded .known)) (ap Sv.Const (c .word-at3 .ensures .0)),
+    )
 
 pub slot-at-spec : {M : Type 1} → statement M
 slot-at-spec =

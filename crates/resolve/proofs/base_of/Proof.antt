@@ -60,71 +60,71 @@ enum-told-6 c = search needs
 
 returns : tie.Need-returns
 unfolding baseOf
-returns c = base-seen _ (c .before .before .before .node-of .ensures) (c .before .at .given .1)
+returns c = base-seen _ (c .before .before .before .node-of .ensures .0) (c .before .at .given .1)
 
 returns-2 : tie.Need-returns-2
 unfolding baseOf
-returns-2 c = base-seen _ (c .before .before .before .node-of .ensures) (c .before .x .given .1)
+returns-2 c = base-seen _ (c .before .before .before .node-of .ensures .0) (c .before .x .given .1)
 
 returns-3 : tie.Need-returns-3
 unfolding baseOf
-returns-3 c = base-seen _ (c .before .before .before .node-of .ensures) (c .before .n .given .1)
+returns-3 c = base-seen _ (c .before .before .before .node-of .ensures .0) (c .before .n .given .1)
 
 returns-4 : tie.Need-returns-4
 unfolding baseOf
-returns-4 c = base-seen _ (c .before .before .before .node-of .ensures) (c .before .x2 .given .1)
+returns-4 c = base-seen _ (c .before .before .before .node-of .ensures .0) (c .before .x2 .given .1)
 
 returns-5 : tie.Need-returns-5
 unfolding baseOf
-returns-5 c = base-seen _ (c .before .before .node-of .ensures) (c .enum-told .given .1)
+returns-5 c = base-seen _ (c .before .before .node-of .ensures .0) (c .enum-told .given .1)
 
 returns-6 : tie.Need-returns-6
 unfolding baseOf
-returns-6 c = base-seen _ (c .before .before .node-of .ensures) (c .enum-told2 .given .1)
+returns-6 c = base-seen _ (c .before .before .node-of .ensures .0) (c .enum-told2 .given .1)
 
 returns-7 : tie.Need-returns-7
 unfolding baseOf
-returns-7 c = base-seen _ (c .before .before .before .node-of .ensures) (c .before .x3 .given .1)
+returns-7 c = base-seen _ (c .before .before .before .node-of .ensures .0) (c .before .x3 .given .1)
 
 returns-8 : tie.Need-returns-8
 unfolding baseOf
-returns-8 c = base-seen _ (c .before .before .before .node-of .ensures) (c .before .x4 .given .1)
+returns-8 c = base-seen _ (c .before .before .before .node-of .ensures .0) (c .before .x4 .given .1)
 
 returns-9 : tie.Need-returns-9
 unfolding baseOf
-returns-9 c = base-seen _ (c .before .before .before .node-of .ensures) (c .before .n2 .given .1)
+returns-9 c = base-seen _ (c .before .before .before .node-of .ensures .0) (c .before .n2 .given .1)
 
 returns-10 : tie.Need-returns-10
 unfolding baseOf
-returns-10 c = base-seen _ (c .before .before .before .node-of .ensures) (c .before .x5 .given .1)
+returns-10 c = base-seen _ (c .before .before .before .node-of .ensures .0) (c .before .x5 .given .1)
 
 returns-11 : tie.Need-returns-11
 unfolding baseOf
-returns-11 c = base-seen _ (c .before .before .before .node-of .ensures) (c .before .n3 .given .1)
+returns-11 c = base-seen _ (c .before .before .before .node-of .ensures .0) (c .before .n3 .given .1)
 
 returns-12 : tie.Need-returns-12
 unfolding baseOf
-returns-12 c = base-seen _ (c .before .before .before .node-of .ensures) (c .before .x6 .given .1)
+returns-12 c = base-seen _ (c .before .before .before .node-of .ensures .0) (c .before .x6 .given .1)
 
 returns-13 : tie.Need-returns-13
 unfolding baseOf
-returns-13 c = base-seen _ (c .before .before .node-of .ensures) (c .enum-told3 .given .1)
+returns-13 c = base-seen _ (c .before .before .node-of .ensures .0) (c .enum-told3 .given .1)
 
 returns-14 : tie.Need-returns-14
 unfolding baseOf
-returns-14 c = base-seen _ (c .before .before .node-of .ensures) (c .enum-told4 .given .1)
+returns-14 c = base-seen _ (c .before .before .node-of .ensures .0) (c .enum-told4 .given .1)
 
 returns-15 : tie.Need-returns-15
 unfolding baseOf
-returns-15 c = base-seen _ (c .before .before .before .node-of .ensures) (c .before .p .given .1)
+returns-15 c = base-seen _ (c .before .before .before .node-of .ensures .0) (c .before .p .given .1)
 
 returns-16 : tie.Need-returns-16
 unfolding baseOf
-returns-16 c = base-seen _ (c .before .before .node-of .ensures) (c .enum-told5 .given .1)
+returns-16 c = base-seen _ (c .before .before .node-of .ensures .0) (c .enum-told5 .given .1)
 
 returns-17 : tie.Need-returns-17
 unfolding baseOf
-returns-17 c = base-seen _ (c .before .before .node-of .ensures) (c .enum-told6 .given .1)
+returns-17 c = base-seen _ (c .before .before .node-of .ensures .0) (c .enum-told6 .given .1)
 
 pub base-of-spec : {M : Type 1} → statement M
 base-of-spec =

@@ -112,71 +112,71 @@ nothing-requires-15 c κs = search needs
 
 returns : tie.Need-returns
 unfolding leafSlot
-returns c = λ level target plan. slot-as (no-slot (c .nothing .ensures)) (leaf-seen _ _ _ _ (c .before .before .before .before .node-of .ensures) (c .before .before .at .given .1))
+returns c = λ level target plan. slot-as (no-slot (c .nothing .ensures)) (leaf-seen _ _ _ _ (c .before .before .before .before .node-of .ensures .0) (c .before .before .at .given .1))
 
 returns-2 : tie.Need-returns-2
 unfolding leafSlot
-returns-2 c = λ level target plan. slot-as (no-slot (c .nothing2 .ensures)) (leaf-seen _ _ _ _ (c .before .before .before .before .node-of .ensures) (c .before .before .x .given .1))
+returns-2 c = λ level target plan. slot-as (no-slot (c .nothing2 .ensures)) (leaf-seen _ _ _ _ (c .before .before .before .before .node-of .ensures .0) (c .before .before .x .given .1))
 
 returns-3 : tie.Need-returns-3
 unfolding leafSlot
-returns-3 c = λ level target plan. slot-as (no-slot (c .nothing3 .ensures)) (leaf-seen _ _ _ _ (c .before .before .before .before .node-of .ensures) (c .before .before .n .given .1))
+returns-3 c = λ level target plan. slot-as (no-slot (c .nothing3 .ensures)) (leaf-seen _ _ _ _ (c .before .before .before .before .node-of .ensures .0) (c .before .before .n .given .1))
 
 returns-4 : tie.Need-returns-4
 unfolding leafSlot
-returns-4 c = λ level target plan. slot-as (c .lookup .ensures level target plan) (leaf-seen _ _ _ _ (c .before .before .before .before .node-of .ensures) (c .before .before .x2 .given .1))
+returns-4 c = λ level target plan. slot-as (c .lookup .ensures level target plan) (leaf-seen _ _ _ _ (c .before .before .before .before .node-of .ensures .0) (c .before .before .x2 .given .1))
 
 returns-5 : tie.Need-returns-5
 unfolding leafSlot
-returns-5 c = λ level target plan. slot-as (no-slot (c .nothing4 .ensures)) (leaf-seen _ _ _ _ (c .before .before .before .node-of .ensures) (c .before .enum-told .given .1))
+returns-5 c = λ level target plan. slot-as (no-slot (c .nothing4 .ensures)) (leaf-seen _ _ _ _ (c .before .before .before .node-of .ensures .0) (c .before .enum-told .given .1))
 
 returns-6 : tie.Need-returns-6
 unfolding leafSlot
-returns-6 c = λ level target plan. slot-as (no-slot (c .nothing5 .ensures)) (leaf-seen _ _ _ _ (c .before .before .before .node-of .ensures) (c .before .enum-told2 .given .1))
+returns-6 c = λ level target plan. slot-as (no-slot (c .nothing5 .ensures)) (leaf-seen _ _ _ _ (c .before .before .before .node-of .ensures .0) (c .before .enum-told2 .given .1))
 
 returns-7 : tie.Need-returns-7
 unfolding leafSlot
-returns-7 c = λ level target plan. slot-as (no-slot (c .nothing6 .ensures)) (leaf-seen _ _ _ _ (c .before .before .before .before .node-of .ensures) (c .before .before .x3 .given .1))
+returns-7 c = λ level target plan. slot-as (no-slot (c .nothing6 .ensures)) (leaf-seen _ _ _ _ (c .before .before .before .before .node-of .ensures .0) (c .before .before .x3 .given .1))
 
 returns-8 : tie.Need-returns-8
 unfolding leafSlot
-returns-8 c = λ level target plan. slot-as (no-slot (c .nothing7 .ensures)) (leaf-seen _ _ _ _ (c .before .before .before .before .node-of .ensures) (c .before .before .x4 .given .1))
+returns-8 c = λ level target plan. slot-as (no-slot (c .nothing7 .ensures)) (leaf-seen _ _ _ _ (c .before .before .before .before .node-of .ensures .0) (c .before .before .x4 .given .1))
 
 returns-9 : tie.Need-returns-9
 unfolding leafSlot
-returns-9 c = λ level target plan. slot-as (no-slot (c .nothing8 .ensures)) (leaf-seen _ _ _ _ (c .before .before .before .before .node-of .ensures) (c .before .before .n2 .given .1))
+returns-9 c = λ level target plan. slot-as (no-slot (c .nothing8 .ensures)) (leaf-seen _ _ _ _ (c .before .before .before .before .node-of .ensures .0) (c .before .before .n2 .given .1))
 
 returns-10 : tie.Need-returns-10
 unfolding leafSlot
-returns-10 c = λ level target plan. slot-as (no-slot (c .nothing9 .ensures)) (leaf-seen _ _ _ _ (c .before .before .before .before .node-of .ensures) (c .before .before .x5 .given .1))
+returns-10 c = λ level target plan. slot-as (no-slot (c .nothing9 .ensures)) (leaf-seen _ _ _ _ (c .before .before .before .before .node-of .ensures .0) (c .before .before .x5 .given .1))
 
 returns-11 : tie.Need-returns-11
 unfolding leafSlot
-returns-11 c = λ level target plan. slot-as (no-slot (c .nothing10 .ensures)) (leaf-seen _ _ _ _ (c .before .before .before .before .node-of .ensures) (c .before .before .n3 .given .1))
+returns-11 c = λ level target plan. slot-as (no-slot (c .nothing10 .ensures)) (leaf-seen _ _ _ _ (c .before .before .before .before .node-of .ensures .0) (c .before .before .n3 .given .1))
 
 returns-12 : tie.Need-returns-12
 unfolding leafSlot
-returns-12 c = λ level target plan. slot-as (no-slot (c .nothing11 .ensures)) (leaf-seen _ _ _ _ (c .before .before .before .before .node-of .ensures) (c .before .before .x6 .given .1))
+returns-12 c = λ level target plan. slot-as (no-slot (c .nothing11 .ensures)) (leaf-seen _ _ _ _ (c .before .before .before .before .node-of .ensures .0) (c .before .before .x6 .given .1))
 
 returns-13 : tie.Need-returns-13
 unfolding leafSlot
-returns-13 c = λ level target plan. slot-as (no-slot (c .nothing12 .ensures)) (leaf-seen _ _ _ _ (c .before .before .before .node-of .ensures) (c .before .enum-told3 .given .1))
+returns-13 c = λ level target plan. slot-as (no-slot (c .nothing12 .ensures)) (leaf-seen _ _ _ _ (c .before .before .before .node-of .ensures .0) (c .before .enum-told3 .given .1))
 
 returns-14 : tie.Need-returns-14
 unfolding leafSlot
-returns-14 c = λ level target plan. slot-as (no-slot (c .nothing13 .ensures)) (leaf-seen _ _ _ _ (c .before .before .before .node-of .ensures) (c .before .enum-told4 .given .1))
+returns-14 c = λ level target plan. slot-as (no-slot (c .nothing13 .ensures)) (leaf-seen _ _ _ _ (c .before .before .before .node-of .ensures .0) (c .before .enum-told4 .given .1))
 
 returns-15 : tie.Need-returns-15
 unfolding leafSlot
-returns-15 c = λ level target plan. slot-as (c .hoisted-slot .ensures level target plan) (leaf-seen _ _ _ _ (c .before .before .before .before .node-of .ensures) (c .before .before .p .given .1))
+returns-15 c = λ level target plan. slot-as (c .hoisted-slot .ensures level target plan) (leaf-seen _ _ _ _ (c .before .before .before .before .node-of .ensures .0) (c .before .before .p .given .1))
 
 returns-16 : tie.Need-returns-16
 unfolding leafSlot
-returns-16 c = λ level target plan. slot-as (no-slot (c .nothing14 .ensures)) (leaf-seen _ _ _ _ (c .before .before .before .node-of .ensures) (c .before .enum-told5 .given .1))
+returns-16 c = λ level target plan. slot-as (no-slot (c .nothing14 .ensures)) (leaf-seen _ _ _ _ (c .before .before .before .node-of .ensures .0) (c .before .enum-told5 .given .1))
 
 returns-17 : tie.Need-returns-17
 unfolding leafSlot
-returns-17 c = λ level target plan. slot-as (no-slot (c .nothing15 .ensures)) (leaf-seen _ _ _ _ (c .before .before .before .node-of .ensures) (c .before .enum-told6 .given .1))
+returns-17 c = λ level target plan. slot-as (no-slot (c .nothing15 .ensures)) (leaf-seen _ _ _ _ (c .before .before .before .node-of .ensures .0) (c .before .enum-told6 .given .1))
 
 pub leaf-spec : {M : Type 1} → statement M
 leaf-spec =

@@ -19,24 +19,24 @@ enum-known-n : tie.Need-enum-known-n
 enum-known-n c = search needs
 
 alternative-of-requires : tie.Need-alternative-of-requires
-alternative-of-requires c κs = seen-run (c .before .before .n .given .1) (c .before .before .before .before .union-ty .ensures) .inside
+alternative-of-requires c κs = seen-run (c .before .before .n .given .1) (c .before .before .before .before .union-ty .ensures .0) .inside
 
 selected-requires : tie.Need-selected-requires
 selected-requires c κs = λ a e.
     let s = c .before .before .before .before .before .before .before .before .before in
-    union-room (sound _ (passed-all _ (s .pre .0 .accepted))) _ _ _ _ a (s .pre .1) (sym (seen-run (c .before .before .before .n .given .1) (c .before .before .before .before .before .union-ty .ensures) .is)) (sym (c .alternative-of .ensures) ∙ e)
+    union-room (sound _ (passed-all _ (s .pre .0 .accepted))) _ _ _ _ a (s .pre .1) (sym (seen-run (c .before .before .before .n .given .1) (c .before .before .before .before .before .union-ty .ensures .0) .is)) (sym (c .alternative-of .ensures) ∙ e)
 
 same-length : tie.Need-same-length
 same-length c = search needs
 
 returns : tie.Need-returns
-returns c = no-union _ _ _ _ _ _ (seen-run (c .before .before .before .before .enum-told .given .1) (c .before .before .before .before .before .before .union-ty .ensures) .is) (c .before .before .declined .ensures _)
+returns c = no-union _ _ _ _ _ _ (seen-run (c .before .before .before .before .enum-told .given .1) (c .before .before .before .before .before .before .union-ty .ensures .0) .is) (c .before .before .declined .ensures _)
 
 same-length-2 : tie.Need-same-length-2
 same-length-2 c = search needs
 
 returns-2 : tie.Need-returns-2
-returns-2 c = of-union _ _ _ _ _ _ _ (seen-run (c .before .before .before .before .before .before .n .given .1) (c .before .before .before .before .before .before .before .before .union-ty .ensures) .is) (c .before .before .before .alternative-of .ensures) (c .before .before .selected .ensures _)
+returns-2 c = of-union _ _ _ _ _ _ _ (seen-run (c .before .before .before .before .before .before .n .given .1) (c .before .before .before .before .before .before .before .before .union-ty .ensures .0) .is) (c .before .before .before .alternative-of .ensures) (c .before .before .selected .ensures _)
 
 pub select-field-spec : {M : Type 1} → statement M
 select-field-spec =

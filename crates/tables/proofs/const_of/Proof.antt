@@ -13,16 +13,16 @@ enum-told : tie.Need-enum-told
 enum-told c = search needs
 
 returns : tie.Need-returns
-returns c = const-none _ _ _ (c .before .before .lookup .ensures) (c .enum-told .given .1)
+returns c = const-none _ _ _ (c .before .before .lookup .ensures .0) (c .enum-told .given .1)
 
 enum-known-s-2 : tie.Need-enum-known-s-2
 enum-known-s-2 c = search needs
 
 returns-2 : tie.Need-returns-2
-returns-2 c = const-is _ _ _ (c .before .before .before .before .before .before .lookup .ensures) _ (c .before .before .before .before .s .given .1) _ (c .before .s2 .given .1)
+returns-2 c = const-is _ _ _ (c .before .before .before .before .before .before .lookup .ensures .0) _ (c .before .before .before .before .s .given .1) _ (c .before .s2 .given .1)
 
 returns-3 : tie.Need-returns-3
-returns-3 c = const-not _ _ _ (c .before .before .before .before .lookup .ensures) _ (c .before .before .s .given .1) (c .match2 .keys2)
+returns-3 c = const-not _ _ _ (c .before .before .before .before .lookup .ensures .0) _ (c .before .before .s .given .1) (c .match2 .keys2)
 
 pub const-of-spec : {M : Type 1} → statement M
 const-of-spec =

@@ -18,7 +18,7 @@ fuzzy-residual-requires c κs = search needs
 
 returns-2 : tie.Need-returns-2
 returns-2 c =
-    λ T e w. as-guide (c .before .before .before .before .before .args .self) T e w _ _ _ (c .before .before .before .if1 .left) _ _ _ (sym (c .before .before .attachable .ensures T) ∙ c .before .if2 .taken) (c .guided .ensures T e w _)
+    λ T e w. as-guide (c .before .before .before .before .before .args .self) T e w _ _ _ (c .before .before .before .if1 .left) _ _ _ (sym (c .before .before .attachable .ensures T) ∙ c .before .if2 .taken) (c .guided .ensures .0 T e w _)
 
 same-length : tie.Need-same-length
 same-length c = search needs

@@ -18,7 +18,7 @@ prefix-residual-requires : tie.Need-prefix-residual-requires
 prefix-residual-requires c κs = search needs
 
 returns-2 : tie.Need-returns-2
-returns-2 c = λ e w. as-range (c .before .before .before .before .before .before .args .self) _ e w _ _ _ (c .before .before .if1 .left) _ (c .before .if2 .taken) (c .ranged .ensures _ e w _)
+returns-2 c = λ e w. as-range (c .before .before .before .before .before .before .args .self) _ e w _ _ _ (c .before .before .if1 .left) _ (c .before .if2 .taken) (c .ranged .ensures .0 _ e w _)
 
 same-length : tie.Need-same-length
 same-length c = search needs

@@ -1,13 +1,13 @@
 use native.Mathlib.Omega.{arith}
-use Rattle.entries.proofs.Past.{past-predicates}
+use Rattle.views.proofs.Past.{past-predicates}
 use borrow.Author.Needs.{needs}
-use Rattle.entries.proofs.predicate_of.Statement.{statement}
-use Rattle.entries.proofs.predicate_of.Tie as tie
-use Rattle.entries.proofs.predicate_of.Reads as reads
-use Rattle.entries.proofs.predicate_of.Lts as lts
+use Rattle.views.proofs.predicate_of.Statement.{statement}
+use Rattle.views.proofs.predicate_of.Tie as tie
+use Rattle.views.proofs.predicate_of.Reads as reads
+use Rattle.views.proofs.predicate_of.Lts as lts
 use Rattle.file.proofs.wide16.Reads as wide16-reads
 use Rattle.views.proofs.count_of.Reads as count-of-reads
 use Rattle.views.proofs.predicate_at.Reads as predicate-at-reads
 
 wide16-requires : tie.Need-wide16-requires
 wide16-requires c κs = search needs
