@@ -12,10 +12,10 @@ ghost use Rattle.state.specs.Levels as StateLevels;
 ghost use Rattle.file.specs.Tables.{tablesOf};
 ghost use Rattle.views.specs.Views.{levelEntryAt};
 ghost use Rattle.accepted_file.specs.AcceptedFile.{AcceptedFile};
-ghost use Rattle.seek.specs.Seek.{levelOf, targetOf};
+ghost use Rattle.seek.specs.Seek.{levelOf, targetOf, newBuilder};
 ghost use Rattle.lists.specs.Lists.{endsOf, stateWith, overrun};
 ghost use Rattle.level_frame.specs.LevelFrame.{frameOf};
-ghost use Rattle.walk.specs.Walk.{walkState};
+ghost use Rattle.walk.specs.Walk.{walkState, withLists};
 ghost use Rattle.levels.specs.Written.{unleveled, betweenLevels, writtenOf};
 use key::key;
 use level_frame::Frame;
@@ -45,7 +45,8 @@ pub struct Written {
 
 // A level's walk begins.
 fn begun(over: bool, ends: Ends, target: Target) -> Walk
-    ensures { λ r. ⌜ ((T : Tables) (w p : List ℕ) → walkState T r w p ≡ state over (endsOf ends) newLevel (targetOf target) w p) ⌝ }
+    ensures starts { λ r. ⌜ ((T : Tables) (w p : List ℕ) → walkState T r w p ≡ state over (endsOf ends) newLevel (targetOf target) w p) ⌝ }
+    ensures whole { λ r. ⌜ r ≡ withLists (record { ends = ends; level = newBuilder target }) (record { over = over; ends = ends }) ⌝ }
 {
     let mut level = SeekBuilder::new(target);
     level.over = over;

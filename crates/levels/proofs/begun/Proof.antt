@@ -1,4 +1,6 @@
+use mathlib.Core.Path.{ap}
 use Rattle.lists.specs.Lists.{endsOf}
+use Rattle.walk.specs.Walk.{withLists}
 use Rattle.levels.proofs.Walks.{begun-is}
 use borrow.Author.Needs.{needs}
 use Rattle.levels.proofs.begun.Statement.{statement}
@@ -11,7 +13,11 @@ new-requires : tie.Need-new-requires
 new-requires c κs = search needs
 
 returns : tie.Need-returns
-returns c T w p = let a = c .before .args in begun-is T (a .over) (a .ends) _ _ w p (c .new .ensures .0 T (endsOf (a .ends)) w p)
+returns c =
+    let a = c .before .args in (
+      λ T w p. begun-is T (a .over) (a .ends) _ _ w p (c .new .ensures .0 T (endsOf (a .ends)) w p),
+      ap (λ b. withLists (record { ends = a .ends; level = b }) (record { over = a .over; ends = a .ends })) (c .new .ensures .1),
+    )
 
 pub begun-spec : {M : Type 1} → statement M
 begun-spec = tie.close (tie.spec new-requires returns)

@@ -57,7 +57,7 @@ returns-2 c =
     let a = s .args in
     let T = tablesOf (now (a .file)) in
     lists-left T _ _ _ _ (c .lists2 .ensures)
-    ∙ rewritten-is T (a .at) (a .m) (a .f) (s .pre .1 .1 .0) (s .pre .1 .1 .1) _ _ _ _ _ (c .before .before .before .before .before .before .before .before .before .before .before .before .before .before .put-frame .ensures) (sym (c .before .before .before .before .before .before .before .before .before .before .before .bare .ensures T) ∙ c .before .before .before .before .before .before .before .before .before .before .if1 .left) _ (c .before .before .before .before .before .before .before .before .before .writing .ensures T) _ _ (c .before .before .before .before .before .before .before .before .begun .ensures T _ _) (c .before .before .before .before .before .walked .ensures)
+    ∙ rewritten-is T (a .at) (a .m) (a .f) (s .pre .1 .1 .0) (s .pre .1 .1 .1) _ _ _ _ _ (c .before .before .before .before .before .before .before .before .before .before .before .before .before .before .put-frame .ensures) (sym (c .before .before .before .before .before .before .before .before .before .before .before .bare .ensures T) ∙ c .before .before .before .before .before .before .before .before .before .before .if1 .left) _ (c .before .before .before .before .before .before .before .before .before .writing .ensures T) _ _ (c .before .before .before .before .before .before .before .before .begun .ensures .0 T _ _) (c .before .before .before .before .before .walked .ensures)
 
 pub rewritten-spec : {M : Type 1} → statement M
 rewritten-spec =
