@@ -19,9 +19,8 @@ use Rattle.views.specs.Views.{nodeOf, patternAt, SeenNode}
 use Rattle.views.specs.declared.NodeView.{NodeView}
 use Rattle.views.specs.declared.NodeView.the-variants as Nv
 use Rattle.views.proofs.NodeView as NodeViews
-use Rattle.slots.specs.Slots.{slotOf, maybe, noSlot, tidySlot, tidyMaybe, tidied}
+use Rattle.slots.specs.Slots.{slotOf, maybe, noSlot}
 use Rattle.slots.specs.declared.Slot.{Slot}
-use Rattle.slots.specs.declared.MaybeSlot.{MaybeSlot}
 use Rattle.tables.specs.Tables.{SeenRun}
 use Rattle.tables.specs.declared.Run.{Run}
 use Rattle.tables.specs.declared.Run.the-variants as Ru
@@ -117,10 +116,6 @@ done-is T r w work plan e = ap (λ (b : Begun). startOf b (walkState T (b .walk)
 
 pub done-unset : (r : Begun) (w : Walk) → r ≡ doneWith w → r .slot ≡ slotBeside (r .next) (r .slot)
 done-unset r w e = ap (λ (b : Begun). b .slot) e ∙ sym (ap (λ (b : Begun). slotBeside (b .next) (b .slot)) e)
-
--- a slot that there is
-pub tidy-there : (m : MaybeSlot) → m ≡ tidied m → m .some ≡ true → m .slot ≡ tidySlot (m .slot)
-tidy-there m k e = ap (λ (x : MaybeSlot). x .slot) (k ∙ ap (λ (b : Bool). tidyMaybe b (m .slot)) e)
 
 -- an answer, with its lists put back into the walk
 pub answer-is : (T : Tables) (w r : Walk) (l : Lists) (ans : Answer) (work work′ plan : List ℕ) → l ≡ listsOf w → r ≡ withLists w (ans .lists) → (g : ResolveRules.Resolver State) → Answers g l work ans work′ → record { slot = given ans; walk = walkState T r work′ plan } ≡ g (walkState T w work plan)

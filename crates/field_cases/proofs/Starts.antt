@@ -29,7 +29,7 @@ use Rattle.lists.specs.declared.Lists.{Lists}
 use Rattle.walk.specs.Walk.{walkState, listsOf}
 use Rattle.walk.specs.declared.Walk.{Walk}
 use Rattle.walk.proofs.Parts.{lists-of}
-use Rattle.field_cases.proofs.Reading.{tidy-there}
+use Rattle.slots.proofs.Tidy.{tidy-there}
 use Rattle.field_cases.specs.FieldCases.{isInjection, still, Start, readStart, placeStart, variableStart, nodeStart, start}
 
 -- a name looked up, whatever the level

@@ -1,10 +1,10 @@
 -- The slots that a field, a row or a folded constant gives, and the room that a path has for one step more.
-use Prim.Native.Nat.{ℕ, _≤_, _<_}
+use Prim.Native.Nat.{ℕ, _≤_, _<_, min}
 use mathlib.Core.Path.{_≡_, sym, ap, _∙_}
 use mathlib.Core.List.{List}
 use mathlib.Core.Option.{Option, none, some}
 use native.Mathlib.Omega.{arith}
-use lib.ListN.{length}
+use lib.ListN.{length, take, length-take}
 use lib.Seq.{length-take-le}
 use Rattle.rules.specs.Base.{_whenSome_}
 use Rattle.rules.specs.Limits.{stepLimit}
@@ -14,15 +14,17 @@ use Rattle.rules.specs.Constant.{fieldPattern}
 use Rattle.rules.specs.Lookup.{FieldAt, fieldOf, slotAt, rowField, rowValue, foldedField, foldedSlot}
 use Rattle.rules.proofs.Sound.{Child, Sound}
 use Rattle.rules.proofs.Keeps.{field-child}
-use Rattle.paths.specs.Paths.{pathOf}
+use Rattle.paths.specs.Paths.{pathOf, pathFor, stepped}
 use Rattle.paths.specs.declared.Address.{Address}
 use Rattle.paths.specs.declared.FieldPath.{FieldPath}
 use Rattle.views.specs.Views.{typeOf, SeenType}
 use Rattle.views.specs.declared.TypeView.{TypeView}
-use Rattle.slots.specs.Slots.{fieldSlot, justSlot, noSlot, IsSlot, PathRoom}
+use Rattle.slots.specs.Slots.{cleared, fieldSlot, justSlot, noSlot, IsSlot, PathRoom}
 use Rattle.slots.specs.declared.Slot.{Slot}
 use Rattle.slots.specs.declared.MaybeSlot.{MaybeSlot}
 use Rattle.slots.proofs.Tidy.{no-slot, field-is, slot-as}
+use Rattle.slots.proofs.Clear.{step-cleared}
+use Rattle.records.specs.Records.{cut}
 use Rattle.fields.specs.Found.{valueSide}
 
 -- a type that was seen as a view
@@ -34,9 +36,9 @@ module _ (a : Address) (place : ℕ → File.FieldPath) {o : Option FieldAt} {r 
   unfolding slotAt _whenSome_
   no-field h e = slot-as (no-slot h) (ap (slotAt (a .0) place) (sym e))
 
-  pub field-at : {s : Slot} {q : FieldPath} (i t : ℕ) → r ≡ justSlot s → s ≡ fieldSlot a q t → pathOf q ≡ place i → o ≡ some (record { index = i; type = t }) → IsSlot (slotAt (a .0) place o) r
+  pub field-at : {s : Slot} {q : FieldPath} (i t : ℕ) → r ≡ justSlot s → s ≡ fieldSlot a q t → q ≡ cleared q → pathOf q ≡ place i → o ≡ some (record { index = i; type = t }) → IsSlot (slotAt (a .0) place o) r
   unfolding slotAt _whenSome_
-  field-at {s} {q} i t h k l e = slot-as (field-is s a q t h k) (ap (λ (q : File.FieldPath). some (File.Slot.Field (a .0) q t)) l ∙ ap (slotAt (a .0) place) (sym e))
+  field-at {s} {q} i t h k c l e = slot-as (field-is s a q t h k c) (ap (λ (q : File.FieldPath). some (File.Slot.Field (a .0) q t)) l ∙ ap (slotAt (a .0) place) (sym e))
 
 module _ (T : Tables) (a : ℕ) {o : Option ℕ} {r : MaybeSlot} where
   pub no-row-field : (x : ℕ) → r ≡ noSlot → o ≡ none → IsSlot (rowField T a o x) r
@@ -93,3 +95,16 @@ module _ {T : Tables} (S : Sound T) where
 
   pub field-room : {p : File.FieldPath} {t : ℕ} (x : ℕ) (f : FieldAt) (q : FieldPath) → fieldOf (typeAt T t) x ≡ some f → pathOf q ≡ p → PathRoom T p t → q .count ≤ stepLimit → length (q .steps) ≡ stepLimit → q .count < stepLimit
   field-room {p} {t} x f q g e r h l = room-below q e r (field-child (Child T t) (typeAt T t) x f (S .children t (r .known)) g) h l
+
+-- a path with zeros past its steps is within them, and one step more leaves zeros
+within-cleared : (p q : FieldPath) → q ≡ cut p → length (q .steps) ≡ stepLimit → p ≡ cleared p → q ≡ cleared q
+unfolding cut pathOf pathFor
+within-cleared p q e room k =
+    let s : length (p .steps) ≡ stepLimit = sym (ap (λ (q : FieldPath). length (q .steps)) e) ∙ room in
+    let c : p .count ≡ length (take (p .count) (p .steps)) = ap (λ (q : FieldPath). q .count) k in
+    let m : min stepLimit (p .count) ≡ p .count = omega (arith, c, length-take (p .count) (p .steps), s) in
+    let same : q ≡ p = e ∙ ap (λ (n : ℕ). record { steps = p .steps; count = n; field = p .field }) m in
+    same ∙ k ∙ ap cleared (sym same)
+
+pub next-cleared : (p q r : FieldPath) (step : ℕ) → q ≡ cut p → length (q .steps) ≡ stepLimit → q .count < stepLimit → r ≡ stepped q step → p ≡ cleared p → r ≡ cleared r
+next-cleared p q r step e room h g k = g ∙ step-cleared q step room h (within-cleared p q e room k) ∙ ap cleared (sym g)

@@ -10,7 +10,7 @@ ghost use Rattle.paths.specs.Paths.{pathOf, pathFor, Holds};
 ghost use Rattle.views.specs.Views.{fieldAt, pathAt, run, fetchedOf, predicateOption, typeOption, PathInside};
 ghost use Rattle.accepted_file.specs.AcceptedFile.{AcceptedFile};
 ghost use Rattle.tables.specs.Tables.{foundOption};
-ghost use Rattle.slots.specs.Slots.{IsSlot, PathRoom};
+ghost use Rattle.slots.specs.Slots.{IsSlot, ClearRoom};
 ghost use Rattle.fields.specs.Found.{placeOf, nameOption, addressOption, hoistedName, fetches, valueSide};
 use file::FETCHED;
 use file::HOISTED;
@@ -231,7 +231,7 @@ pub fn path_field(
     name: usize,
 ) -> MaybeSlot
     requires { ⌜ AcceptedFile (now file) (now index) ⌝ }
-    requires { ⌜ PathRoom (tablesOf (now file)) (pathOf path) ty ⌝ }
+    requires { ⌜ ClearRoom (tablesOf (now file)) path ty ⌝ }
     ensures { λ r. ⌜ (
         let T = tablesOf (now (file .entry)) in
         IsSlot (slotAt (address .0) (then (pathOf path)) (fieldOf (typeAt T ty) name)) r

@@ -7,7 +7,7 @@ ghost use Rattle.rules.specs.Walk as WalkRules;
 ghost use Rattle.state.specs.Ops.{ops, skip};
 ghost use Rattle.file.specs.Tables.{tablesOf};
 ghost use Rattle.paths.specs.Paths.{pathOf};
-ghost use Rattle.slots.specs.Slots.{slotOf, SlotRoom};
+ghost use Rattle.slots.specs.Slots.{slotOf, TidyRoom};
 ghost use Rattle.accepted_file.specs.AcceptedFile.{AcceptedFile};
 ghost use Rattle.walk.specs.Walk.{walkState};
 ghost use Rattle.field_cases.specs.Pieces.{Fits, patternsOf, fieldsFor};
@@ -238,7 +238,7 @@ fn whole_field(
     w: Walk,
 ) -> Walk
     requires { ⌜ AcceptedFile (now file) (now index) ⌝ }
-    requires { ⌜ SlotRoom (tablesOf (now file)) (slotOf slot) ⌝ }
+    requires { ⌜ TidyRoom (tablesOf (now file)) slot ⌝ }
     requires { ⌜ Fits (tablesOf (now file)) path (field .ty) ⌝ }
     ensures { λ r. ⌜ (
         let T = tablesOf (now (file .entry)) in
@@ -279,7 +279,7 @@ fn whole_fields(
 ) -> Walk
     requires { ⌜ AcceptedFile (now file) (now index) ⌝ }
     requires { ⌜ ty < length (tablesOf (now file) .types) ⌝ }
-    requires { ⌜ SlotRoom (tablesOf (now file)) (slotOf slot) ⌝ }
+    requires { ⌜ TidyRoom (tablesOf (now file)) slot ⌝ }
     ensures { λ r. ⌜ (
         let T = tablesOf (now (file .entry)) in
         let before = walkState T w (now (work .entry)) (now (plan .entry)) in

@@ -17,7 +17,7 @@ use Rattle.rules.proofs.Cases.{both-left, both-right, ltb-lt, leb-le}
 use Rattle.state.specs.Ops.{checkedSlot, roomy}
 use Rattle.file.specs.Steps.{depthsBase}
 use Rattle.file.specs.Tables.{tablesOf}
-use Rattle.paths.specs.Paths.{Holds}
+use Rattle.paths.specs.Paths.{pathFor, Holds}
 use Rattle.paths.specs.declared.FieldPath.{FieldPath}
 use Rattle.paths.specs.declared.Address.{Address}
 use Rattle.accepted_file.specs.AcceptedFile.{AcceptedFile}
@@ -33,6 +33,7 @@ use Rattle.views.proofs.Runs.{length-run}
 use Rattle.slots.specs.Slots.{slotWith, noPath, plainSlot, fieldSlot, justSlot, noSlot, Stands, IsSlot}
 use Rattle.slots.specs.declared.MaybeSlot.{MaybeSlot}
 use Rattle.slots.proofs.Tidy.{plain-stands, field-stands, stands-as, just-is, no-slot, slot-as}
+use Rattle.slots.proofs.Clear.{for-cleared}
 use Rattle.slots.specs.declared.SlotKind.{SlotKind}
 use Rattle.slots.specs.declared.Slot.{Slot}
 use Rattle.lists.specs.Lists.{fitsTables, ShortSlot}
@@ -101,8 +102,8 @@ short-as f v w e i = subst (ShortSlot f) e i
 pub plain-slot : (f : List ℕ) (v w : SlotView) (k : SlotKind) (s : Slot) → v ≡ w → s ≡ plainSlot k → slotWith k noPath ≡ Views.slotViewed f w → Stands (Views.slotViewed f v) s
 plain-slot f v w k s e g h = stands-as (plain-stands k g) (h ∙ ap (Views.slotViewed f) (sym e))
 
-pub field-slot : (f : List ℕ) (v : SlotView) (a : Address) (at t : ℕ) (p : FieldPath) (s : Slot) → v ≡ Sv.Field a at t → Holds p (pathAt f at) → s ≡ fieldSlot a p t → Stands (Views.slotViewed f v) s
-field-slot f v a at t p s e g h = stands-as (field-stands a p t h) (ap (λ (q : File.FieldPath). File.Slot.Field (a .0) q t) (g .is) ∙ ap (Views.slotViewed f) (sym e))
+pub field-slot : (f : List ℕ) (v : SlotView) (a : Address) (at t : ℕ) (p : FieldPath) (s : Slot) → v ≡ Sv.Field a at t → Holds p (pathAt f at) → p ≡ pathFor (pathAt f at) → s ≡ fieldSlot a p t → Stands (Views.slotViewed f v) s
+field-slot f v a at t p s e g k h = stands-as (field-stands a p t h (for-cleared p (pathAt f at) (g .is) k)) (ap (λ (q : File.FieldPath). File.Slot.Field (a .0) q t) (g .is) ∙ ap (Views.slotViewed f) (sym e))
 
 -- a slot that fits has a path of few steps: its type is at least one deep
 module _ (f ix : List ℕ) (r : AcceptedFile f ix) (g : List ℕ) where

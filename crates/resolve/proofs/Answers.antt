@@ -20,11 +20,10 @@ use Rattle.rules.specs.Resolve.{Resolver, follow, _whenFound_, give, declined, 
 use Rattle.state.specs.State.{Level, Target, State, newLevel, measuring}
 use Rattle.state.specs.Ops as Ops
 use Rattle.state.specs.Ops.{ops}
-use Rattle.slots.specs.Slots.{maybe, slotWith, slotOf, fieldSlot as slotOfField, justSlot, noSlot, tidied, IsSlot, SlotRoom}
+use Rattle.slots.specs.Slots.{maybe, slotOf, cleared, fieldSlot as slotOfField, justSlot, noSlot, tidied, IsSlot, SlotRoom}
 use Rattle.slots.specs.declared.MaybeSlot.{MaybeSlot}
 use Rattle.slots.proofs.Tidy.{no-slot, field-is, slot-as}
 use Rattle.slots.specs.declared.Slot.{Slot}
-use Rattle.slots.specs.declared.SlotKind.{SlotKind}
 use Rattle.paths.specs.Paths.{pathOf}
 use Rattle.paths.specs.declared.Address.{Address}
 use Rattle.paths.specs.declared.FieldPath.{FieldPath}
@@ -43,10 +42,6 @@ use Rattle.resolve.specs.declared.Read.{Read}
 use Rattle.resolve.specs.declared.Base.{Base}
 use Rattle.resolve.specs.declared.Base.the-variants as Bs
 use Rattle.resolve.proofs.Steps.{Lower, constants-length, resolve-step}
-
--- a slot of a known kind
-pub kind-is : (s : Slot) (k : SlotKind) → s .kind ≡ k → slotOf s ≡ slotWith k (s .path)
-kind-is s k e = ap (λ (k : SlotKind). slotWith k (s .path)) e
 
 pub seen-run : {A : Type 0} {f : List ℕ} {at : ℕ → A} {w : ℕ} {o : Option (List A)} {r r′ : Run} → r ≡ r′ → SeenRun f at w o r → SeenRun f at w o r′
 seen-run {A} {f} {at} {w} {o} {r} {r′} e s = subst (SeenRun f at w o) e s
@@ -90,11 +85,11 @@ module _ {l : Lists} {w : List ℕ} {r : Answer} {w′ : List ℕ} where
 
   -- a select, and its payload
   pub selected-is : (T : Tables) (a : Address) (p : File.FieldPath) (q : FieldPath) (alt : Alternative) {o : Option Alternative} {f : MaybeSlot} {s : Slot} {m : Lists}
-      → ((level : Level) (target : Target) (plan : List ℕ) → stateWith m level target w′ plan ≡ Ops.select (a .0) p (alt .disc) (stateWith l level target w plan)) → f ≡ justSlot s → s ≡ slotOfField a q (alt .type) → pathOf q ≡ payload p (alt .disc)
+      → ((level : Level) (target : Target) (plan : List ℕ) → stateWith m level target w′ plan ≡ Ops.select (a .0) p (alt .disc) (stateWith l level target w plan)) → f ≡ justSlot s → s ≡ slotOfField a q (alt .type) → pathOf q ≡ payload p (alt .disc) → q ≡ cleared q
       → o ≡ some alt → r ≡ answerWith f m → Answers (selected (ops T) T (a .0) p o) l w r w′
   unfolding selected give
-  selected-is T a p q alt {o} {f} {s} {m} e u v x y h =
-      let b = gives-is {w = w′} h (slot-as (field-is s a q (alt .type) u v) (ap (λ (q : File.FieldPath). some (File.Slot.Field (a .0) q (alt .type))) x)) in
+  selected-is T a p q alt {o} {f} {s} {m} e u v x k y h =
+      let b = gives-is {w = w′} h (slot-as (field-is s a q (alt .type) u v k) (ap (λ (q : File.FieldPath). some (File.Slot.Field (a .0) q (alt .type))) x)) in
       subst (λ (o : Option Alternative). Answers (selected (ops T) T (a .0) p o) l w r w′) (sym y)
       (record {
         is = λ level target plan.

@@ -15,7 +15,7 @@ ghost use Rattle.paths.specs.Paths.{pathOf};
 ghost use Rattle.state.specs.State.{Level, Target};
 ghost use Rattle.state.specs.Ops.{ops};
 ghost use Rattle.accepted_file.specs.AcceptedFile.{AcceptedFile};
-ghost use Rattle.slots.specs.Slots.{slotOf, tidied, IsSlot, PathRoom, SlotRoom};
+ghost use Rattle.slots.specs.Slots.{slotOf, cleared, tidySlot, tidied, IsSlot, ClearRoom, TidyRoom};
 ghost use Rattle.lists.specs.Lists.{codeOf, stateWith};
 ghost use Rattle.fields.specs.Found.{addressOption};
 ghost use Rattle.tables.specs.Tables.{alternativeOption};
@@ -141,6 +141,7 @@ fn dereference_field(
     lists: Lists,
 ) -> Answer
     requires { ⌜ Indexed (now file) (now index) ⌝ }
+    requires { ⌜ path ≡ cleared path ⌝ }
     ensures { λ r. ⌜ (
         let T = tablesOf (now (file .entry)) in
         let before = now (work .entry) in
@@ -193,6 +194,7 @@ pub fn dereference(
     lists: Lists,
 ) -> Answer
     requires { ⌜ Indexed (now file) (now index) ⌝ }
+    requires { ⌜ slot ≡ tidySlot slot ⌝ }
     ensures { λ r. ⌜ (
         let T = tablesOf (now (file .entry)) in
         let before = now (work .entry) in
@@ -247,7 +249,7 @@ fn field_below(
     lists: Lists,
 ) -> Answer
     requires { ⌜ AcceptedFile (now file) (now index) ⌝ }
-    requires { ⌜ PathRoom (tablesOf (now file)) (pathOf path) ty ⌝ }
+    requires { ⌜ ClearRoom (tablesOf (now file)) path ty ⌝ }
     ensures { λ r. ⌜ (
         let T = tablesOf (now (file .entry)) in
         let before = now (work .entry) in
@@ -277,7 +279,7 @@ pub fn field_slot(
     lists: Lists,
 ) -> Answer
     requires { ⌜ AcceptedFile (now file) (now index) ⌝ }
-    requires { ⌜ SlotRoom (tablesOf (now file)) (slotOf slot) ⌝ }
+    requires { ⌜ TidyRoom (tablesOf (now file)) slot ⌝ }
     ensures { λ r. ⌜ (
         let T = tablesOf (now (file .entry)) in
         let before = now (work .entry) in
@@ -324,6 +326,7 @@ fn selected(
     lists: Lists,
 ) -> Answer
     requires { ⌜ ((a : File.Alternative) → alternativeOption found ≡ some a → length (pathOf path .steps) < stepLimit) ⌝ }
+    requires { ⌜ path ≡ cleared path ⌝ }
     ensures { λ r. ⌜ (
         let before = now (work .entry) in
         let after = now (work .exit) in
@@ -352,7 +355,7 @@ fn select_field(
     lists: Lists,
 ) -> Answer
     requires { ⌜ AcceptedFile (now file) (now index) ⌝ }
-    requires { ⌜ PathRoom (tablesOf (now file)) (pathOf path) ty ⌝ }
+    requires { ⌜ ClearRoom (tablesOf (now file)) path ty ⌝ }
     ensures { λ r. ⌜ (
         let T = tablesOf (now (file .entry)) in
         let before = now (work .entry) in
@@ -383,7 +386,7 @@ pub fn select_slot(
     lists: Lists,
 ) -> Answer
     requires { ⌜ AcceptedFile (now file) (now index) ⌝ }
-    requires { ⌜ SlotRoom (tablesOf (now file)) (slotOf slot) ⌝ }
+    requires { ⌜ TidyRoom (tablesOf (now file)) slot ⌝ }
     ensures { λ r. ⌜ (
         let T = tablesOf (now (file .entry)) in
         let before = now (work .entry) in
@@ -493,6 +496,7 @@ fn read_slot(
 ) -> Answer
     requires { ⌜ AcceptedFile (now file) (now index) ⌝ }
     requires { ⌜ GivenSlotRoom (tablesOf (now file)) (given place) ⌝ }
+    requires { ⌜ found place ≡ tidied (found place) ⌝ }
     ensures { λ r. ⌜ Follows (readSlot (tablesOf (now (file .entry))) node read) place (now (work .entry)) r (now (work .exit)) ⌝ }
 {
     if !place.some {
@@ -518,6 +522,7 @@ fn read_past(
 ) -> Answer
     requires { ⌜ AcceptedFile (now file) (now index) ⌝ }
     requires { ⌜ GivenSlotRoom (tablesOf (now file)) (given base) ⌝ }
+    requires { ⌜ found base ≡ tidied (found base) ⌝ }
     ensures { λ r. ⌜ Follows (readPast (tablesOf (now (file .entry))) node read) base (now (work .entry)) r (now (work .exit)) ⌝ }
 {
     if !base.some {
@@ -595,6 +600,7 @@ fn descend(file: &[u8], index: &[u16], node: usize, trail: &mut [u16]) -> Chain
 fn read_up(file: &[u8], index: &[u16], work: &mut [u8], node: usize, below: Answer) -> Answer
     requires { ⌜ AcceptedFile (now file) (now index) ⌝ }
     requires { ⌜ GivenSlotRoom (tablesOf (now file)) (given below) ⌝ }
+    requires { ⌜ found below ≡ tidied (found below) ⌝ }
     ensures { λ r. ⌜ (
         let T = tablesOf (now (file .entry)) in
         Climbs (readUp T node) below (now (work .entry)) r (now (work .exit))

@@ -34,6 +34,10 @@ maybe false a = none
 abbrev pub slotOption : MaybeSlot → Option File.Slot
 slotOption s = maybe (s .some) (slotOf (s .slot))
 
+-- the path with zeros past its steps
+abbrev pub cleared : FieldPath → FieldPath
+cleared p = pathFor (pathOf p)
+
 -- the path of a slot that is no Field: it has no meaning
 abbrev pub noPath : FieldPath
 noPath = pathFor (fieldPath 0)
@@ -55,7 +59,7 @@ abbrev pub tidyWith : SlotKind → FieldPath → Slot
 tidyWith (Row a p) path = plainSlot (Row a p)
 tidyWith (Key a t) path = plainSlot (Key a t)
 tidyWith (Derived a) path = plainSlot (Derived a)
-tidyWith (Field a t) path = fieldSlot a path t
+tidyWith (Field a t) path = fieldSlot a (cleared path) t
 tidyWith (Value a t) path = plainSlot (Value a t)
 tidyWith (Const n) path = plainSlot (Const n)
 
@@ -70,7 +74,7 @@ tidyMaybe false slot = noSlot
 abbrev pub tidied : MaybeSlot → MaybeSlot
 tidied r = tidyMaybe (r .some) (r .slot)
 
--- s is the slot x, and of a slot that is no Field the path is `noPath`; of a Field's path the steps past its count are not stated
+-- s is the slot x: of a Field's path the steps past its count are zeros, and of any other slot the path is `noPath`
 pub record Stands (x : File.Slot) (s : Slot) : Type 0 where
   pub is : slotOf s ≡ x
   pub tidy : s ≡ tidySlot s
@@ -85,6 +89,11 @@ pub record PathRoom (T : Tables) (p : File.FieldPath) (t : ℕ) : Type 0 where
   pub known : t < length (T .types)
   pub short : length (p .steps) + depth T t ≤ depthLimit
 
+-- the same of a path by value, with zeros past its steps
+pub record ClearRoom (T : Tables) (p : FieldPath) (t : ℕ) : Type 0 where
+  pub room : PathRoom T (pathOf p) t
+  pub clear : p ≡ cleared p
+
 abbrev pub SlotRoom : Tables → File.Slot → Type 0
 SlotRoom T (File.Slot.Row a p) = Unit {0}
 SlotRoom T (File.Slot.Key a t) = Unit {0}
@@ -92,3 +101,8 @@ SlotRoom T (File.Slot.Derived a) = Unit {0}
 SlotRoom T (File.Slot.Field a p t) = PathRoom T p t
 SlotRoom T (File.Slot.Value a t) = Unit {0}
 SlotRoom T (File.Slot.Const n) = Unit {0}
+
+-- and of a slot by value, which is tidy
+pub record TidyRoom (T : Tables) (s : Slot) : Type 0 where
+  pub room : SlotRoom T (slotOf s)
+  pub tidy : s ≡ tidySlot s

@@ -1,4 +1,5 @@
-use Rattle.field_cases.proofs.Reading.{tidy-there, read-some, read-none, diagnostics-at}
+use Rattle.slots.proofs.Tidy.{tidy-there}
+use Rattle.field_cases.proofs.Reading.{read-some, read-none, diagnostics-at}
 use borrow.Author.Needs.{needs}
 use Rattle.field_cases.proofs.begin_read.Statement.{statement}
 use Rattle.field_cases.proofs.begin_read.Tie as tie

@@ -1,5 +1,6 @@
 use mathlib.Core.Path.{sym, ap, _∙_}
 use Rattle.fields.specs.Found.{placeOf}
+use Rattle.slots.proofs.Clear.{for-cleared}
 use Rattle.fields.proofs.Slots.{no-field, field-at}
 use borrow.Author.Needs.{needs}
 use Rattle.fields.proofs.key_field.Statement.{statement}
@@ -30,7 +31,7 @@ returns : tie.Need-returns
 returns c = no-field _ _ (c .nothing .ensures) (sym (c .before .before .before .field-of .ensures) ∙ ap placeOf (c .before .enum-told .given .1))
 
 returns-2 : tie.Need-returns-2
-returns-2 c = field-at _ _ _ _ (c .just .ensures) (c .before .field2 .ensures) (c .before .before .field .ensures .0 .is) (sym (c .before .before .before .before .before .before .field-of .ensures) ∙ ap placeOf (c .before .before .before .before .i .given .1))
+returns-2 c = field-at _ _ _ _ (c .just .ensures) (c .before .field2 .ensures) (for-cleared _ _ (c .before .before .field .ensures .0 .is) (c .before .before .field .ensures .1)) (c .before .before .field .ensures .0 .is) (sym (c .before .before .before .before .before .before .field-of .ensures) ∙ ap placeOf (c .before .before .before .before .i .given .1))
 
 pub key-field-spec : {M : Type 1} → statement M
 key-field-spec =

@@ -2,6 +2,8 @@ use Rattle.key.proofs.Answered.{read-none, read-some}
 use Rattle.accepted_file.proofs.Given.{sound-tables}
 use Rattle.resolve.proofs.Rooms.{resolved-room}
 use Rattle.resolve.proofs.Answers.{rooms-of, rooms-from}
+use Rattle.slots.proofs.Tidy.{tidy-there}
+use Rattle.resolve.specs.Resolved.{found}
 use borrow.Author.Needs.{needs}
 use Rattle.key.proofs.whole_read.Statement.{statement}
 use Rattle.key.proofs.whole_read.Tie as tie
@@ -16,7 +18,7 @@ listed-requires : tie.Need-listed-requires
 listed-requires c κs = search needs
 
 whole-fields-requires : tie.Need-whole-fields-requires
-whole-fields-requires c κs = (c .before .before .before .before .before .before .before .before .before .before .before .before .before .pre .0, (c .before .before .before .before .before .before .before .before .before .before .before .before .before .pre .1, rooms-of _ (c .before .before .before .before .before .before .resolve .result) (c .before .before .if1 .taken) (rooms-from _ (c .before .before .before .before .before .before .resolve .ensures) (λ s. resolved-room (sound-tables _ _ (c .before .before .before .before .before .before .before .before .before .before .before .before .before .pre .0)) _ s))))
+whole-fields-requires c κs = (c .before .before .before .before .before .before .before .before .before .before .before .before .before .pre .0, (c .before .before .before .before .before .before .before .before .before .before .before .before .before .pre .1, record { room = rooms-of _ (c .before .before .before .before .before .before .resolve .result) (c .before .before .if1 .taken) (rooms-from _ (c .before .before .before .before .before .before .resolve .ensures) (λ s. resolved-room (sound-tables _ _ (c .before .before .before .before .before .before .before .before .before .before .before .before .before .pre .0)) _ s)); tidy = tidy-there (found (c .before .before .before .before .before .before .resolve .result)) (c .before .before .before .before .before .before .resolve .ensures .tidy) (c .before .before .if1 .taken) }))
 
 same-length : tie.Need-same-length
 same-length c = search needs

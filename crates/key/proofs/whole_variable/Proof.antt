@@ -1,7 +1,7 @@
 use mathlib.Core.Path.{ap}
 use Rattle.slots.specs.declared.Slot.{Slot}
 use Rattle.key.proofs.Whole.{whole-bound, whole-new}
-use Rattle.resolve.proofs.Answers.{kind-is}
+use Rattle.slots.proofs.Tidy.{kind-is}
 use Rattle.field_cases.proofs.Starts.{looked-up}
 use borrow.Author.Needs.{needs}
 use Rattle.key.proofs.whole_variable.Statement.{statement}

@@ -58,7 +58,7 @@ returns-3 : tie.Need-returns-3
 returns-3 c = plain-slot _ _ _ _ _ (c .before .before .v3 .given .1) (c .plain3 .ensures) refl
 
 returns-4 : tie.Need-returns-4
-returns-4 c = field-slot _ _ _ _ _ _ _ (c .before .before .before .v4 .given .1) (c .before .path-at .ensures .0) (c .field .ensures)
+returns-4 c = field-slot _ _ _ _ _ _ _ (c .before .before .before .v4 .given .1) (c .before .path-at .ensures .0) (c .before .path-at .ensures .1) (c .field .ensures)
 
 returns-5 : tie.Need-returns-5
 returns-5 c = plain-slot _ _ _ _ _ (c .before .before .v5 .given .1) (c .plain4 .ensures) refl

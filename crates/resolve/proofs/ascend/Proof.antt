@@ -30,7 +30,7 @@ wide16-requires : tie.Need-wide16-requires Inv-loop μ-loop
 wide16-requires c κs = search needs
 
 read-up-requires : tie.Need-read-up-requires Inv-loop μ-loop
-read-up-requires c κs = (search needs, search needs)
+read-up-requires c κs = (search needs, (search needs, search needs))
 
 loop-less : tie.Need-loop-less Inv-loop μ-loop
 loop-less c = omega arith

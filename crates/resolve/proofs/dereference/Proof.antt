@@ -1,6 +1,6 @@
 use Rattle.rules.specs.Resolve as ResolveRules
-use Rattle.slots.proofs.Tidy.{plain-is}
-use Rattle.resolve.proofs.Answers.{gives-is, kind-is, dereference-at}
+use Rattle.slots.proofs.Tidy.{plain-is, kind-is, path-cleared}
+use Rattle.resolve.proofs.Answers.{gives-is, dereference-at}
 use borrow.Author.Needs.{needs}
 use Rattle.resolve.proofs.dereference.Statement.{statement}
 use Rattle.resolve.proofs.dereference.Tie as tie
@@ -45,7 +45,9 @@ enum-known-kind-4 : tie.Need-enum-known-kind-4
 enum-known-kind-4 c = search needs
 
 dereference-field-requires : tie.Need-dereference-field-requires
-dereference-field-requires c κs = search needs
+dereference-field-requires c κs =
+    let s = c .before .before .before .before .before .before .before in
+    (s .pre .0, path-cleared _ _ _ (s .pre .1) (c .before .before .kind4 .given .1))
 
 enum-known-kind-5 : tie.Need-enum-known-kind-5
 enum-known-kind-5 c = search needs

@@ -35,7 +35,7 @@ fetched-row-requires : tie.Need-fetched-row-requires
 fetched-row-requires c κs = search needs
 
 returns : tie.Need-returns
-returns c = plain-field _ _ _ _ _ (sym (c .before .before .before .before .before .fact-ty .ensures) ∙ ap predicateOption (c .before .before .before .enum-told .given .1)) (gives-is (c .gives .ensures) (field-is _ _ _ _ (c .before .just .ensures) (c .before .before .field .ensures)))
+returns c = plain-field _ _ _ _ _ (sym (c .before .before .before .before .before .fact-ty .ensures) ∙ ap predicateOption (c .before .before .before .enum-told .given .1)) (gives-is (c .gives .ensures) (field-is _ _ _ _ (c .before .just .ensures) (c .before .before .field .ensures) (c .before .before .before .before .before .before .before .before .before .pre .1)))
 
 same-length : tie.Need-same-length
 same-length c = search needs

@@ -1,7 +1,7 @@
 use borrow.Author.Tests.{not-true, not-false}
 use Rattle.rules.specs.Resolve.{fieldOfRow}
-use Rattle.slots.proofs.Tidy.{no-slot}
-use Rattle.resolve.proofs.Answers.{gives-is, kind-is, row-at, follows-none, follows-some}
+use Rattle.slots.proofs.Tidy.{no-slot, kind-is}
+use Rattle.resolve.proofs.Answers.{gives-is, row-at, follows-none, follows-some}
 use borrow.Author.Needs.{needs}
 use Rattle.resolve.proofs.field_of_row.Statement.{statement}
 use Rattle.resolve.proofs.field_of_row.Tie as tie

@@ -1,8 +1,6 @@
-use mathlib.Core.Path.{subst}
 use Rattle.rules.specs.Resolve.{fieldSlot}
-use Rattle.slots.specs.Slots.{SlotRoom}
-use Rattle.slots.proofs.Tidy.{no-slot}
-use Rattle.resolve.proofs.Answers.{gives-is, kind-is, field-at}
+use Rattle.slots.proofs.Tidy.{no-slot, kind-is, field-room}
+use Rattle.resolve.proofs.Answers.{gives-is, field-at}
 use borrow.Author.Needs.{needs}
 use Rattle.resolve.proofs.field_slot.Statement.{statement}
 use Rattle.resolve.proofs.field_slot.Tie as tie
@@ -38,7 +36,9 @@ enum-known-kind-4 : tie.Need-enum-known-kind-4
 enum-known-kind-4 c = search needs
 
 field-below-requires : tie.Need-field-below-requires
-field-below-requires c κs = (c .before .before .before .before .before .before .before .pre .0, subst (SlotRoom _) (kind-is _ _ (c .before .before .kind4 .given .1)) (c .before .before .before .before .before .before .before .pre .1))
+field-below-requires c κs =
+    let s = c .before .before .before .before .before .before .before in
+    (s .pre .0, field-room _ _ _ _ (s .pre .1) (c .before .before .kind4 .given .1))
 
 enum-known-kind-5 : tie.Need-enum-known-kind-5
 enum-known-kind-5 c = search needs

@@ -1,5 +1,7 @@
 use borrow.Author.Tests.{not-true, not-false}
 use Rattle.resolve.proofs.Answers.{follows-none, follows-some, read-at, rooms-of}
+use Rattle.slots.proofs.Tidy.{tidy-there}
+use Rattle.resolve.specs.Resolved.{found}
 use borrow.Author.Needs.{needs}
 use Rattle.resolve.proofs.read_slot.Statement.{statement}
 use Rattle.resolve.proofs.read_slot.Tie as tie
@@ -17,7 +19,10 @@ enum-known-read : tie.Need-enum-known-read
 enum-known-read c = search needs
 
 field-slot-requires : tie.Need-field-slot-requires
-field-slot-requires c κs = (c .before .before .before .before .before .before .before .before .before .before .before .pre .0, rooms-of _ (c .before .before .before .before .before .before .before .before .before .before .before .args .place) (not-false _ (c .before .before .before .before .before .before .if1 .left)) (c .before .before .before .before .before .before .before .before .before .before .before .pre .1))
+field-slot-requires c κs =
+    let s = c .before .before .before .before .before .before .before .before .before .before .before in
+    let there = not-false _ (c .before .before .before .before .before .before .if1 .left) in
+    (s .pre .0, record { room = rooms-of _ (s .args .place) there (s .pre .1 .0); tidy = tidy-there (found (s .args .place)) (s .pre .1 .1) there })
 
 enum-told : tie.Need-enum-told
 enum-told c = search needs
@@ -29,7 +34,10 @@ enum-known-read-2 : tie.Need-enum-known-read-2
 enum-known-read-2 c = search needs
 
 select-slot-requires : tie.Need-select-slot-requires
-select-slot-requires c κs = (c .before .before .before .before .before .before .before .before .before .before .before .pre .0, rooms-of _ (c .before .before .before .before .before .before .before .before .before .before .before .args .place) (not-false _ (c .before .before .before .before .before .before .if1 .left)) (c .before .before .before .before .before .before .before .before .before .before .before .pre .1))
+select-slot-requires c κs =
+    let s = c .before .before .before .before .before .before .before .before .before .before .before in
+    let there = not-false _ (c .before .before .before .before .before .before .if1 .left) in
+    (s .pre .0, record { room = rooms-of _ (s .args .place) there (s .pre .1 .0); tidy = tidy-there (found (s .args .place)) (s .pre .1 .1) there })
 
 same-length : tie.Need-same-length
 same-length c = search needs

@@ -22,9 +22,12 @@ alternative-of-requires : tie.Need-alternative-of-requires
 alternative-of-requires c κs = seen-run (c .before .before .n .given .1) (c .before .before .before .before .union-ty .ensures .0) .inside
 
 selected-requires : tie.Need-selected-requires
-selected-requires c κs = λ a e.
-    let s = c .before .before .before .before .before .before .before .before .before in
-    union-room (sound _ (passed-all _ (s .pre .0 .accepted))) _ _ _ _ a (s .pre .1) (sym (seen-run (c .before .before .before .n .given .1) (c .before .before .before .before .before .union-ty .ensures .0) .is)) (sym (c .alternative-of .ensures) ∙ e)
+selected-requires c κs =
+    let s = c .before .before .before .before .before .before .before .before .before in (
+      λ a e.
+          union-room (sound _ (passed-all _ (s .pre .0 .accepted))) _ _ _ _ a (s .pre .1 .room) (sym (seen-run (c .before .before .before .n .given .1) (c .before .before .before .before .before .union-ty .ensures .0) .is)) (sym (c .alternative-of .ensures) ∙ e),
+      s .pre .1 .clear,
+    )
 
 same-length : tie.Need-same-length
 same-length c = search needs

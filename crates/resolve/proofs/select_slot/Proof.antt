@@ -1,7 +1,6 @@
-use mathlib.Core.Path.{subst}
 use Rattle.rules.specs.Resolve.{selectSlot}
-use Rattle.slots.specs.Slots.{SlotRoom}
-use Rattle.resolve.proofs.Answers.{kind-is, select-at}
+use Rattle.resolve.proofs.Answers.{select-at}
+use Rattle.slots.proofs.Tidy.{kind-is, field-room}
 use borrow.Author.Needs.{needs}
 use Rattle.resolve.proofs.select_slot.Statement.{statement}
 use Rattle.resolve.proofs.select_slot.Tie as tie
@@ -28,7 +27,9 @@ enum-known-kind-4 : tie.Need-enum-known-kind-4
 enum-known-kind-4 c = search needs
 
 select-field-requires : tie.Need-select-field-requires
-select-field-requires c κs = (c .before .before .before .before .before .before .before .pre .0, subst (SlotRoom _) (kind-is _ _ (c .before .before .kind4 .given .1)) (c .before .before .before .before .before .before .before .pre .1))
+select-field-requires c κs =
+    let s = c .before .before .before .before .before .before .before in
+    (s .pre .0, field-room _ _ _ _ (s .pre .1) (c .before .before .kind4 .given .1))
 
 enum-known-kind-5 : tie.Need-enum-known-kind-5
 enum-known-kind-5 c = search needs

@@ -1,6 +1,6 @@
 use Rattle.rules.specs.Resolve.{valueSlot}
-use Rattle.slots.proofs.Tidy.{no-slot}
-use Rattle.resolve.proofs.Answers.{gives-is, kind-is, value-at}
+use Rattle.slots.proofs.Tidy.{no-slot, kind-is}
+use Rattle.resolve.proofs.Answers.{gives-is, value-at}
 use borrow.Author.Needs.{needs}
 use Rattle.resolve.proofs.value_slot.Statement.{statement}
 use Rattle.resolve.proofs.value_slot.Tie as tie
