@@ -4,7 +4,7 @@ use mathlib.Core.Path.{_≡_, refl, sym, ap, ap₂, _∙_}
 use mathlib.Core.List.{List, [], _∷_, _++_}
 use native.Mathlib.Omega.{arith}
 use native.Mathlib.Numerals.{add-one}
-use lib.ListN.{length, set, take, drop, replicate, length-set, take-append-drop}
+use lib.ListN.{length, take, drop, replicate, length-set, take-append-drop}
 use lib.Seq.{sets, sets-eq, drop-append-seam, drop-set-lt, length-take-le}
 use Rattle.rules.specs.Limits.{stepLimit}
 use Rattle.rules.specs.File as File

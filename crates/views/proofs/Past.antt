@@ -5,7 +5,6 @@ use mathlib.Core.Bool.{Bool, true, false}
 use mathlib.Core.List.{List}
 use mathlib.Core.Option.{none}
 use borrow.Author.Tests.{lt-ltb, le-ltb}
-use lib.Dec.{ltb}
 use lib.ListN.{length, List·getD-eq-default}
 use Rattle.rules.specs.File as File
 use Rattle.rules.specs.File.{Tables, typeAt, predicateAt, nodeAt}
