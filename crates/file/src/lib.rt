@@ -245,7 +245,7 @@ pub fn type_end(file: &[u8], at: usize) -> Step
 }
 
 // Where a Fuzzy node ends that has its name at p: name, distance, anchor.
-fn fuzzy_end(file: &[u8], p: usize) -> Step
+pub fn fuzzy_end(file: &[u8], p: usize) -> Step
     requires { ⌜ p ≤ length (now file) ⌝ }
     ensures { λ r. ⌜ r ≡ stepAt (now (file .entry)) fuzzyNode p ⌝ }
 {
