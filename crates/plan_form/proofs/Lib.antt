@@ -1,0 +1,3 @@
+pub mod Forward
+pub mod Cases
+pub mod Lists
