@@ -1,3 +1,4 @@
 pub mod Forward
 pub mod Cases
 pub mod Lists
+pub mod Places
