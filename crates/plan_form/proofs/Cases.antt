@@ -4,6 +4,7 @@ use mathlib.Core.Path.{_≡_, refl, sym, ap, _∙_}
 use mathlib.Core.Bool.{Bool, true, false}
 use mathlib.Core.List.{List, [], _∷_}
 use mathlib.Core.Option.{Option, none}
+use mathlib.Core.Logic.{⊎-elim}
 use native.Mathlib.Omega.{arith}
 use borrow.Author.Tests.{le-leb, lt-leb}
 use lib.ListN.{length, getD}
@@ -17,7 +18,7 @@ use Rattle.rules.specs.Read as Read
 use Rattle.rules.specs.Reader as Reader
 use Rattle.file.specs.Steps.{word, readAt, stepAt, skim}
 use Rattle.file.specs.declared.Step.the-variants.{Next, Refused}
-use Rattle.file.proofs.Readers.{then-got, then-refused, byte-in, step-refused, step-same, Fixed, fixed-as, fixed-pure, fixed-many, fixed-u8, fixed-u16, fixed-u32, fixed-bytes, fixed-in, fixed-then, needs-fixed, needs-first, needs-bind, needs-kind, cut-short, SameSteps, alike-refl, alike-step, alike-value, alike-pure, alike-map, alike-fixed}
+use Rattle.file.proofs.Readers.{lt-or-le, then-got, then-refused, byte-in, step-refused, step-same, Fixed, fixed-as, fixed-pure, fixed-many, fixed-u8, fixed-u16, fixed-u32, fixed-bytes, fixed-in, fixed-then, needs-fixed, needs-first, needs-bind, needs-kind, cut-short, SameSteps, alike-refl, alike-step, alike-value, alike-pure, alike-map, alike-fixed}
 use Rattle.file.proofs.Suffix.{Suffix, ended, faulted}
 use Rattle.file.proofs.Leaves.{slotReaders, kinded, kind-cut, kind-bad, kind-fixed}
 use Rattle.file.proofs.Sections.{word-then}
@@ -243,7 +244,8 @@ module _ (f : List ℕ) (p : ℕ) where
       kind-fixed f p rs k 0 h e x ∙ fixed-in f 0 (p + 1) (fixed-bytes 0) (omega arith) ∙ ap Next g
 
   -- one that holds what another reader reads
-  holds : {A B : Type 0} (rs : List (Reader A)) (k : ℕ) {s : Reader B} → p < length f → k ≡ getD f p 0 → SameSteps (getD rs k (refuse 5)) s → stepAt f (kind rs) p ≡ stepAt f s (p + 1)
+  holds : {A B : Type 0} (rs : List (Reader A)) (k : ℕ) {s : Reader B} → p < length f → k ≡ getD f p 0 → SameSteps (getD rs k (refuse 5)) s
+      → stepAt f (kind rs) p ≡ stepAt f s (p + 1)
   holds rs k h e x = kinded f p rs k h e ∙ alike-step f x (p + 1)
 
   module _ (h : p < length f) where
@@ -278,13 +280,16 @@ module _ (f : List ℕ) (p : ℕ) where
     unfolding Reader.edge
     edge-none e = plain edgeReaders 0 h (sym e) (fixed-pure none)
 
-    pub edge-exclusive : getD f p 0 ≡ 1 → stepAt f Reader.edge p ≡ stepAt f Reader.text (p + 1)
+    edge-exclusive : getD f p 0 ≡ 1 → stepAt f Reader.edge p ≡ stepAt f Reader.text (p + 1)
     unfolding Reader.edge Reader.edgeThat
     edge-exclusive e = holds edgeReaders 1 h (sym e) (alike-map _ (alike-refl Reader.text))
 
-    pub edge-inclusive : getD f p 0 ≡ 2 → stepAt f Reader.edge p ≡ stepAt f Reader.text (p + 1)
+    edge-inclusive : getD f p 0 ≡ 2 → stepAt f Reader.edge p ≡ stepAt f Reader.text (p + 1)
     unfolding Reader.edge Reader.edgeThat
     edge-inclusive e = holds edgeReaders 2 h (sym e) (alike-map _ (alike-refl Reader.text))
+
+    pub edge-some : 0 < getD f p 0 → getD f p 0 ≤ 2 → stepAt f Reader.edge p ≡ stepAt f Reader.text (p + 1)
+    edge-some a b = ⊎-elim (λ g. edge-exclusive (omega arith)) (λ g. edge-inclusive (omega arith)) (lt-or-le (getD f p 0) 2)
 
     pub edge-bad : 2 < getD f p 0 → stepAt f Reader.edge p ≡ Refused 5
     unfolding Reader.edge
@@ -302,13 +307,16 @@ module _ (f : List ℕ) (p : ℕ) where
     unfolding Reader.guide
     guide-bad g = kind-bad f p guideReaders (getD f p 0) h refl g
 
-    pub op-bytes : getD f p 0 ≡ 0 → stepAt f Reader.op p ≡ stepAt f Reader.text (p + 1)
+    op-bytes : getD f p 0 ≡ 0 → stepAt f Reader.op p ≡ stepAt f Reader.text (p + 1)
     unfolding Reader.op Reader.bytesOp
     op-bytes e = holds opReaders 0 h (sym e) (alike-map _ (alike-refl Reader.text))
 
-    pub op-prefix : getD f p 0 ≡ 1 → stepAt f Reader.op p ≡ stepAt f Reader.text (p + 1)
+    op-prefix : getD f p 0 ≡ 1 → stepAt f Reader.op p ≡ stepAt f Reader.text (p + 1)
     unfolding Reader.op Reader.prefixOp
     op-prefix e = holds opReaders 1 h (sym e) (alike-map _ (alike-refl Reader.text))
+
+    pub op-text : getD f p 0 ≤ 1 → stepAt f Reader.op p ≡ stepAt f Reader.text (p + 1)
+    op-text a = ⊎-elim (λ g. op-bytes (omega arith)) (λ g. op-prefix (omega arith)) (lt-or-le (getD f p 0) 1)
 
     pub op-register : getD f p 0 ≡ 2 → stepAt f Reader.op p ≡ stepAt f Reader.registerPart (p + 1)
     unfolding Reader.op Reader.registerOp Reader.registerPart

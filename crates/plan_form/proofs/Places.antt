@@ -55,7 +55,8 @@ got-value {A} {a} {b} {l} {m} e = cc
 got-rest : {A : Type 0} {a b : A} {l m : List ℕ} → got a l ≡ got b m → l ≡ m
 got-rest {A} {a} {b} {l} {m} e = cc
 
-first : {A : Type 0} (f : List ℕ) {r : Reader A} → Suffix r → (n p : ℕ) (xs : List A) (rest : List ℕ) → p ≤ length f → readAt f (many (suc n) r) p ≡ got xs rest → First f r n p xs rest
+first : {A : Type 0} (f : List ℕ) {r : Reader A} → Suffix r → (n p : ℕ) (xs : List A) (rest : List ℕ) → p ≤ length f
+    → readAt f (many (suc n) r) p ≡ got xs rest → First f r n p xs rest
 unfolding readAt many pure
 first {A} f {r} x n p xs rest h e =
     let w = bind-inv r (λ (y : A). many n r >>= λ (ys : List A). pure (y ∷ ys)) (drop p f) xs rest e in
@@ -101,7 +102,8 @@ item-here f r p a rest h s =
     }
 
 module _ {A : Type 0} (f : List ℕ) {r : Reader A} (x : Suffix r) where
-  pub item-at : (n p : ℕ) (xs : List A) (rest : List ℕ) → p ≤ length f → readAt f (many n r) p ≡ got xs rest → (k : ℕ) → k < n → (d : A) → ItemAt f r p k (getD xs k d)
+  pub item-at : (n p : ℕ) (xs : List A) (rest : List ℕ) → p ≤ length f → readAt f (many n r) p ≡ got xs rest → (k : ℕ) → k < n → (d : A)
+      → ItemAt f r p k (getD xs k d)
   item-at zero p xs rest h e k g d = absurd (omega arith)
   item-at (suc n) p xs rest h e zero g d =
       let w = first f x n p xs rest h e in
@@ -152,7 +154,8 @@ u16-inside f p n rest h e = go (lt-or-le (length f) (p + 2))
     go (inl g) = absurd (refused-got (sym (fixed-u16 .cut (drop p f) (omega (arith, length-drop p f))) ∙ e))
     go (inr g) = g
 
-pub listed : {A : Type 0} (f : List ℕ) {r : Reader A} → Suffix r → (p : ℕ) (xs : List A) (rest : List ℕ) → p ≤ length f → readAt f (Reader.counted r) p ≡ got xs rest → Listed f r p xs rest
+pub listed : {A : Type 0} (f : List ℕ) {r : Reader A} → Suffix r → (p : ℕ) (xs : List A) (rest : List ℕ) → p ≤ length f
+    → readAt f (Reader.counted r) p ≡ got xs rest → Listed f r p xs rest
 unfolding Reader.counted readAt
 listed {A} f {r} x p xs rest h e =
     let w = bind-inv u16 (λ (n : ℕ). many n r) (drop p f) xs rest e in
@@ -196,7 +199,8 @@ record ListThen {A B : Type 0} (f : List ℕ) (r : Reader A) (k : List A → Rea
   pub list : ListAt f r p items
   pub then : readAt f (k items) (placeOf f r (p + 2) (word f p)) ≡ got b rest
 
-list-then : {A B : Type 0} (f : List ℕ) {r : Reader A} → Suffix r → (k : List A → Reader B) (p : ℕ) (b : B) (rest : List ℕ) → p ≤ length f → readAt f (Reader.counted r >>= k) p ≡ got b rest → ListThen f r k p b rest
+list-then : {A B : Type 0} (f : List ℕ) {r : Reader A} → Suffix r → (k : List A → Reader B) (p : ℕ) (b : B) (rest : List ℕ) → p ≤ length f
+    → readAt f (Reader.counted r >>= k) p ≡ got b rest → ListThen f r k p b rest
 unfolding readAt
 list-then f {r} x k p b rest h e =
     let w = bind-inv (Reader.counted r) k (drop p f) b rest e in

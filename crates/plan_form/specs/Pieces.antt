@@ -16,7 +16,7 @@ itemKinds = 5
 unfoldable pub itemOf : ℕ → Reader (Unit {0})
 itemOf s = getD itemReaders s (refuse 0)
 
--- PrefixRange and Bounded, after their parts: "text and path", "lo and hi"
+-- after the parts: "for 2 the prefix text and its path", "for 3 lo and hi"
 unfoldable pub range : Reader (Unit {0})
 range = do
   prefix ← text
@@ -29,7 +29,7 @@ edges = do
   hi ← edge
   pure tt
 
--- a level after its guide, and after its seek
+-- a level after its guide: "Residuals, counted", "Folded, counted"; and after its seek
 unfoldable pub afterGuide : Reader (Unit {0})
 afterGuide = do
   rs ← counted residual
@@ -41,9 +41,15 @@ afterSeek = do
   g ← guide
   afterGuide
 
--- the five lists of a plan, in its order: levels, "new bindings, constrained names, selects .., diagnostics"
+-- the five lists of a plan, in its order: the levels, then "counted: new bindings, constrained names, selects .., diagnostics"
 abbrev pub listReaders : List (Reader (Unit {0}))
-listReaders = skim (counted level) ∷ skim (counted binding) ∷ skim (counted u16) ∷ skim (counted select) ∷ skim (counted diagnostic) ∷ []
+listReaders =
+    skim (counted level) ∷
+    skim (counted binding) ∷
+    skim (counted u16) ∷
+    skim (counted select) ∷
+    skim (counted diagnostic) ∷
+    []
 
 abbrev pub listCount : ℕ
 listCount = 5

@@ -182,8 +182,7 @@ pub fn edge_end(plan: &[u8], p: usize) -> Step
     }
     match plan[p] {
         0 => Step::Next(p + 1),
-        1 => text_end(plan, p + 1),
-        2 => text_end(plan, p + 1),
+        1 | 2 => text_end(plan, p + 1),
         _ => Step::Refused(5),
     }
 }
@@ -223,8 +222,7 @@ pub fn op_end(plan: &[u8], p: usize) -> Step
         return Step::Refused(3);
     }
     match plan[p] {
-        0 => text_end(plan, p + 1),
-        1 => text_end(plan, p + 1),
+        0 | 1 => text_end(plan, p + 1),
         2 => register_end(plan, p + 1),
         3 => fixed(plan, 2, p + 1),
         4 => fixed(plan, 4, p + 1),

@@ -1,6 +1,6 @@
 use mathlib.Core.Path.{sym, _∙_}
 use native.Mathlib.Omega.{arith}
-use Rattle.plan_form.proofs.Cases.{edge-cut, edge-none, edge-exclusive, edge-inclusive, edge-bad}
+use Rattle.plan_form.proofs.Cases.{edge-cut, edge-none, edge-some, edge-bad}
 use borrow.Author.Needs.{needs}
 use Rattle.plan_form.proofs.edge_end.Statement.{statement}
 use Rattle.plan_form.proofs.edge_end.Tie as tie
@@ -23,23 +23,14 @@ add-text-end c = search needs
 text-end-requires : tie.Need-text-end-requires
 text-end-requires c κs = search needs
 
-add-text-end-2 : tie.Need-add-text-end-2
-add-text-end-2 c = search needs
-
-text-end-requires-2 : tie.Need-text-end-requires-2
-text-end-requires-2 c κs = search needs
-
 returns-2 : tie.Need-returns-2
 returns-2 c = sym (edge-none _ _ (omega arith) (omega arith))
 
 returns-3 : tie.Need-returns-3
-returns-3 c = c .text-end .ensures ∙ sym (edge-exclusive _ _ (omega arith) (omega arith))
+returns-3 c = c .text-end .ensures ∙ sym (edge-some _ _ (omega arith) (omega arith) (omega arith))
 
 returns-4 : tie.Need-returns-4
-returns-4 c = c .text-end2 .ensures ∙ sym (edge-inclusive _ _ (omega arith) (omega arith))
-
-returns-5 : tie.Need-returns-5
-returns-5 c = sym (edge-bad _ _ (omega arith) (omega arith))
+returns-4 c = sym (edge-bad _ _ (omega arith) (omega arith))
 
 pub edge-end-spec : {M : Type 1} → statement M
 edge-end-spec =
@@ -50,9 +41,6 @@ edge-end-spec =
     add-t9
     add-text-end
     text-end-requires
-    add-text-end-2
-    text-end-requires-2
     returns-2
     returns-3
-    returns-4
-    returns-5)
+    returns-4)

@@ -1,6 +1,6 @@
 use mathlib.Core.Path.{sym, _∙_}
 use native.Mathlib.Omega.{arith}
-use Rattle.plan_form.proofs.Cases.{op-cut, op-bytes, op-prefix, op-register, op-fact, op-tag, op-fuzzy, op-bad}
+use Rattle.plan_form.proofs.Cases.{op-cut, op-text, op-register, op-fact, op-tag, op-fuzzy, op-bad}
 use borrow.Author.Needs.{needs}
 use Rattle.plan_form.proofs.op_end.Statement.{statement}
 use Rattle.plan_form.proofs.op_end.Tie as tie
@@ -16,18 +16,6 @@ returns c = sym (op-cut _ _ (omega arith))
 
 shared-slice-read-match : tie.Need-shared-slice-read-match
 shared-slice-read-match c = search needs
-
-add-text-end : tie.Need-add-text-end
-add-text-end c = search needs
-
-text-end-requires : tie.Need-text-end-requires
-text-end-requires c κs = search needs
-
-add-text-end-2 : tie.Need-add-text-end-2
-add-text-end-2 c = search needs
-
-text-end-requires-2 : tie.Need-text-end-requires-2
-text-end-requires-2 c κs = search needs
 
 add-register-end : tie.Need-add-register-end
 add-register-end c = search needs
@@ -53,26 +41,29 @@ add-fuzzy-end c = search needs
 fuzzy-end-requires : tie.Need-fuzzy-end-requires
 fuzzy-end-requires c κs = search needs
 
+add-text-end : tie.Need-add-text-end
+add-text-end c = search needs
+
+text-end-requires : tie.Need-text-end-requires
+text-end-requires c κs = search needs
+
 returns-2 : tie.Need-returns-2
-returns-2 c = c .text-end .ensures ∙ sym (op-bytes _ _ (omega arith) (omega arith))
+returns-2 c = c .register-end .ensures ∙ sym (op-register _ _ (omega arith) (omega arith))
 
 returns-3 : tie.Need-returns-3
-returns-3 c = c .text-end2 .ensures ∙ sym (op-prefix _ _ (omega arith) (omega arith))
+returns-3 c = c .fixed .ensures ∙ sym (op-fact _ _ (omega arith) (omega arith))
 
 returns-4 : tie.Need-returns-4
-returns-4 c = c .register-end .ensures ∙ sym (op-register _ _ (omega arith) (omega arith))
+returns-4 c = c .fixed2 .ensures ∙ sym (op-tag _ _ (omega arith) (omega arith))
 
 returns-5 : tie.Need-returns-5
-returns-5 c = c .fixed .ensures ∙ sym (op-fact _ _ (omega arith) (omega arith))
+returns-5 c = c .fuzzy-end .ensures ∙ sym (op-fuzzy _ _ (omega arith) (omega arith))
 
 returns-6 : tie.Need-returns-6
-returns-6 c = c .fixed2 .ensures ∙ sym (op-tag _ _ (omega arith) (omega arith))
+returns-6 c = c .text-end .ensures ∙ sym (op-text _ _ (omega arith) (omega arith))
 
 returns-7 : tie.Need-returns-7
-returns-7 c = c .fuzzy-end .ensures ∙ sym (op-fuzzy _ _ (omega arith) (omega arith))
-
-returns-8 : tie.Need-returns-8
-returns-8 c = sym (op-bad _ _ (omega arith) (omega arith))
+returns-7 c = sym (op-bad _ _ (omega arith) (omega arith))
 
 pub op-end-spec : {M : Type 1} → statement M
 op-end-spec =
@@ -80,10 +71,6 @@ op-end-spec =
     (tie.spec
     returns
     shared-slice-read-match
-    add-text-end
-    text-end-requires
-    add-text-end-2
-    text-end-requires-2
     add-register-end
     register-end-requires
     add-fixed
@@ -92,10 +79,11 @@ op-end-spec =
     fixed-requires-2
     add-fuzzy-end
     fuzzy-end-requires
+    add-text-end
+    text-end-requires
     returns-2
     returns-3
     returns-4
     returns-5
     returns-6
-    returns-7
-    returns-8)
+    returns-7)
