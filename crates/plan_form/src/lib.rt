@@ -1,4 +1,5 @@
 // Where each item of a plan ends: request [1]'s walk over plan bytes, front to back, with no memory of its own.
+// Which items of the plan stand where: proofs/Places.antt, `item-at` of any number of items and `opened` of the five lists.
 ghost use mathlib.Core.Path.{_≡_};
 ghost use Prim.Native.Nat.{_≤_, _<_};
 ghost use lib.ListN.{length};
