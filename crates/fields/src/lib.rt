@@ -1,12 +1,12 @@
 // What is found in the file's tables by name, node or path.
 ghost use mathlib.Core.Path.{_≡_};
 ghost use Prim.Native.Nat.{_+_, _*_, _≤_, _<_};
-ghost use lib.ListN.{length, getD};
+ghost use lib.ListN.{length};
 ghost use Rattle.rules.specs.Limits.{stepLimit};
 ghost use Rattle.rules.specs.File.{typeAt, factTy, fieldPath, then};
 ghost use Rattle.rules.specs.Lookup.{fieldFrom, fieldOf, samePath, fetchedRegister, foldedField, foldedSlot, slotAt, rowField, rowValue};
 ghost use Rattle.file.specs.Tables.{Indexed, tablesOf};
-ghost use Rattle.paths.specs.Paths.{pathOf, pathFor, Holds};
+ghost use Rattle.paths.specs.Paths.{pathOf};
 ghost use Rattle.views.specs.Views.{fieldAt, pathAt, run, fetchedOf, predicateOption, typeOption, PathInside};
 ghost use Rattle.accepted_file.specs.AcceptedFile.{AcceptedFile};
 ghost use Rattle.tables.specs.Tables.{foundOption};
@@ -85,28 +85,6 @@ pub fn field_of(file: &[u8], index: &[u16], ty: usize, name: usize) -> FieldAt
         TypeView::Fact(p) => FieldAt::Nothing,
         TypeView::Record(n, at) => field_from(file, at, n, name),
         TypeView::Union(n, at) => FieldAt::Nothing,
-    }
-}
-
-// The path that stands at position `at` of the file.
-pub fn path_at(file: &[u8], at: usize) -> FieldPath
-    requires { ⌜ PathInside (now file) at ⌝ }
-    requires { ⌜ getD (now file) (at + 2) 0 ≤ stepLimit ⌝ }
-    ensures holds { λ r. ⌜ Holds r (pathAt (now (file .entry)) at) ⌝ }
-    ensures whole { λ r. ⌜ r ≡ pathFor (pathAt (now (file .entry)) at) ⌝ }
-{
-    let field = word_at(file, at) as u16;
-    let count = wide(file[at + 2]);
-    let mut steps = [0u32; FieldPath::STEP_LIMIT];
-    let mut i: usize = 0;
-    while i < count {
-        steps[i] = long_at(file, at + 3 + 4 * i);
-        i += 1;
-    }
-    FieldPath {
-        steps,
-        count,
-        field,
     }
 }
 

@@ -29,7 +29,6 @@ ghost use Rattle.slots.specs.Slots.{slotOf, Stands, IsSlot};
 ghost use Rattle.records.specs.Records.{put, reach};
 ghost use Rattle.lists.specs.Lists.{stateWith, overrun, codeOf, fitsTables, placeOf, plainSizes, endOf};
 ghost use Rattle.lists.specs.Lists.{later, apart, nearest, slotFrom, lastPlace, viewAt, Readable, SeenAt, SeenView, ShortSlot};
-use fields::path_at;
 use file::DEPTHS;
 use file::least;
 use file::wide;
@@ -54,6 +53,7 @@ use tables::MaybeSlotView;
 use views::MaybePredicate;
 use views::SlotView;
 use views::count_of;
+use views::path_at;
 
 // Where each list ends in the work area, and how many records the two have whose records differ in length.
 pub struct Ends {

@@ -1,4 +1,5 @@
 pub mod Runs
+pub mod PathsAt
 pub mod Entries
 pub mod Nodes
 pub mod Slots

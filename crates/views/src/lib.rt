@@ -2,12 +2,14 @@
 // Types, nodes and predicates come by any number too: past a section's count they are what the written rules give there.
 ghost use mathlib.Core.Path.{_≡_};
 ghost use Prim.Native.Nat.{_+_, _*_, _≤_, _<_};
-ghost use lib.ListN.{length};
+ghost use lib.ListN.{length, getD};
+ghost use Rattle.rules.specs.Limits.{stepLimit};
 ghost use Rattle.rules.specs.File.{nameAt, typeAt, predicateAt, nodeAt};
 ghost use Rattle.file.specs.Sections as Sections;
 ghost use Rattle.file.specs.Steps.{word, sectionCount, limitOf, indexLength};
 ghost use Rattle.file.specs.Tables.{Indexed, tablesOf};
-ghost use Rattle.views.specs.Views.{sizeOf, startAt, pastPath, long, orNone, anchorAt, opKind, opOf, typeOption, predicateMaybe, textView, typeView, nodeView, typeEntry, nodeEntry, bindingView, fetchedView, fieldAt, alternativeAt, patternAt, fieldOf, alternativeOf, patternOf, predicateOf, bindingAt, hoistedAt, fetchedAt, constraintAt, comparisonAt, levelEntryAt, hoistedOf, constraintOf, comparisonOf, levelOf, PathInside, SeenType, SeenNode, SeenBinding, SeenFetched, SeenText};
+ghost use Rattle.paths.specs.Paths.{pathFor, Holds};
+ghost use Rattle.views.specs.Views.{sizeOf, startAt, pathAt, pastPath, long, orNone, anchorAt, opKind, opOf, typeOption, predicateMaybe, textView, typeView, nodeView, typeEntry, nodeEntry, bindingView, fetchedView, fieldAt, alternativeAt, patternAt, fieldOf, alternativeOf, patternOf, predicateOf, bindingAt, hoistedAt, fetchedAt, constraintAt, comparisonAt, levelEntryAt, hoistedOf, constraintOf, comparisonOf, levelOf, PathInside, SeenType, SeenNode, SeenBinding, SeenFetched, SeenText};
 use file::BINDINGS;
 use file::COMPARISONS;
 use file::CONSTRAINTS;
@@ -22,6 +24,7 @@ use file::wide;
 use file::wide16;
 use file::word_at;
 use paths::Address;
+use paths::FieldPath;
 use paths::PredicateId;
 
 // A type. Record and Union have the count of their children and the position of the first.
@@ -179,7 +182,7 @@ fn start_of(index: &[u16], s: usize, t: usize) -> usize
 }
 
 // The two bytes at p, as register and predicate numbers are kept.
-fn half_at(file: &[u8], p: usize) -> u16
+pub fn half_at(file: &[u8], p: usize) -> u16
     requires { ⌜ p + 2 ≤ length (now file) ⌝ }
     ensures { λ r. ⌜ r ≡ word (now (file .entry)) p ⌝ }
 {
@@ -275,7 +278,7 @@ fn maybe_type(n: usize) -> MaybeType
 }
 
 // A predicate's number, where FFFF hex stands for none.
-fn maybe_predicate(n: u16) -> MaybePredicate
+pub fn maybe_predicate(n: u16) -> MaybePredicate
     ensures { λ r. ⌜ r ≡ predicateMaybe n ⌝ }
 {
     if n == 65535 {
@@ -300,7 +303,7 @@ pub fn predicate_at(file: &[u8], index: &[u16], p: PredicateId) -> Predicate
 }
 
 // An anchor by its byte.
-fn anchor_of(b: u8) -> Anchor
+pub fn anchor_of(b: u8) -> Anchor
     requires { ⌜ b < 2 ⌝ }
     ensures { λ r. ⌜ r ≡ anchorAt b ⌝ }
 {
@@ -342,11 +345,33 @@ pub fn node_at(file: &[u8], index: &[u16], n: usize) -> NodeView
 }
 
 // Where a path that starts at `at` ends.
-fn past_path(file: &[u8], at: usize) -> usize
+pub fn past_path(file: &[u8], at: usize) -> usize
     requires { ⌜ PathInside (now file) at ⌝ }
     ensures { λ r. ⌜ r ≡ pastPath (now (file .entry)) at ⌝ }
 {
     at + 3 + 4 * wide(file[at + 2])
+}
+
+// The path that stands at `at`, by value.
+pub fn path_at(file: &[u8], at: usize) -> FieldPath
+    requires { ⌜ PathInside (now file) at ⌝ }
+    requires { ⌜ getD (now file) (at + 2) 0 ≤ stepLimit ⌝ }
+    ensures holds { λ r. ⌜ Holds r (pathAt (now (file .entry)) at) ⌝ }
+    ensures whole { λ r. ⌜ r ≡ pathFor (pathAt (now (file .entry)) at) ⌝ }
+{
+    let field = word_at(file, at) as u16;
+    let count = wide(file[at + 2]);
+    let mut steps = [0u32; FieldPath::STEP_LIMIT];
+    let mut i: usize = 0;
+    while i < count {
+        steps[i] = long_at(file, at + 3 + 4 * i);
+        i += 1;
+    }
+    FieldPath {
+        steps,
+        count,
+        field,
+    }
 }
 
 // Binding b of the file: its name and its slot.

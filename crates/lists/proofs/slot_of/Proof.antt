@@ -5,7 +5,7 @@ use Rattle.lists.proofs.slot_of.Statement.{statement}
 use Rattle.lists.proofs.slot_of.Tie as tie
 use Rattle.lists.proofs.slot_of.Reads as reads
 use Rattle.lists.proofs.slot_of.Lts as lts
-use Rattle.fields.proofs.path_at.Reads as path-at-reads
+use Rattle.views.proofs.path_at.Reads as path-at-reads
 use Rattle.slots.proofs.Slot.field.Reads as field-reads
 use Rattle.slots.proofs.Slot.plain.Reads as plain-reads
 
