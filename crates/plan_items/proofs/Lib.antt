@@ -1,0 +1,4 @@
+pub mod Founds
+pub mod Leaves
+pub mod Levels
+pub mod Plans

@@ -1,0 +1,132 @@
+-- Request [1]: what an item by value stands for in the plan f that it was found in, from the bytes where it points.
+use Prim.Native.Nat.{ℕ, _+_, _≤_, _<_}
+use mathlib.Core.Bool.{true, false}
+use mathlib.Core.List.{List, []}
+use mathlib.Core.Option.{Option, none, some}
+use lib.ListN.{length}
+use Rattle.rules.specs.Read.{Read, Reader, u16, many}
+use Rattle.rules.specs.Read.Read.{got, refused}
+use Rattle.rules.specs.Reader as Reader
+use Rattle.rules.specs.Events.{Narrowing}
+use Rattle.rules.specs.Placement.{SeekKeyPart, Residual, Guide, RangeEdge, SeekKey}
+use Rattle.rules.specs.Plan.{PlanLevel}
+use Rattle.file.specs.Steps.{wordLimit, readAt}
+use Rattle.views.specs.Views.{pathAt, textOf, anchorOf}
+use Rattle.views.specs.declared.Text.{Text}
+use Rattle.plan_form.specs.Places.{Found}
+use Rattle.plan_items.specs.declared.PartView.{PartView}
+use Rattle.plan_items.specs.declared.PartView.the-variants as Pv
+use Rattle.plan_items.specs.declared.EdgeView.{EdgeView}
+use Rattle.plan_items.specs.declared.EdgeView.the-variants as Ev
+use Rattle.plan_items.specs.declared.GuideView.{GuideView}
+use Rattle.plan_items.specs.declared.GuideView.the-variants as Gv
+use Rattle.plan_items.specs.declared.NarrowingView.{NarrowingView}
+use Rattle.plan_items.specs.declared.NarrowingView.the-variants as Nv
+use Rattle.plan_items.specs.declared.ResidualView.{ResidualView}
+use Rattle.plan_items.specs.declared.SeekView.{SeekView}
+use Rattle.plan_items.specs.declared.SeekView.the-variants as Kv
+use Rattle.plan_items.specs.declared.ListView.{ListView}
+use Rattle.plan_items.specs.declared.LevelView.{LevelView}
+
+abbrev pub gotItems : {A : Type 0} → Read (List A) → List A
+gotItems (got xs rest) = xs
+gotItems (refused n) = []
+
+-- the n items that reader r reads from p on
+unfoldable pub itemsAt : {A : Type 0} → List ℕ → Reader A → ℕ → ℕ → List A
+itemsAt f r n p = gotItems (readAt f (many n r) p)
+
+abbrev pub listOf : {A : Type 0} → List ℕ → Reader A → ListView → List A
+listOf f r v = itemsAt f r (v .count) (v .at)
+
+abbrev pub partOf : List ℕ → PartView → SeekKeyPart
+partOf f (Pv.Bytes text) = SeekKeyPart.Bytes (textOf f text)
+partOf f (Pv.RegisterField a path) = SeekKeyPart.RegisterField (a .0) (pathAt f path)
+partOf f (Pv.RegisterFactId a) = SeekKeyPart.RegisterFactId (a .0)
+
+abbrev pub edgeOf : List ℕ → EdgeView → Option RangeEdge
+edgeOf f Ev.Nothing = none
+edgeOf f (Ev.Exclusive text) = some (record { value = textOf f text; inclusive = false })
+edgeOf f (Ev.Inclusive text) = some (record { value = textOf f text; inclusive = true })
+
+abbrev pub guideOf : List ℕ → GuideView → Option Guide
+guideOf f Gv.Nothing = none
+guideOf f (Gv.Just path x distance a) = some (record { path = pathAt f path; term = x; distance = distance; anchor = anchorOf a })
+
+abbrev pub narrowingOf : List ℕ → NarrowingView → Narrowing
+narrowingOf f (Nv.Bytes text) = Narrowing.Bytes (textOf f text)
+narrowingOf f (Nv.Prefix text) = Narrowing.Prefix (textOf f text)
+narrowingOf f (Nv.RegisterField a path) = Narrowing.RegisterField (a .0) (pathAt f path)
+narrowingOf f (Nv.FactId a) = Narrowing.FactId (a .0)
+narrowingOf f (Nv.Tag disc) = Narrowing.Tag disc
+narrowingOf f (Nv.Fuzzy x distance a) = Narrowing.Fuzzy x distance (anchorOf a)
+
+abbrev pub residualOf : List ℕ → ResidualView → Residual
+residualOf f v = record { path = pathAt f (v .path); op = narrowingOf f (v .op) }
+
+-- n is the level's number of parts
+abbrev pub seekOf : List ℕ → ℕ → SeekView → SeekKey
+seekOf f n (Kv.Prefix text) = SeekKey.Prefix (textOf f text)
+seekOf f n (Kv.Composite parts) = SeekKey.Composite (itemsAt f Reader.part n parts)
+seekOf f n (Kv.PrefixRange parts text path) =
+    SeekKey.PrefixRange (itemsAt f Reader.part n parts) (record { path = pathAt f path; prefix = textOf f text })
+seekOf f n (Kv.Bounded parts lo hi) = SeekKey.Bounded (itemsAt f Reader.part n parts) (edgeOf f lo) (edgeOf f hi)
+
+abbrev pub levelOf : List ℕ → LevelView → PlanLevel
+levelOf f v =
+    record {
+      narrowings = v .narrowings;
+      closers = v .closers;
+      parts = v .parts;
+      seek = seekOf f (v .parts) (v .seek);
+      guide = guideOf f (v .guide);
+      residuals = listOf f Reader.residual (v .residuals);
+      folded = listOf f u16 (v .folded);
+    }
+
+-- What an item by value points at stands in the plan.
+abbrev pub TextInside : List ℕ → Text → Type 0
+TextInside f text = text .at + text .len ≤ length f
+
+abbrev pub PartInside : List ℕ → PartView → Type 0
+PartInside f (Pv.Bytes text) = TextInside f text
+PartInside f (Pv.RegisterField a path) = Found f Reader.path path
+PartInside f (Pv.RegisterFactId a) = Unit {0}
+
+abbrev pub EdgeInside : List ℕ → EdgeView → Type 0
+EdgeInside f Ev.Nothing = Unit {0}
+EdgeInside f (Ev.Exclusive text) = TextInside f text
+EdgeInside f (Ev.Inclusive text) = TextInside f text
+
+abbrev pub GuideInside : List ℕ → GuideView → Type 0
+GuideInside f Gv.Nothing = Unit {0}
+GuideInside f (Gv.Just path x distance a) = Found f Reader.path path
+
+abbrev pub NarrowingInside : List ℕ → NarrowingView → Type 0
+NarrowingInside f (Nv.Bytes text) = TextInside f text
+NarrowingInside f (Nv.Prefix text) = TextInside f text
+NarrowingInside f (Nv.RegisterField a path) = Found f Reader.path path
+NarrowingInside f (Nv.FactId a) = Unit {0}
+NarrowingInside f (Nv.Tag disc) = Unit {0}
+NarrowingInside f (Nv.Fuzzy x distance a) = Unit {0}
+
+pub record ResidualInside (f : List ℕ) (v : ResidualView) : Type 0 where
+  pub path : Found f Reader.path (v .path)
+  pub op : NarrowingInside f (v .op)
+
+abbrev pub SeekInside : List ℕ → ℕ → SeekView → Type 0
+SeekInside f n (Kv.Prefix text) = TextInside f text
+SeekInside f n (Kv.Composite parts) = Found f (many n Reader.part) parts
+SeekInside f n (Kv.PrefixRange parts text path) = Found f (many n Reader.part) parts × TextInside f text × Found f Reader.path path
+SeekInside f n (Kv.Bounded parts lo hi) = Found f (many n Reader.part) parts × EdgeInside f lo × EdgeInside f hi
+
+pub record ListInside {A : Type 0} (f : List ℕ) (r : Reader A) (v : ListView) : Type 0 where
+  pub found : Found f (many (v .count) r) (v .at)
+  pub few : v .count < wordLimit
+
+pub record LevelInside (f : List ℕ) (v : LevelView) : Type 0 where
+  pub seek : SeekInside f (v .parts) (v .seek)
+  pub guide : GuideInside f (v .guide)
+  pub residuals : ListInside f Reader.residual (v .residuals)
+  pub folded : ListInside f u16 (v .folded)
+  pub few : v .parts < wordLimit

@@ -1,0 +1,485 @@
+// The items of a plan by value, each found by its position (request [1]). A view carries numbers and positions; where it holds a path or a
+// list, it has the position of it.
+ghost use mathlib.Core.Path.{_≡_};
+ghost use Prim.Native.Nat.{_+_, _*_, _≤_};
+ghost use lib.ListN.{drop};
+ghost use Rattle.rules.specs.Limits.{stepLimit};
+ghost use Rattle.rules.specs.Read.{u16, many};
+ghost use Rattle.rules.specs.Read.Read.{got};
+ghost use Rattle.rules.specs.Reader as Reader;
+ghost use Rattle.file.specs.Steps.{readAt};
+ghost use Rattle.paths.specs.Paths.{pathOf};
+ghost use Rattle.views.specs.Views.{pathAt, textOf};
+ghost use Rattle.plan_form.specs.Places.{Found};
+ghost use Rattle.plan_items.specs.Items.{itemsAt, listOf, partOf, edgeOf, guideOf, narrowingOf, residualOf, seekOf, levelOf};
+ghost use Rattle.plan_items.specs.Items.{TextInside, PartInside, EdgeInside, GuideInside, NarrowingInside, ResidualInside, SeekInside, ListInside, LevelInside};
+use file::word_at;
+use paths::Address;
+use paths::FieldPath;
+use views::Anchor;
+use views::Text;
+use views::anchor_of;
+use views::half_at;
+use views::long_at;
+use views::past_path;
+
+// A part of a seek. RegisterField has the position of its path.
+pub enum PartView {
+    Bytes(Text),
+    RegisterField(Address, usize),
+    RegisterFactId(Address),
+}
+
+pub struct PartItem {
+    pub part: PartView,
+    pub end: usize,
+}
+
+// An edge of a Bounded seek.
+pub enum EdgeView {
+    Nothing,
+    Exclusive(Text),
+    Inclusive(Text),
+}
+
+pub struct EdgeItem {
+    pub edge: EdgeView,
+    pub end: usize,
+}
+
+// A level's guide, if it has one: the position of its path, a name, a distance and an anchor.
+pub enum GuideView {
+    Nothing,
+    Just(usize, usize, u8, Anchor),
+}
+
+pub struct GuideItem {
+    pub guide: GuideView,
+    pub end: usize,
+}
+
+// What a residual asks of the bytes at its path; RegisterField has the position of the register's path.
+pub enum NarrowingView {
+    Bytes(Text),
+    Prefix(Text),
+    RegisterField(Address, usize),
+    FactId(Address),
+    Tag(u32),
+    Fuzzy(usize, u8, Anchor),
+}
+
+pub struct NarrowingItem {
+    pub narrowing: NarrowingView,
+    pub end: usize,
+}
+
+// A residual: the position of its path, and its op.
+pub struct ResidualView {
+    pub path: usize,
+    pub op: NarrowingView,
+    pub end: usize,
+}
+
+// A level's seek. All but Prefix have the position of the first part; a PrefixRange has its text and the position of its path.
+pub enum SeekView {
+    Prefix(Text),
+    Composite(usize),
+    PrefixRange(usize, Text, usize),
+    Bounded(usize, EdgeView, EdgeView),
+}
+
+pub struct SeekItem {
+    pub seek: SeekView,
+    pub end: usize,
+}
+
+// A list: how many items it has, and the position of the first.
+pub struct ListView {
+    pub count: usize,
+    pub at: usize,
+    pub end: usize,
+}
+
+pub struct LevelView {
+    pub narrowings: usize,
+    pub closers: usize,
+    pub parts: usize,
+    pub seek: SeekView,
+    pub guide: GuideView,
+    pub residuals: ListView,
+    pub folded: ListView,
+    pub end: usize,
+}
+
+// The text at p: a count, then as many bytes.
+pub fn text_at(plan: &[u8], p: usize) -> Text
+    requires { ⌜ Found (now plan) Reader.text p ⌝ }
+    ensures reads { λ r. ⌜ (
+        let bytes = now (plan .entry) in
+        readAt bytes Reader.text p ≡ got (textOf bytes r) (drop (r .at + r .len) bytes)
+        ) ⌝ }
+    ensures inside { λ r. ⌜ TextInside (now (plan .entry)) r ⌝ }
+{
+    Text {
+        at: p + 2,
+        len: word_at(plan, p),
+    }
+}
+
+// Where the path at p ends.
+pub fn path_past(plan: &[u8], p: usize) -> usize
+    requires { ⌜ Found (now plan) Reader.path p ⌝ }
+    ensures { λ r. ⌜ (
+        let bytes = now (plan .entry) in
+        readAt bytes Reader.path p ≡ got (pathAt bytes p) (drop r bytes)
+        ) ⌝ }
+{
+    past_path(plan, p)
+}
+
+// The path at p, by value.
+pub fn path_at(plan: &[u8], p: usize) -> FieldPath
+    requires { ⌜ Found (now plan) Reader.path p ⌝ }
+    ensures reads { λ r. ⌜ (
+        let bytes = now (plan .entry) in
+        readAt bytes Reader.path p ≡ got (pathOf r) (drop (p + 3 + 4 * r .count) bytes)
+        ) ⌝ }
+    ensures short { λ r. ⌜ r .count ≤ stepLimit ⌝ }
+{
+    views::path_at(plan, p)
+}
+
+// The part at p.
+pub fn part_at(plan: &[u8], p: usize) -> PartItem
+    requires { ⌜ Found (now plan) Reader.part p ⌝ }
+    ensures reads { λ r. ⌜ (
+        let bytes = now (plan .entry) in
+        readAt bytes Reader.part p ≡ got (partOf bytes (r .part)) (drop (r .end) bytes)
+        ) ⌝ }
+    ensures inside { λ r. ⌜ PartInside (now (plan .entry)) (r .part) ⌝ }
+{
+    let q = p + 1;
+    match plan[p] {
+        0 => {
+            let text = text_at(plan, q);
+            PartItem {
+                part: PartView::Bytes(text),
+                end: text.at + text.len,
+            }
+        }
+        1 => {
+            let address = Address(half_at(plan, q));
+            let path = q + 2;
+            PartItem {
+                part: PartView::RegisterField(address, path),
+                end: path_past(plan, path),
+            }
+        }
+        _ => PartItem {
+            part: PartView::RegisterFactId(Address(half_at(plan, q))),
+            end: q + 2,
+        },
+    }
+}
+
+// The edge at p.
+pub fn edge_at(plan: &[u8], p: usize) -> EdgeItem
+    requires { ⌜ Found (now plan) Reader.edge p ⌝ }
+    ensures reads { λ r. ⌜ (
+        let bytes = now (plan .entry) in
+        readAt bytes Reader.edge p ≡ got (edgeOf bytes (r .edge)) (drop (r .end) bytes)
+        ) ⌝ }
+    ensures inside { λ r. ⌜ EdgeInside (now (plan .entry)) (r .edge) ⌝ }
+{
+    let q = p + 1;
+    match plan[p] {
+        0 => EdgeItem {
+            edge: EdgeView::Nothing,
+            end: q,
+        },
+        1 => {
+            let text = text_at(plan, q);
+            EdgeItem {
+                edge: EdgeView::Exclusive(text),
+                end: text.at + text.len,
+            }
+        }
+        _ => {
+            let text = text_at(plan, q);
+            EdgeItem {
+                edge: EdgeView::Inclusive(text),
+                end: text.at + text.len,
+            }
+        }
+    }
+}
+
+// The guide at p, or that there is none.
+pub fn guide_at(plan: &[u8], p: usize) -> GuideItem
+    requires { ⌜ Found (now plan) Reader.guide p ⌝ }
+    ensures reads { λ r. ⌜ (
+        let bytes = now (plan .entry) in
+        readAt bytes Reader.guide p ≡ got (guideOf bytes (r .guide)) (drop (r .end) bytes)
+        ) ⌝ }
+    ensures inside { λ r. ⌜ GuideInside (now (plan .entry)) (r .guide) ⌝ }
+{
+    let path = p + 1;
+    if plan[p] == 0 {
+        return GuideItem {
+            guide: GuideView::Nothing,
+            end: path,
+        };
+    }
+    let q = path_past(plan, path);
+    let term = word_at(plan, q);
+    let distance = plan[q + 2];
+    let anchor = anchor_of(plan[q + 3]);
+    GuideItem {
+        guide: GuideView::Just(path, term, distance, anchor),
+        end: q + 4,
+    }
+}
+
+// The op at p.
+fn op_at(plan: &[u8], p: usize) -> NarrowingItem
+    requires { ⌜ Found (now plan) Reader.op p ⌝ }
+    ensures reads { λ r. ⌜ (
+        let bytes = now (plan .entry) in
+        readAt bytes Reader.op p ≡ got (narrowingOf bytes (r .narrowing)) (drop (r .end) bytes)
+        ) ⌝ }
+    ensures inside { λ r. ⌜ NarrowingInside (now (plan .entry)) (r .narrowing) ⌝ }
+{
+    let q = p + 1;
+    match plan[p] {
+        0 => {
+            let text = text_at(plan, q);
+            NarrowingItem {
+                narrowing: NarrowingView::Bytes(text),
+                end: text.at + text.len,
+            }
+        }
+        1 => {
+            let text = text_at(plan, q);
+            NarrowingItem {
+                narrowing: NarrowingView::Prefix(text),
+                end: text.at + text.len,
+            }
+        }
+        2 => {
+            let address = Address(half_at(plan, q));
+            let path = q + 2;
+            NarrowingItem {
+                narrowing: NarrowingView::RegisterField(address, path),
+                end: path_past(plan, path),
+            }
+        }
+        3 => NarrowingItem {
+            narrowing: NarrowingView::FactId(Address(half_at(plan, q))),
+            end: q + 2,
+        },
+        4 => NarrowingItem {
+            narrowing: NarrowingView::Tag(long_at(plan, q)),
+            end: q + 4,
+        },
+        _ => NarrowingItem {
+            narrowing: NarrowingView::Fuzzy(word_at(plan, q), plan[q + 2], anchor_of(plan[q + 3])),
+            end: q + 4,
+        },
+    }
+}
+
+// The residual at p.
+pub fn residual_at(plan: &[u8], p: usize) -> ResidualView
+    requires { ⌜ Found (now plan) Reader.residual p ⌝ }
+    ensures reads { λ r. ⌜ (
+        let bytes = now (plan .entry) in
+        readAt bytes Reader.residual p ≡ got (residualOf bytes r) (drop (r .end) bytes)
+        ) ⌝ }
+    ensures inside { λ r. ⌜ ResidualInside (now (plan .entry)) r ⌝ }
+{
+    let q = path_past(plan, p);
+    let o = op_at(plan, q);
+    let op = o.narrowing;
+    ResidualView {
+        path: p,
+        op,
+        end: o.end,
+    }
+}
+
+// Where n parts from p on end.
+fn parts_past(plan: &[u8], n: usize, p: usize) -> usize
+    requires { ⌜ Found (now plan) (many n Reader.part) p ⌝ }
+    ensures { λ r. ⌜ (
+        let bytes = now (plan .entry) in
+        readAt bytes (many n Reader.part) p ≡ got (itemsAt bytes Reader.part n p) (drop r bytes)
+        ) ⌝ }
+{
+    let mut q = p;
+    let mut left = n;
+    while left > 0 {
+        let part = part_at(plan, q);
+        q = part.end;
+        left -= 1;
+    }
+    q
+}
+
+// Where n residuals from p on end.
+fn residuals_past(plan: &[u8], n: usize, p: usize) -> usize
+    requires { ⌜ Found (now plan) (many n Reader.residual) p ⌝ }
+    ensures { λ r. ⌜ (
+        let bytes = now (plan .entry) in
+        readAt bytes (many n Reader.residual) p ≡ got (itemsAt bytes Reader.residual n p) (drop r bytes)
+        ) ⌝ }
+{
+    let mut q = p;
+    let mut left = n;
+    while left > 0 {
+        let residual = residual_at(plan, q);
+        q = residual.end;
+        left -= 1;
+    }
+    q
+}
+
+// What a Prefix seek holds, from p on.
+fn prefix_seek(plan: &[u8], n: usize, p: usize) -> SeekItem
+    requires { ⌜ Found (now plan) Reader.prefixSeek p ⌝ }
+    ensures reads { λ r. ⌜ (
+        let bytes = now (plan .entry) in
+        readAt bytes Reader.prefixSeek p ≡ got (seekOf bytes n (r .seek)) (drop (r .end) bytes)
+        ) ⌝ }
+    ensures inside { λ r. ⌜ SeekInside (now (plan .entry)) n (r .seek) ⌝ }
+{
+    let text = text_at(plan, p);
+    SeekItem {
+        seek: SeekView::Prefix(text),
+        end: text.at + text.len,
+    }
+}
+
+// What a PrefixRange seek of n parts holds, from p on.
+fn range_seek(plan: &[u8], n: usize, p: usize) -> SeekItem
+    requires { ⌜ Found (now plan) (Reader.rangeSeek n) p ⌝ }
+    ensures reads { λ r. ⌜ (
+        let bytes = now (plan .entry) in
+        readAt bytes (Reader.rangeSeek n) p ≡ got (seekOf bytes n (r .seek)) (drop (r .end) bytes)
+        ) ⌝ }
+    ensures inside { λ r. ⌜ SeekInside (now (plan .entry)) n (r .seek) ⌝ }
+{
+    let q = parts_past(plan, n, p);
+    let text = text_at(plan, q);
+    let path = text.at + text.len;
+    SeekItem {
+        seek: SeekView::PrefixRange(p, text, path),
+        end: path_past(plan, path),
+    }
+}
+
+// What a Bounded seek of n parts holds, from p on.
+fn bounded_seek(plan: &[u8], n: usize, p: usize) -> SeekItem
+    requires { ⌜ Found (now plan) (Reader.boundedSeek n) p ⌝ }
+    ensures reads { λ r. ⌜ (
+        let bytes = now (plan .entry) in
+        readAt bytes (Reader.boundedSeek n) p ≡ got (seekOf bytes n (r .seek)) (drop (r .end) bytes)
+        ) ⌝ }
+    ensures inside { λ r. ⌜ SeekInside (now (plan .entry)) n (r .seek) ⌝ }
+{
+    let q = parts_past(plan, n, p);
+    let low = edge_at(plan, q);
+    let high = edge_at(plan, low.end);
+    let lo = low.edge;
+    let hi = high.edge;
+    SeekItem {
+        seek: SeekView::Bounded(p, lo, hi),
+        end: high.end,
+    }
+}
+
+// The seek at p, of a level with n parts.
+pub fn seek_at(plan: &[u8], n: usize, p: usize) -> SeekItem
+    requires { ⌜ Found (now plan) (Reader.seek n) p ⌝ }
+    ensures reads { λ r. ⌜ (
+        let bytes = now (plan .entry) in
+        readAt bytes (Reader.seek n) p ≡ got (seekOf bytes n (r .seek)) (drop (r .end) bytes)
+        ) ⌝ }
+    ensures inside { λ r. ⌜ SeekInside (now (plan .entry)) n (r .seek) ⌝ }
+{
+    let q = p + 1;
+    match plan[p] {
+        0 => prefix_seek(plan, n, q),
+        1 => SeekItem {
+            seek: SeekView::Composite(q),
+            end: parts_past(plan, n, q),
+        },
+        2 => range_seek(plan, n, q),
+        _ => bounded_seek(plan, n, q),
+    }
+}
+
+// A level's residuals, counted at p.
+fn residuals_at(plan: &[u8], p: usize) -> ListView
+    requires { ⌜ Found (now plan) (Reader.counted Reader.residual) p ⌝ }
+    ensures reads { λ r. ⌜ (
+        let bytes = now (plan .entry) in
+        readAt bytes (Reader.counted Reader.residual) p ≡ got (listOf bytes Reader.residual r) (drop (r .end) bytes)
+        ) ⌝ }
+    ensures inside { λ r. ⌜ ListInside (now (plan .entry)) Reader.residual r ⌝ }
+{
+    let count = word_at(plan, p);
+    let at = p + 2;
+    ListView {
+        count,
+        at,
+        end: residuals_past(plan, count, at),
+    }
+}
+
+// Numbers counted at p: a level's folded comparisons, or the constrained names.
+fn words_at(plan: &[u8], p: usize) -> ListView
+    requires { ⌜ Found (now plan) (Reader.counted u16) p ⌝ }
+    ensures reads { λ r. ⌜ (
+        let bytes = now (plan .entry) in
+        readAt bytes (Reader.counted u16) p ≡ got (listOf bytes u16 r) (drop (r .end) bytes)
+        ) ⌝ }
+    ensures inside { λ r. ⌜ ListInside (now (plan .entry)) u16 r ⌝ }
+{
+    let count = word_at(plan, p);
+    let at = p + 2;
+    ListView {
+        count,
+        at,
+        end: at + 2 * count,
+    }
+}
+
+// The level at p.
+pub fn level_at(plan: &[u8], p: usize) -> LevelView
+    requires { ⌜ Found (now plan) Reader.level p ⌝ }
+    ensures reads { λ r. ⌜ (
+        let bytes = now (plan .entry) in
+        readAt bytes Reader.level p ≡ got (levelOf bytes r) (drop (r .end) bytes)
+        ) ⌝ }
+    ensures inside { λ r. ⌜ LevelInside (now (plan .entry)) r ⌝ }
+{
+    let narrowings = word_at(plan, p);
+    let closers = word_at(plan, p + 2);
+    let parts = word_at(plan, p + 4);
+    let s = seek_at(plan, parts, p + 6);
+    let seek = s.seek;
+    let g = guide_at(plan, s.end);
+    let guide = g.guide;
+    let residuals = residuals_at(plan, g.end);
+    let folded = words_at(plan, residuals.end);
+    LevelView {
+        narrowings,
+        closers,
+        parts,
+        seek,
+        guide,
+        residuals,
+        folded,
+        end: folded.end,
+    }
+}
