@@ -69,6 +69,9 @@ module _ (f : List ℕ) (p : ℕ) (x : Found f Reader.path p) where
   unfolding Reader.path
   field-inside = word-inside f _ p x
 
+  pub path-within : p ≤ length f
+  path-within = omega (arith, field-inside)
+
   count-inside : p + 2 < length f
   unfolding Reader.path
   count-inside = byte-inside f _ (p + 2) (word-found f _ p x)

@@ -1,4 +1,5 @@
 pub mod Founds
 pub mod Leaves
 pub mod Levels
+pub mod Slots
 pub mod Plans

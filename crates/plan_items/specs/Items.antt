@@ -1,17 +1,22 @@
 -- Request [1]: what an item by value stands for in the plan f that it was found in, from the bytes where it points.
-use Prim.Native.Nat.{ℕ, _+_, _≤_, _<_}
+use Prim.Native.Nat.{ℕ, _+_, _-_, _≤_, _<_}
 use mathlib.Core.Bool.{true, false}
-use mathlib.Core.List.{List, []}
+use mathlib.Core.List.{List, [], _∷_}
 use mathlib.Core.Option.{Option, none, some}
-use lib.ListN.{length}
+use lib.ListN.{length, getD}
 use Rattle.rules.specs.Read.{Read, Reader, u16, many}
 use Rattle.rules.specs.Read.Read.{got, refused}
 use Rattle.rules.specs.Reader as Reader
-use Rattle.rules.specs.Events.{Narrowing}
+use Rattle.rules.specs.File.{Binding}
+use Rattle.rules.specs.Events.{Code, Select, Diagnostic, Narrowing}
 use Rattle.rules.specs.Placement.{SeekKeyPart, Residual, Guide, RangeEdge, SeekKey}
-use Rattle.rules.specs.Plan.{PlanLevel}
-use Rattle.file.specs.Steps.{wordLimit, readAt}
-use Rattle.views.specs.Views.{pathAt, textOf, anchorOf}
+use Rattle.rules.specs.Plan.{PlanLevel, Plan}
+use Rattle.file.specs.Steps.{wordLimit, word, readAt}
+use Rattle.file.specs.declared.Step.{Step}
+use Rattle.file.specs.declared.Step.the-variants.{Next, Refused}
+use Rattle.views.specs.Views.{pathAt, textOf, anchorOf, slotViewed}
+use Rattle.views.specs.declared.SlotView.{SlotView}
+use Rattle.views.specs.declared.SlotView.the-variants as Sv
 use Rattle.views.specs.declared.Text.{Text}
 use Rattle.plan_form.specs.Places.{Found}
 use Rattle.plan_items.specs.declared.PartView.{PartView}
@@ -27,6 +32,10 @@ use Rattle.plan_items.specs.declared.SeekView.{SeekView}
 use Rattle.plan_items.specs.declared.SeekView.the-variants as Kv
 use Rattle.plan_items.specs.declared.ListView.{ListView}
 use Rattle.plan_items.specs.declared.LevelView.{LevelView}
+use Rattle.plan_items.specs.declared.BindingItem.{BindingItem}
+use Rattle.plan_items.specs.declared.SelectView.{SelectView}
+use Rattle.plan_items.specs.declared.DiagnosticView.{DiagnosticView}
+use Rattle.plan_items.specs.declared.PlanView.{PlanView}
 
 abbrev pub gotItems : {A : Type 0} → Read (List A) → List A
 gotItems (got xs rest) = xs
@@ -38,6 +47,15 @@ itemsAt f r n p = gotItems (readAt f (many n r) p)
 
 abbrev pub listOf : {A : Type 0} → List ℕ → Reader A → ListView → List A
 listOf f r v = itemsAt f r (v .count) (v .at)
+
+-- the list whose count stands at p and that ends at stop
+abbrev pub listView : List ℕ → ℕ → ℕ → ListView
+listView f p stop = record { count = word f p; at = p + 2; end = stop }
+
+-- where a walk ended that met no fault
+abbrev pub pastOf : Step → ℕ
+pastOf (Next q) = q
+pastOf (Refused x) = 0
 
 abbrev pub partOf : List ℕ → PartView → SeekKeyPart
 partOf f (Pv.Bytes text) = SeekKeyPart.Bytes (textOf f text)
@@ -82,6 +100,35 @@ levelOf f v =
       guide = guideOf f (v .guide);
       residuals = listOf f Reader.residual (v .residuals);
       folded = listOf f u16 (v .folded);
+    }
+
+-- the lists after all levels
+abbrev pub bindingOf : List ℕ → BindingItem → Binding
+bindingOf f v = record { name = v .name; slot = slotViewed f (v .slot) }
+
+abbrev pub selectOf : List ℕ → SelectView → Select
+selectOf f v = record { address = v .address .0; path = pathAt f (v .path); disc = v .disc }
+
+-- the codes by number, from 1 on
+abbrev pub codes : List Code
+codes =
+    Code.NyiDisjunction ∷ Code.NyiFactField ∷ Code.NyiNever ∷ Code.NyiRepeatedVariable ∷ Code.NyiValueField ∷ Code.NyiValueMatch ∷
+    Code.NyiWholeKey ∷ Code.RejectTypeMismatch ∷ Code.RejectUnionArity ∷ Code.RejectUnknownAlternative ∷ Code.RejectUnresolvedAccess ∷ []
+
+unfoldable pub codeOf : ℕ → Code
+codeOf n = getD codes (n - 1) Code.NyiDisjunction
+
+abbrev pub diagnosticOf : DiagnosticView → Diagnostic
+diagnosticOf v = record { node = v .node; code = codeOf (v .code) }
+
+abbrev pub planViewed : List ℕ → PlanView → Plan
+planViewed f v =
+    record {
+      levels = listOf f Reader.level (v .levels);
+      bindings = listOf f Reader.binding (v .bindings);
+      constrained = listOf f u16 (v .constrained);
+      selects = listOf f Reader.select (v .selects);
+      diagnostics = listOf f Reader.diagnostic (v .diagnostics);
     }
 
 -- What an item by value points at stands in the plan.
@@ -130,3 +177,18 @@ pub record LevelInside (f : List ℕ) (v : LevelView) : Type 0 where
   pub residuals : ListInside f Reader.residual (v .residuals)
   pub folded : ListInside f u16 (v .folded)
   pub few : v .parts < wordLimit
+
+abbrev pub SlotInside : List ℕ → SlotView → Type 0
+SlotInside f (Sv.Row a p) = Unit {0}
+SlotInside f (Sv.Key a t) = Unit {0}
+SlotInside f (Sv.Derived a) = Unit {0}
+SlotInside f (Sv.Field a path t) = Found f Reader.path path
+SlotInside f (Sv.Value a t) = Unit {0}
+SlotInside f (Sv.Const n) = Unit {0}
+
+pub record PlanInside (f : List ℕ) (v : PlanView) : Type 0 where
+  pub levels : ListInside f Reader.level (v .levels)
+  pub bindings : ListInside f Reader.binding (v .bindings)
+  pub constrained : ListInside f u16 (v .constrained)
+  pub selects : ListInside f Reader.select (v .selects)
+  pub diagnostics : ListInside f Reader.diagnostic (v .diagnostics)

@@ -1,26 +1,37 @@
-// The items of a plan by value, each found by its position (request [1]). A view carries numbers and positions; where it holds a path or a
-// list, it has the position of it.
+// The items of a plan by value, each found by its position (request [1]). A view carries numbers and positions; of a path or a list it
+// has the position, and `end` is where the next item begins. Which item of the plan stands at a position is told by number in
+// proofs/Plans.antt, and for the five lists in plan_form's proofs/Places.antt.
 ghost use mathlib.Core.Path.{_≡_};
-ghost use Prim.Native.Nat.{_+_, _*_, _≤_};
-ghost use lib.ListN.{drop};
+ghost use Prim.Native.Nat.{_+_, _*_, _≤_, _<_};
+ghost use lib.ListN.{length, drop};
 ghost use Rattle.rules.specs.Limits.{stepLimit};
 ghost use Rattle.rules.specs.Read.{u16, many};
 ghost use Rattle.rules.specs.Read.Read.{got};
 ghost use Rattle.rules.specs.Reader as Reader;
-ghost use Rattle.file.specs.Steps.{readAt};
+ghost use Rattle.file.specs.Steps.{wordLimit, readAt};
 ghost use Rattle.paths.specs.Paths.{pathOf};
-ghost use Rattle.views.specs.Views.{pathAt, textOf};
-ghost use Rattle.plan_form.specs.Places.{Found};
+ghost use Rattle.views.specs.Views.{pathAt, textOf, slotViewed};
+ghost use Rattle.plan_form.specs.Places.{planOf, Opened, Found};
 ghost use Rattle.plan_items.specs.Items.{itemsAt, listOf, partOf, edgeOf, guideOf, narrowingOf, residualOf, seekOf, levelOf};
-ghost use Rattle.plan_items.specs.Items.{TextInside, PartInside, EdgeInside, GuideInside, NarrowingInside, ResidualInside, SeekInside, ListInside, LevelInside};
+ghost use Rattle.plan_items.specs.Items.{bindingOf, selectOf, diagnosticOf, planViewed, pastOf, listView, SlotInside, PlanInside};
+ghost use Rattle.plan_items.specs.Items.{TextInside, PartInside, EdgeInside, GuideInside, NarrowingInside, ResidualInside};
+ghost use Rattle.plan_items.specs.Items.{SeekInside, ListInside, LevelInside};
+use file::Step;
 use file::word_at;
 use paths::Address;
 use paths::FieldPath;
+use plan_form::BINDINGS;
+use plan_form::SELECTS;
+use plan_form::level_list_end;
+use plan_form::list_end;
+use plan_form::words_end;
 use views::Anchor;
+use views::SlotView;
 use views::Text;
 use views::anchor_of;
 use views::half_at;
 use views::long_at;
+use views::maybe_predicate;
 use views::past_path;
 
 // A part of a seek. RegisterField has the position of its path.
@@ -30,6 +41,7 @@ pub enum PartView {
     RegisterFactId(Address),
 }
 
+// A part, and where it ends.
 pub struct PartItem {
     pub part: PartView,
     pub end: usize,
@@ -42,6 +54,7 @@ pub enum EdgeView {
     Inclusive(Text),
 }
 
+// An edge, and where it ends.
 pub struct EdgeItem {
     pub edge: EdgeView,
     pub end: usize,
@@ -53,6 +66,7 @@ pub enum GuideView {
     Just(usize, usize, u8, Anchor),
 }
 
+// A guide, and where it ends.
 pub struct GuideItem {
     pub guide: GuideView,
     pub end: usize,
@@ -68,6 +82,7 @@ pub enum NarrowingView {
     Fuzzy(usize, u8, Anchor),
 }
 
+// What a residual asks, and where it ends.
 pub struct NarrowingItem {
     pub narrowing: NarrowingView,
     pub end: usize,
@@ -88,6 +103,7 @@ pub enum SeekView {
     Bounded(usize, EdgeView, EdgeView),
 }
 
+// A seek, and where it ends.
 pub struct SeekItem {
     pub seek: SeekView,
     pub end: usize,
@@ -100,6 +116,7 @@ pub struct ListView {
     pub end: usize,
 }
 
+// A level: its three counts, its seek, its guide, and its two lists.
 pub struct LevelView {
     pub narrowings: usize,
     pub closers: usize,
@@ -109,6 +126,43 @@ pub struct LevelView {
     pub residuals: ListView,
     pub folded: ListView,
     pub end: usize,
+}
+
+// A slot, and where it ends.
+pub struct SlotItem {
+    pub slot: SlotView,
+    pub end: usize,
+}
+
+// A new binding: a name and where its value lives.
+pub struct BindingItem {
+    pub name: usize,
+    pub slot: SlotView,
+    pub end: usize,
+}
+
+// A select: `path` is the position of its path.
+pub struct SelectView {
+    pub address: Address,
+    pub path: usize,
+    pub disc: u32,
+    pub end: usize,
+}
+
+// A diagnostic: a node, and the number of its code.
+pub struct DiagnosticView {
+    pub node: usize,
+    pub code: u8,
+    pub end: usize,
+}
+
+// The five lists of a plan.
+pub struct PlanView {
+    pub levels: ListView,
+    pub bindings: ListView,
+    pub constrained: ListView,
+    pub selects: ListView,
+    pub diagnostics: ListView,
 }
 
 // The text at p: a count, then as many bytes.
@@ -481,5 +535,173 @@ pub fn level_at(plan: &[u8], p: usize) -> LevelView
         residuals,
         folded,
         end: folded.end,
+    }
+}
+
+// The number at p: a folded comparison of a level, or a constrained name.
+pub fn number_at(plan: &[u8], p: usize) -> usize
+    requires { ⌜ Found (now plan) u16 p ⌝ }
+    ensures { λ r. ⌜ (
+        let bytes = now (plan .entry) in
+        readAt bytes u16 p ≡ got r (drop (p + 2) bytes)
+        ) ⌝ }
+{
+    word_at(plan, p)
+}
+
+// What a Field slot holds, from p on: address, path, type.
+fn field_slot(plan: &[u8], p: usize) -> SlotItem
+    requires { ⌜ Found (now plan) Reader.fieldSlot p ⌝ }
+    ensures reads { λ r. ⌜ (
+        let bytes = now (plan .entry) in
+        readAt bytes Reader.fieldSlot p ≡ got (slotViewed bytes (r .slot)) (drop (r .end) bytes)
+        ) ⌝ }
+    ensures inside { λ r. ⌜ SlotInside (now (plan .entry)) (r .slot) ⌝ }
+{
+    let address = Address(half_at(plan, p));
+    let path = p + 2;
+    let q = path_past(plan, path);
+    SlotItem {
+        slot: SlotView::Field(address, path, word_at(plan, q)),
+        end: q + 2,
+    }
+}
+
+// The slot at p.
+pub fn slot_at(plan: &[u8], p: usize) -> SlotItem
+    requires { ⌜ Found (now plan) Reader.slot p ⌝ }
+    ensures reads { λ r. ⌜ (
+        let bytes = now (plan .entry) in
+        readAt bytes Reader.slot p ≡ got (slotViewed bytes (r .slot)) (drop (r .end) bytes)
+        ) ⌝ }
+    ensures inside { λ r. ⌜ SlotInside (now (plan .entry)) (r .slot) ⌝ }
+{
+    let q = p + 1;
+    match plan[p] {
+        0 => SlotItem {
+            slot: SlotView::Row(
+                Address(half_at(plan, q)),
+                maybe_predicate(half_at(plan, q + 2)),
+            ),
+            end: q + 4,
+        },
+        1 => SlotItem {
+            slot: SlotView::Key(Address(half_at(plan, q)), word_at(plan, q + 2)),
+            end: q + 4,
+        },
+        2 => SlotItem {
+            slot: SlotView::Derived(Address(half_at(plan, q))),
+            end: q + 2,
+        },
+        3 => field_slot(plan, q),
+        4 => SlotItem {
+            slot: SlotView::Value(Address(half_at(plan, q)), word_at(plan, q + 2)),
+            end: q + 4,
+        },
+        _ => SlotItem {
+            slot: SlotView::Const(word_at(plan, q)),
+            end: q + 2,
+        },
+    }
+}
+
+// The new binding at p.
+pub fn binding_at(plan: &[u8], p: usize) -> BindingItem
+    requires { ⌜ Found (now plan) Reader.binding p ⌝ }
+    ensures reads { λ r. ⌜ (
+        let bytes = now (plan .entry) in
+        readAt bytes Reader.binding p ≡ got (bindingOf bytes r) (drop (r .end) bytes)
+        ) ⌝ }
+    ensures inside { λ r. ⌜ SlotInside (now (plan .entry)) (r .slot) ⌝ }
+{
+    let name = word_at(plan, p);
+    let s = slot_at(plan, p + 2);
+    let slot = s.slot;
+    BindingItem {
+        name,
+        slot,
+        end: s.end,
+    }
+}
+
+// The select at p.
+pub fn select_at(plan: &[u8], p: usize) -> SelectView
+    requires { ⌜ Found (now plan) Reader.select p ⌝ }
+    ensures reads { λ r. ⌜ (
+        let bytes = now (plan .entry) in
+        readAt bytes Reader.select p ≡ got (selectOf bytes r) (drop (r .end) bytes)
+        ) ⌝ }
+    ensures inside { λ r. ⌜ Found (now (plan .entry)) Reader.path (r .path) ⌝ }
+{
+    let address = Address(half_at(plan, p));
+    let path = p + 2;
+    let q = path_past(plan, path);
+    SelectView {
+        address,
+        path,
+        disc: long_at(plan, q),
+        end: q + 4,
+    }
+}
+
+// The diagnostic at p.
+pub fn diagnostic_at(plan: &[u8], p: usize) -> DiagnosticView
+    requires { ⌜ Found (now plan) Reader.diagnostic p ⌝ }
+    ensures { λ r. ⌜ (
+        let bytes = now (plan .entry) in
+        readAt bytes Reader.diagnostic p ≡ got (diagnosticOf r) (drop (r .end) bytes)
+        ) ⌝ }
+{
+    DiagnosticView {
+        node: word_at(plan, p),
+        code: plan[p + 2],
+        end: p + 3,
+    }
+}
+
+// Where what was read ends; a plan that was opened has no fault.
+fn past(step: Step) -> usize
+    ensures { λ r. ⌜ r ≡ pastOf step ⌝ }
+{
+    match step {
+        Step::Next(q) => q,
+        Step::Refused(_) => 0,
+    }
+}
+
+// The list whose count stands at p and that ends at end.
+fn list_at(plan: &[u8], p: usize, end: usize) -> ListView
+    requires { ⌜ p + 2 ≤ length (now plan) ⌝ }
+    ensures is { λ r. ⌜ r ≡ listView (now (plan .entry)) p end ⌝ }
+    ensures few { λ r. ⌜ r .count < wordLimit ⌝ }
+{
+    ListView {
+        count: word_at(plan, p),
+        at: p + 2,
+        end,
+    }
+}
+
+// The five lists of a plan: how many items each has, and where they stand.
+pub fn open_plan(plan: &[u8]) -> PlanView
+    requires { ⌜ Opened (now plan) ⌝ }
+    ensures reads { λ r. ⌜ planOf (now (plan .entry)) ≡ planViewed (now (plan .entry)) r ⌝ }
+    ensures inside { λ r. ⌜ PlanInside (now (plan .entry)) r ⌝ }
+{
+    let b = past(level_list_end(plan, 0));
+    let k = past(list_end(plan, BINDINGS, b));
+    let s = past(words_end(plan, k));
+    let d = past(list_end(plan, SELECTS, s));
+    let levels = list_at(plan, 0, b);
+    let bindings = list_at(plan, b, k);
+    let constrained = list_at(plan, k, s);
+    let selects = list_at(plan, s, d);
+    let diagnostics = list_at(plan, d, plan.len());
+    PlanView {
+        levels,
+        bindings,
+        constrained,
+        selects,
+        diagnostics,
     }
 }

@@ -32,7 +32,6 @@ use Rattle.plan_items.specs.declared.GuideView.{GuideView}
 use Rattle.plan_items.specs.declared.GuideView.the-variants as Gv
 use Rattle.plan_items.specs.declared.LevelView.{LevelView}
 use Rattle.plan_items.proofs.Founds.{found-one, found-more, items-more, items-length}
-use Rattle.plan_items.proofs.Levels.{counted-inside, counted-found}
 use Rattle.plan_items.proofs.Leaves.{path-reads}
 use Rattle.plan_items.proofs.Plans.{levels-found, opened-levels}
 use Rattle.plan_rules.specs.Parts.{isBytes}
@@ -210,12 +209,8 @@ pub record Going (f : List ℕ) (left q : ℕ) : Type 0 where
   pub found : Found f (many left Reader.level) q
   pub same : all levelRules (itemsAt f Reader.level left q) ≡ all levelRules (planOf f .levels)
 
-module _ (f : List ℕ) (x : Opened f) where
-  pub levels-inside : 2 ≤ length f
-  levels-inside = counted-inside f Reader.level 0 (levels-found f x)
-
-  pub going-first : (n : ℕ) → n ≡ word f 0 → Going f n 2
-  going-first n e = record { found = counted-found f Reader.level 0 (levels-found f x) n e; same = ap (all levelRules) (opened-levels f x n e) }
+pub going-first : (f : List ℕ) → Opened f → (n : ℕ) → n ≡ word f 0 → Going f n 2
+going-first f x n e = record { found = levels-found f x n e; same = ap (all levelRules) (opened-levels f x n e) }
 
 module _ (f : List ℕ) (left q : ℕ) (x : Going f left q) (h : 0 < left) where
   pub going-next : Found f Reader.level q

@@ -1,7 +1,8 @@
 use native.Mathlib.Omega.{arith}
 use mathlib.Core.Path.{ap, sym, _∙_}
 use borrow.Author.Tests.{not-true, not-false}
-use Rattle.plan_rules.proofs.Rules.{Going, levels-inside, going-first, going-next, going-more, going-broken, going-end}
+use Rattle.plan_items.proofs.Plans.{levels-inside}
+use Rattle.plan_rules.proofs.Rules.{Going, going-first, going-next, going-more, going-broken, going-end}
 use Rattle.plan_rules.proofs.levels_keep.Statement.{statement}
 use Rattle.plan_rules.proofs.levels_keep.Tie as tie
 use Rattle.plan_rules.proofs.levels_keep.Reads as reads
