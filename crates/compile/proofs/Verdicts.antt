@@ -28,9 +28,10 @@ use Rattle.accepted_file.specs.AcceptedFile.{AcceptedFile, flag}
 use Rattle.checks.specs.Checked.{bitOf, Checked, verdictOf, allFault, readVerdict, fileVerdict}
 use Rattle.checks.specs.declared.Verdict.{Verdict}
 use Rattle.checks.specs.declared.Verdict.the-variants as Ve
-use Rattle.compile.specs.Endings.{endingOutcome, callVerdict, Memory, memory, memoryBy}
+use Rattle.endings.specs.Endings.{endingOutcome}
+use Rattle.compile.specs.Memories.{callVerdict, Memory, memory, memoryBy}
 use Rattle.levels.specs.Written.{unleveled, betweenLevels, writtenOf}
-use Rattle.compile.specs.declared.Ending.the-variants.{Planned, Refused}
+use Rattle.endings.specs.declared.Ending.the-variants.{Planned, Refused}
 use Rattle.levels.specs.declared.Written.{Written}
 
 -- 1 and 2

@@ -9,24 +9,18 @@ ghost use Rattle.rules.specs.Demand3.{Demand3};
 ghost use Rattle.state.specs.Levels as StateLevels;
 ghost use Rattle.file.specs.Tables.{tablesOf};
 ghost use Rattle.accepted_file.specs.AcceptedFile.{AcceptedFile};
-ghost use Rattle.compile.specs.Endings.{endingOutcome, lengthOf, answerOf, Within, callVerdict, memory};
-ghost use Rattle.compile.specs.Endings.{memoryBy};
+ghost use Rattle.endings.specs.Endings.{endingOutcome, Within};
+ghost use Rattle.compile.specs.Memories.{callVerdict, memory, memoryBy};
 ghost use Rattle.checks.specs.Checked.{fileVerdict};
 use checks::Verdict;
 use checks::verify;
+use endings::Ending;
 use file::INDEX;
 use levels::write;
-use zeroes::zero;
 
 const FILE_LIMIT: usize = 32768;
 
 const WORK_LIMIT: usize = 65536;
-
-// The plan's length, or the number of the refusal.
-pub enum Ending {
-    Planned(usize),
-    Refused(u8),
-}
 
 // What an accepted file comes to.
 fn accepted(file: &[u8], index: &[u16], plan: &mut [u8], work: &mut [u8]) -> Ending
@@ -98,28 +92,6 @@ fn decide(file: &[u8], plan: &mut [u8], work: &mut [u8]) -> Ending
     checked(file, plan, work)
 }
 
-impl Ending {
-    // How many bytes the plan has.
-    fn length(self) -> usize
-        ensures { λ r. ⌜ r ≡ lengthOf self ⌝ }
-    {
-        match self {
-            Ending::Planned(n) => n,
-            Ending::Refused(_) => 0,
-        }
-    }
-
-    // What the engine is told: the refusal's number × 65,536 + the plan's length.
-    fn answer(self) -> u64
-        ensures { λ r. ⌜ r ≡ answerOf self ⌝ }
-    {
-        match self {
-            Ending::Planned(n) => n as u64,
-            Ending::Refused(n) => (n as u64) * 65536,
-        }
-    }
-}
-
 // The plan of a rule file, written to the front of the plan buffer; afterwards the work area is all zero, and so is the rest of the plan
 // buffer.
 #[no_mangle]
@@ -147,7 +119,5 @@ pub extern "C" fn sinalvento_compile(file: &[u8], plan: &mut [u8], work: &mut [u
         ) ⌝ }
 {
     let e = decide(file, plan, work);
-    zero(work, 0);
-    zero(plan, e.length());
-    e.answer()
+    e.finish(plan, work)
 }

@@ -1,5 +1,5 @@
 use mathlib.Core.Path.{sym, _∙_}
-use Rattle.compile.proofs.Ends.{bytes}
+use Rattle.endings.proofs.Ends.{bytes}
 use Rattle.compile.proofs.Verdicts.{ready, accepted-outcome, refused-outcome, file-decides, refused-memory, left-by}
 use borrow.Author.Needs.{needs}
 use Rattle.compile.proofs.checked.Statement.{statement}

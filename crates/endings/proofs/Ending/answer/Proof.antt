@@ -1,8 +1,8 @@
 use mathlib.Core.Path.{sym, ap}
-use Rattle.compile.specs.Endings.{answerOf}
+use Rattle.endings.specs.Endings.{answerOf}
 use borrow.Author.Needs.{needs}
-use Rattle.compile.proofs.Ending.answer.Statement.{statement}
-use Rattle.compile.proofs.Ending.answer.Tie as tie
+use Rattle.endings.proofs.Ending.answer.Statement.{statement}
+use Rattle.endings.proofs.Ending.answer.Tie as tie
 
 enum-known-self : tie.Need-enum-known-self
 enum-known-self c = search needs
