@@ -228,7 +228,8 @@ whole-plan =
     whole-bind _ (steady-counted steady-diagnostic) λ ds.
     whole-end _
 
-not-got : {A B : Type 0} (n : ℕ) (a : A) (rest : List ℕ) → Reader.numbered (refused n) ≡ got a rest → B
+-- a refusal is nothing that was read
+pub not-got : {A B : Type 0} (n : ℕ) (a : A) (rest : List ℕ) → Reader.numbered (refused n) ≡ got a rest → B
 unfolding Reader.numbered
 not-got {A} {B} n a rest = by-test (λ r. r ≡ got a rest → B) (eqb n 3) (λ q e. absurd (let z : _≡_ {A = ℕ} 0 1 = cc in omega arith)) (λ q e. absurd (let z : _≡_ {A = ℕ} 0 1 = cc in omega arith))
 

@@ -7,7 +7,8 @@ use Prim.Native.Nat.{ℕ, _+_, _-_, _*_, _/_, _%_, _≤_, _<_, min}
 use native.Mathlib.Omega.{arith}
 use borrow.Author.Tests.{lt-leb}
 use lib.Dec.{leb}
-use lib.ListN.{length}
+use lib.ListN.{length, take}
+use lib.Seq.{take-at}
 use Rattle.rules.specs.Base.{Each, all}
 use Rattle.rules.specs.Limits.{planLimit}
 use Rattle.rules.specs.Read.{Read, got}
@@ -15,34 +16,16 @@ use Rattle.rules.specs.Placement.{Guide, SeekKey, joined}
 use Rattle.rules.specs.Plan.{PlanLevel, Plan, planBytes}
 use Rattle.rules.specs.Compile.{Outcome, Compiled, returned, buffer, compiled}
 use Rattle.rules.specs.Demand1.{Byte, zeros, Among, Demand1}
-use Rattle.rules.specs.Demand3.{number, seekRange, seekEdges}
+use Rattle.rules.specs.Demand3.{number, seekEdges}
 use Rattle.rules.specs.Reader
 use Rattle.rules.specs.Reader.{levelRules, readerRefusals}
+use Rattle.rules.specs.ReadAgain.{SeekKept, RulesKept, ReadAgain}
 use Rattle.rules.proofs.Cases.{by-test, by-option, true≢false, some≢none, some-injective, leb-le, eqb-eq, both-left, both-right}
 use Rattle.rules.proofs.Each.{each-imply, each-passes}
 use Rattle.rules.proofs.Kept.{same-path}
 use Rattle.rules.proofs.Demand1.{numbersFrom, among-from, Ends, demand1-planned, demand1-refused}
+use Rattle.rules.proofs.ReaderCuts.{not-got}
 use Rattle.rules.proofs.ReaderWrites.{Reading, whole, ends-or-unknown, reading}
-
--- what a seek of each kind keeps
-abbrev pub SeekKept : SeekKey → Option Guide → Type 0
-SeekKept (SeekKey.Prefix bytes) g = Unit {0}
--- "uses Composite only where some part isn't bytes"
-SeekKept (SeekKey.Composite parts) g = joined parts ≡ none
--- "a guide beside a range has the range's path"
-SeekKept (SeekKey.PrefixRange parts range) g = (h : Guide) → g ≡ some h → h .path ≡ range .path
--- "has an edge if Bounded"; "an edge excludes range and guide"
-SeekKept (SeekKey.Bounded parts lo hi) g = (0 < number lo + number hi) × (g ≡ none)
-
--- what holds of every level of an accepted plan
-pub record RulesKept (l : PlanLevel) : Type 0 where
-  -- "narrowings = parts - closers + residuals + ranges + guides", with closers at most parts
-  pub closers-most : l .closers ≤ l .parts
-  pub sum : l .narrowings ≡ l .parts - l .closers + length (l .residuals) + number (seekRange (l .seek)) + number (l .guide)
-  -- "edges = folded, at most 2"
-  pub edges-folded : seekEdges (l .seek) ≡ length (l .folded)
-  pub edges-most : seekEdges (l .seek) ≤ 2
-  pub seek-keeps : SeekKept (l .seek) (l .guide)
 
 pub number-most : {A : Type 0} (o : Option A) → number o ≤ 1
 unfolding number
@@ -83,6 +66,15 @@ rules-kept l e =
       edges-most = edges-most (l .seek);
       seek-keeps = seek-kept (l .seek) (l .guide) (both-right (Reader.edgesFolded l) _ g);
     }
+
+-- 16 and 17 apart, `read` is `plan`
+plan-read : (bytes : List ℕ) (p : Plan) → Reader.read bytes ≡ got p [] → Reader.plan bytes ≡ got p []
+unfolding Reader.read Reader.numbered
+plan-read bytes p e = go (Reader.plan bytes) e
+  where
+    go : (x : Read Plan) → Reader.numbered x ≡ got p [] → x ≡ got p []
+    go (got q rest) r = r
+    go (Read.refused n) r = not-got n p [] r
 
 -- an accepted plan: it is the one plan of these bytes, they fit, and its levels keep the rules
 pub record Accepted (bytes : List ℕ) (room : ℕ) (p : Plan) : Type 0 where
@@ -170,3 +162,21 @@ pub reader-demand1 : (bytes out work : List ℕ) → Each Byte bytes
     → Demand1 readerRefusals (Reader.readBack bytes out work .result) out work (Reader.readBack bytes out work .plan) (Reader.readBack bytes out work .work)
 unfolding Reader.readBack
 reader-demand1 bytes out work h = ends bytes out work (shape bytes h (length out))
+
+-- What an accepted plan is, said of what the call returned and left.
+read-again : (bytes out work : List ℕ) {o : Outcome} → Shape bytes (length out) o → let c = compiled o (length out) (length work) in c .result < 65536 → ReadAgain bytes (take (c .result) (c .plan))
+unfolding compiled returned buffer
+read-again bytes out work (Shape.accepted p a) h =
+    let front : take (length bytes) (bytes ++ zeros (length out - length bytes)) ≡ bytes = take-at bytes _ (length bytes) refl in
+    record {
+      same = front;
+      is = p;
+      read = ap Reader.plan front ∙ plan-read bytes p (a .read);
+      written-back = a .written-back ∙ sym front;
+      kept = a .kept;
+    }
+read-again bytes out work (Shape.refused {n} l m) h = absurd (omega arith)
+
+pub reader-again : (bytes out work : List ℕ) → Each Byte bytes → let c = Reader.readBack bytes out work in c .result < 65536 → ReadAgain bytes (take (c .result) (c .plan))
+unfolding Reader.readBack
+reader-again bytes out work h = read-again bytes out work (shape bytes h (length out))

@@ -17,3 +17,4 @@ pub mod Compile
 pub mod Demand1
 pub mod Demand3
 pub mod Reader
+pub mod ReadAgain
