@@ -1,5 +1,6 @@
 /*
- * Sinalvento: rule files to query plans, by a compile function that is proved.
+ * Sinalvento: rule files to query plans, and plans read back, by functions that
+ * are proved.
  *
  * For C99 or later, or C++, on x86-64 Linux. `tools/archive` proves the
  * functions below and writes target/staticlib/libsinalvento.a, which needs
@@ -34,12 +35,12 @@ extern "C" {
 #define SINALVENTO_MAX_FILE 32768
 /* The most bytes that a plan may have: a plan buffer of this size is always long enough. */
 #define SINALVENTO_MAX_PLAN 16384
-/* The fewest bytes that a work area may have. */
+/* The fewest bytes that a compile's work area may have; the plan reader takes any. */
 #define SINALVENTO_MIN_WORK 65536
-/* A thread's stack of so many bytes is enough for a call on any file (128 KiB). */
+/* A thread's stack of so many bytes is enough for any call (128 KiB). */
 #define SINALVENTO_STACK 131072
 
-/* Why a file was refused. Places run downwards. */
+/* Why a file (1 to 15) or a plan (15 to 18) was refused. Places run downwards. */
 enum sinalvento_refusal {
     SINALVENTO_ACCEPTED = 0,
     /* lent memory */
@@ -61,7 +62,13 @@ enum sinalvento_refusal {
     SINALVENTO_PATH = 14,         /* Field binding with steps + depth of its type above 16,
                                      or fetched path above 15 steps */
     /* writing */
-    SINALVENTO_PLAN_TOO_LONG = 15 /* plan longer than 16,384 bytes or than the plan buffer */
+    SINALVENTO_PLAN_TOO_LONG = 15, /* plan longer than 16,384 bytes or than the plan buffer */
+    /* reading a plan: the first of the two met front to back */
+    SINALVENTO_PLAN_ENDS = 16, /* plan ends early */
+    SINALVENTO_PLAN_BYTE = 17, /* byte of the plan without a meaning, path with more steps
+                                  than a path holds, or bytes left over */
+    /* a plan's levels, when all was read */
+    SINALVENTO_PLAN_RULE = 18 /* level of the plan breaks a rule of every level */
 };
 
 /*
@@ -88,6 +95,35 @@ enum sinalvento_refusal {
 uint64_t sinalvento_compile(const uint8_t *file, size_t file_len,
                             uint8_t *plan, size_t plan_len,
                             uint8_t *work, size_t work_len);
+
+/*
+ * Reads the plan at `plan` and writes it back to the same bytes at `out`, for
+ * viewers and tools that draw plans. What is accepted can be taken apart by
+ * docs/FORMAT.md without a further test: every count is followed by its items,
+ * every kind is one that is told there, and the plan ends where it should. Every
+ * plan that sinalvento_compile writes is accepted.
+ *
+ * Refused, in this order: by 15, before a byte is read, where the plan is longer
+ * than 16,384 bytes or than `out`; by 16 where it ends early, or by 17 at a seek,
+ * part, edge, guide, op, anchor, slot or code without a meaning, at a path with
+ * more steps than a path holds, or where bytes are left over, whichever is met
+ * first; by 18, when all was read, where a level breaks one of these rules:
+ *
+ *   - closers are at most parts;
+ *   - narrowings = parts - closers + residuals + range + guide;
+ *   - there are as many edges as folded comparisons;
+ *   - a Composite seek has a part that isn't bytes;
+ *   - a guide beside a range has the range's path;
+ *   - a Bounded seek has an edge, and no guide.
+ *
+ * Slices, result and what is left in the lent memory are as sinalvento_compile's,
+ * with `out` for the plan buffer. The work area may have any length, none
+ * included: it is left zero, and nothing else is done with it. Stack: as above.
+ * Time: it grows with the plan's length alone, whatever the bytes are.
+ */
+uint64_t sinalvento_read(const uint8_t *plan, size_t plan_len,
+                         uint8_t *out, size_t out_len,
+                         uint8_t *work, size_t work_len);
 
 /* A result's refusal, or SINALVENTO_ACCEPTED. */
 static inline enum sinalvento_refusal sinalvento_refusal_of(uint64_t result)

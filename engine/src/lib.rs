@@ -64,8 +64,9 @@
 //!
 //! [`explain`] says where and why a file is refused, or what its plan reports;
 //! [`text`] has rule files as text; [`RuleFile`] and [`Plan`] are the two formats as
-//! data, and [`Plan::shown`] is a plan in words. All this is ordinary Rust beside
-//! the proved function, and tested against it.
+//! data. [`Plan::open`] has a plan's bytes accepted by the proved reader first;
+//! [`Plan::shown`] and [`Plan::described`] are a plan in words. All this is ordinary
+//! Rust beside the proved functions, and tested against them.
 //!
 //! # Memory, stack and time
 //!
@@ -96,7 +97,7 @@ pub mod text;
 pub use buffers::Buffers;
 pub use diagnostic::Diagnostic;
 pub use explain::{Accepted, Explanation, Fault, Note, Overlooked, explain};
-pub use exported::call;
+pub use exported::{call, call_read};
 pub use plan::Plan;
 pub use refusal::{Place, Refusal};
 pub use rules::RuleFile;
@@ -128,9 +129,28 @@ pub fn compile_into<'a>(
     work: &mut [u8],
 ) -> Result<&'a [u8], Refusal> {
     let result = call(file, plan, work);
+    written(result, plan)
+}
+
+/// Reads a plan's bytes and writes them back to `out`, where the plan is one that
+/// a viewer may draw; [`Plan::open`] then has it as data.
+///
+/// Every plan that a compile writes is accepted. Any other bytes are refused by
+/// 15 to 18: [`PlanTooLong`](Refusal::PlanTooLong) by the lengths alone,
+/// [`PlanEnds`](Refusal::PlanEnds), [`PlanByte`](Refusal::PlanByte) and
+/// [`PlanRule`](Refusal::PlanRule). The work area may have any length, none
+/// included. Afterwards it is all zero, and so is `out` past the plan, or whole
+/// after a refusal.
+pub fn read_into<'a>(plan: &[u8], out: &'a mut [u8], work: &mut [u8]) -> Result<&'a [u8], Refusal> {
+    let result = call_read(plan, out, work);
+    written(result, out)
+}
+
+/// What an exported function wrote, or its refusal.
+fn written(result: u64, output: &[u8]) -> Result<&[u8], Refusal> {
     let (number, length) = (result >> 16, result & 0xFFFF);
     if number == 0 {
-        return Ok(&plan[..length as usize]);
+        return Ok(&output[..length as usize]);
     }
     Err(Refusal::given(number))
 }

@@ -1,11 +1,12 @@
 use std::error::Error;
 use std::fmt;
 
-/// Why a file was refused, by the number the exported function gives.
+/// Why a file or a plan was refused, by the number the exported function gives.
 ///
-/// Places run downwards, from 1 to 15. While reading (3 to 7) the first fault
-/// met front to back is given; of the whole-file checks (8 to 14) each is tried
-/// over the whole file before the next.
+/// A compile's places run downwards, from 1 to 15. While reading (3 to 7) the
+/// first fault met front to back is given; of the whole-file checks (8 to 14) each
+/// is tried over the whole file before the next. The plan reader gives 15 by the
+/// lengths alone, then the first of 16 and 17 that is met, and 18 last.
 #[derive(Debug, Clone, Copy, PartialEq, Eq, PartialOrd, Ord, Hash)]
 #[non_exhaustive]
 pub enum Refusal {
@@ -39,6 +40,14 @@ pub enum Refusal {
     Path,
     /// The plan does not fit, by [`MAX_PLAN`](crate::MAX_PLAN) or by its buffer.
     PlanTooLong,
+    /// The plan ends too early.
+    PlanEnds,
+    /// A plan's byte has no meaning, a path has too many steps, or the plan ends
+    /// too late.
+    PlanByte,
+    /// A level of the plan breaks a rule that every compiled level keeps
+    /// ([`LevelRule`](crate::plan::LevelRule)).
+    PlanRule,
     /// A number that this crate has no name for: the archive is newer than the
     /// crate. 255 stands for every number from there on.
     Unknown(u8),
@@ -46,7 +55,7 @@ pub enum Refusal {
 
 use Refusal::*;
 
-/// The part of the compile that refuses.
+/// The part of a call that refuses.
 #[derive(Debug, Clone, Copy, PartialEq, Eq, PartialOrd, Ord, Hash)]
 #[non_exhaustive]
 pub enum Place {
@@ -58,13 +67,17 @@ pub enum Place {
     WholeFile,
     /// The plan: 15.
     Writing,
+    /// A plan's bytes, front to back: 16 and 17.
+    PlanReading,
+    /// A plan's levels, when all was read: 18.
+    PlanLevels,
     /// A part that this crate does not know.
     Unknown,
 }
 
 impl Refusal {
     /// All that have a name here, in order.
-    pub const ALL: [Refusal; 15] = [
+    pub const ALL: [Refusal; 18] = [
         FileTooLong,
         WorkTooShort,
         Ends,
@@ -80,6 +93,9 @@ impl Refusal {
         NotConstant,
         Path,
         PlanTooLong,
+        PlanEnds,
+        PlanByte,
+        PlanRule,
     ];
 
     /// The number that the exported function gives.
@@ -100,6 +116,9 @@ impl Refusal {
             NotConstant => 13,
             Path => 14,
             PlanTooLong => 15,
+            PlanEnds => 16,
+            PlanByte => 17,
+            PlanRule => 18,
             Unknown(number) => number,
         }
     }
@@ -116,18 +135,20 @@ impl Refusal {
         Self::from_number(number).unwrap_or_else(unnamed)
     }
 
-    /// The part of the compile that refuses.
+    /// The part of a call that refuses.
     pub const fn place(self) -> Place {
         match self.number() {
             1..=2 => Place::LentMemory,
             3..=7 => Place::Reading,
             8..=14 => Place::WholeFile,
             15 => Place::Writing,
+            16..=17 => Place::PlanReading,
+            18 => Place::PlanLevels,
             _ => Place::Unknown,
         }
     }
 
-    /// When it is given, in the words of the format's paper.
+    /// When it is given, in the words of the format's papers.
     pub const fn words(self) -> &'static str {
         match self {
             FileTooLong => "file above 32,768 bytes",
@@ -148,6 +169,12 @@ impl Refusal {
                  or fetched path above 15 steps"
             }
             PlanTooLong => "plan longer than 16,384 bytes or than the plan buffer",
+            PlanEnds => "plan ends early",
+            PlanByte => {
+                "byte of the plan without a meaning, path with more steps than a path holds, \
+                 or bytes left over"
+            }
+            PlanRule => "level of the plan breaks a rule of every level",
             Unknown(_) => "a refusal that this version of the crate does not know",
         }
     }
@@ -168,6 +195,8 @@ impl fmt::Display for Place {
             Place::Reading => "reading",
             Place::WholeFile => "whole file",
             Place::Writing => "writing",
+            Place::PlanReading => "reading the plan",
+            Place::PlanLevels => "the plan's levels",
             Place::Unknown => "unknown",
         })
     }
@@ -179,7 +208,7 @@ mod tests {
 
     #[test]
     fn a_number_without_a_name_is_kept() {
-        for number in [16, 24, 255] {
+        for number in [19, 24, 255] {
             let refusal = Refusal::given(number);
             assert_eq!(u64::from(refusal.number()), number);
             assert_eq!(refusal.place(), Place::Unknown);

@@ -197,7 +197,9 @@ fn declared_by_the_header() -> Functions {
 #[test]
 fn header_and_crate_declare_what_is_exported() {
     let exported = exported_by_rattle();
-    assert!(exported.contains_key("sinalvento_compile"));
+    for name in ["sinalvento_compile", "sinalvento_read"] {
+        assert!(exported.contains_key(name), "{name}");
+    }
     assert_eq!(declared_by_the_header(), exported);
     assert_eq!(declared_by_the_crate(), exported);
 }

@@ -10,7 +10,7 @@ fn compiler() -> String {
 }
 
 #[test]
-fn a_c_program_compiles_d1() {
+fn a_c_program_compiles_d1_and_reads_its_plan() {
     let here = Path::new(env!("CARGO_MANIFEST_DIR"));
     let program = Path::new(env!("CARGO_TARGET_TMPDIR")).join("d1");
     let built = Command::new(compiler())
@@ -96,7 +96,7 @@ fn the_header_has_every_refusal() {
     let plain = plain.join(" ");
     for refusal in sinalvento::Refusal::ALL {
         let (number, words) = (refusal.number(), refusal.words());
-        let comma = if number == 15 { "" } else { "," };
+        let comma = if number == 18 { "" } else { "," };
         let line = format!("= {number}{comma} /* {words} */");
         assert!(plain.contains(&line), "{line}");
     }

@@ -1,47 +1,159 @@
-//! Plans opened, shown and written back.
+//! Plans opened, shown and written back; bytes that are no plan.
 
 mod drawn;
 mod files;
 
-use sinalvento::{Buffers, Plan, RuleFile, compile};
+use std::collections::BTreeMap;
+
+use sinalvento::plan::{LevelRule, PlanFault, Seek};
+use sinalvento::{Buffers, MAX_PLAN, Plan, Refusal, RuleFile, compile, read_into};
+
+/// The plans of the fixed list's accepted files.
+fn plans() -> Vec<Vec<u8>> {
+    let mut buffers = Buffers::new();
+    let files = drawn::fixed().into_iter();
+    files
+        .filter_map(|file| compile(&file, &mut buffers).ok().map(<[u8]>::to_vec))
+        .collect()
+}
 
 #[test]
-fn every_plan_is_written_back() {
+fn every_plan_is_opened_and_written_back() {
     let mut buffers = Buffers::new();
     let mut count = 0;
     drawn::each(20_000, |file| {
         if let Ok(bytes) = compile(file, &mut buffers) {
-            let plan = Plan::read(bytes).expect("a plan");
-            assert_eq!(plan.write(), bytes);
+            let plan = Plan::open(bytes).expect("a plan");
+            assert_eq!(plan.to_bytes(), bytes);
+            assert_eq!(PlanFault::of(bytes), None);
             let rules = RuleFile::read(file).expect("it was read");
             let shown = plan.shown(&rules).to_string();
             assert!(!shown.contains("part: hex"), "{shown}");
+            assert!(!plan.described(&rules).to_string().contains("seek hex"));
             count += 1;
         }
     });
     assert!(count > 1_000, "{count}");
 }
 
-/// Whatever the bytes are, they are opened or not, and shown.
+/// Whatever the bytes are, they are opened or refused; the place that is told
+/// has the same refusal, and lies within the bytes.
+fn tried(bytes: &[u8], met: &mut BTreeMap<u8, usize>) {
+    let opened = Plan::open(bytes);
+    let fault = PlanFault::of(bytes);
+    assert_eq!(
+        opened.as_ref().err().copied(),
+        fault.map(PlanFault::refusal),
+        "{bytes:02x?}"
+    );
+    let number = fault.map_or(0, |fault| fault.refusal().number());
+    *met.entry(number).or_default() += 1;
+    if let Some(fault) = fault {
+        assert!(fault.offset() <= bytes.len(), "{fault}");
+    }
+    if let Ok(plan) = opened {
+        assert_eq!(plan.to_bytes(), bytes);
+        let _ = plan.to_string();
+    }
+}
+
 #[test]
 fn bytes_that_are_no_plan() {
-    let mut buffers = Buffers::new();
-    let plans: Vec<Vec<u8>> = drawn::fixed()
-        .iter()
-        .filter_map(|file| compile(file, &mut buffers).ok().map(<[u8]>::to_vec))
-        .collect();
+    let plans = plans();
     let mut rng = drawn::Rng(3);
+    let mut met = BTreeMap::new();
     for _ in 0..20_000 {
         let plan = &plans[rng.below(plans.len())];
-        let bytes = drawn::damaged(&mut rng, plan);
-        if let Ok(plan) = Plan::read(&bytes) {
-            assert_eq!(plan.write(), bytes);
-            let _ = plan.to_string();
+        tried(&drawn::damaged(&mut rng, plan), &mut met);
+        let noise: Vec<u8> = (0..rng.below(60)).map(|_| rng.below(4) as u8).collect();
+        tried(&noise, &mut met);
+    }
+    tried(&[0; MAX_PLAN + 1], &mut met);
+    for number in [0, 15, 16, 17, 18] {
+        assert!(met.contains_key(&number), "{number} of {met:?}");
+    }
+}
+
+/// A plan that is cut short ends early, wherever it is cut.
+#[test]
+fn a_plan_that_is_cut_short() {
+    for plan in plans().iter().filter(|plan| plan.len() < 500) {
+        for length in 0..plan.len() {
+            assert_eq!(Plan::open(&plan[..length]), Err(Refusal::PlanEnds));
+            assert_eq!(
+                PlanFault::of(&plan[..length]),
+                Some(PlanFault::Ends(length))
+            );
         }
     }
-    for plan in plans.iter().filter(|plan| plan.len() < 500) {
-        assert!((0..plan.len()).all(|length| Plan::read(&plan[..length]).is_err()));
+}
+
+/// D1's plan with so many bytes of it changed: offset, byte.
+fn changed(changes: &[(usize, u8)]) -> Vec<u8> {
+    let mut bytes = files::d1_plan();
+    for &(at, byte) in changes {
+        bytes[at] = byte;
     }
+    bytes
+}
+
+#[test]
+fn faults_have_a_place() {
+    let level = |rule: LevelRule| PlanFault::Level {
+        level: 0,
+        offset: 2,
+        rule,
+    };
+    for (bytes, fault) in [
+        (changed(&[(8, 4)]), PlanFault::Byte(8)),
+        (changed(&[(9, 3)]), PlanFault::Byte(9)),
+        (changed(&[(27, 16)]), PlanFault::Byte(27)),
+        ([files::d1_plan(), vec![0]].concat(), PlanFault::Follows(41)),
+        (changed(&[(2, 3)]), level(LevelRule::NarrowingsSum)),
+        (changed(&[(4, 2)]), level(LevelRule::ClosersAmongParts)),
+        (vec![0; MAX_PLAN + 1], PlanFault::TooLong),
+    ] {
+        assert_eq!(PlanFault::of(&bytes), Some(fault));
+        assert_eq!(Plan::open(&bytes), Err(fault.refusal()));
+    }
+    let fault = PlanFault::of(&changed(&[(2, 3)])).expect("it is refused");
+    assert_eq!(
+        fault.to_string(),
+        "refused by 18: level of the plan breaks a rule of every level\n  \
+         at offset 2 (2 hex): level 0: narrowings = parts - closers + residuals + range + guide"
+    );
+}
+
+/// The reader's memory: any work area, an output buffer of the plan's length.
+#[test]
+fn memory_of_the_reader() {
+    let plan = files::d1_plan();
+    for room in [plan.len(), plan.len() + 1, MAX_PLAN, 2 * MAX_PLAN] {
+        for work in [0, 1, 100_000] {
+            let (mut out, mut work) = (vec![7; room], vec![7; work]);
+            assert_eq!(read_into(&plan, &mut out, &mut work), Ok(plan.as_slice()));
+            assert!(out[plan.len()..].iter().all(|&byte| byte == 0));
+            assert!(work.iter().all(|&byte| byte == 0));
+        }
+    }
+    for room in [0, 1, plan.len() - 1] {
+        let mut out = vec![7; room];
+        let outcome = read_into(&plan, &mut out, &mut []);
+        assert_eq!(outcome, Err(Refusal::PlanTooLong));
+        assert!(out.iter().all(|&byte| byte == 0));
+    }
+}
+
+/// What a viewer changes in a plan's data is judged anew by its bytes.
+#[test]
+fn changed_data_is_judged_by_its_bytes() {
+    let mut plan = Plan::open(&files::d1_plan()).expect("a plan");
+    assert_eq!(plan.levels[0].broken(), None);
+    plan.levels[0].seek = Seek::Prefix(vec![]);
+    assert_eq!(plan.levels[0].broken(), Some(LevelRule::NarrowingsSum));
+    assert_eq!(Plan::open(&plan.to_bytes()), Err(Refusal::PlanRule));
+    plan.levels[0].narrowings = 1;
+    assert_eq!(Plan::open(&plan.to_bytes()), Ok(plan));
 }
 
 /// A mistyped prefix is reported and leaves no part; a name with two values has
@@ -63,7 +175,7 @@ fn fields_are_named_only_where_they_are_sure() {
         let text = format!("predicate p: {{ a: Int, b: Int }} {rules}");
         let rules = sinalvento::text::parse(&text).expect("it parses").rules;
         let bytes = compile(&rules.write(), &mut buffers).expect("it is accepted");
-        let shown = Plan::read(bytes).expect("a plan").shown(&rules).to_string();
+        let shown = Plan::open(bytes).expect("a plan").shown(&rules).to_string();
         assert!(shown.contains(line), "{shown}");
     }
 }
@@ -71,7 +183,7 @@ fn fields_are_named_only_where_they_are_sure() {
 #[test]
 fn d1_as_people_read_it() {
     let rules = RuleFile::read(&files::d1()).expect("D1 reads");
-    let plan = Plan::read(&files::d1_plan()).expect("a plan");
+    let plan = Plan::open(&files::d1_plan()).expect("a plan");
     assert_eq!(
         plan.shown(&rules).to_string(),
         "level 0: p0 in r0, seek PrefixRange, 2 narrowings, 1 part\n    part: room = 7\n    range: tag = \"k\"..\n"
@@ -80,4 +192,40 @@ fn d1_as_people_read_it() {
         plan.to_string(),
         "level 0: seek PrefixRange, 2 narrowings, 1 part\n    part: 7\n    range: [1] = \"k\"..\n"
     );
+    assert_eq!(
+        plan.described(&rules).to_string(),
+        "level 0 (p0 in r0): seek prefix \"k\" of field 1 (tag) after room = 7\n"
+    );
+}
+
+/// Each kind of seek as a sentence.
+#[test]
+fn sentences() {
+    let mut buffers = Buffers::new();
+    for (rules, sentence) in [
+        ("level p { a = _ }", "every fact"),
+        ("level p { a = 1, b = \"x\" }", "a = 1, b = \"x\""),
+        ("level p { b = \"x\".. }", "every fact"),
+        ("level q(\"x\"..)", "prefix \"x\" of field 0 (key)"),
+        (
+            "level p { a = n } where n >= 3 where 9 > n",
+            "a >= 3 and a < 9",
+        ),
+        (
+            "level p { a = 1, b = t } where t < \"m\"",
+            "b < \"m\" after a = 1",
+        ),
+        (
+            "level q(t) level p { a = 1, b = t } in r1",
+            "a = 1, b = r0.key",
+        ),
+    ] {
+        let text = format!("predicate p: {{ a: Int, b: Str }} predicate q: Str {rules}");
+        let rules =
+            sinalvento::text::parse(&text).unwrap_or_else(|fault| panic!("{text}: {fault}"));
+        let bytes = compile(&rules.rules.write(), &mut buffers).expect("it is accepted");
+        let plan = Plan::open(bytes).expect("a plan");
+        let told = plan.described(&rules.rules).to_string();
+        assert!(told.contains(&format!("seek {sentence}\n")), "{told}");
+    }
 }

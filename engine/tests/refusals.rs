@@ -1,10 +1,10 @@
-//! The fifteen refusals: their numbers, their words, and a file for each.
+//! The refusals: their numbers, their words, and a file or a plan for each.
 
 mod files;
 
 use sinalvento::{Buffers, MAX_PLAN, MIN_WORK, Place, Refusal, compile, compile_into};
 
-const WORDS: [(u8, &str, &str); 15] = [
+const WORDS: [(u8, &str, &str); 18] = [
     (1, "lent memory", "file above 32,768 bytes"),
     (2, "lent memory", "work area below 65,536 bytes"),
     (3, "reading", "bytes end inside a count or record"),
@@ -40,6 +40,17 @@ const WORDS: [(u8, &str, &str); 15] = [
         "writing",
         "plan longer than 16,384 bytes or than the plan buffer",
     ),
+    (16, "reading the plan", "plan ends early"),
+    (
+        17,
+        "reading the plan",
+        "byte of the plan without a meaning, path with more steps than a path holds, or bytes left over",
+    ),
+    (
+        18,
+        "the plan's levels",
+        "level of the plan breaks a rule of every level",
+    ),
 ];
 
 #[test]
@@ -59,7 +70,7 @@ fn every_number_is_converted() {
         let number = u64::from(refusal.number());
         assert_eq!(Refusal::from_number(number), Some(refusal));
     }
-    for number in [0, 16, 255, 65_536, 1 << 40, u64::MAX] {
+    for number in [0, 19, 255, 65_536, 1 << 40, u64::MAX] {
         assert_eq!(Refusal::from_number(number), None);
     }
 }

@@ -7,12 +7,10 @@ use std::collections::HashSet;
 
 use super::Fault;
 use crate::Refusal;
-use crate::rules::{Item, Located, Node, RuleFile, Section, Slot, Type, What};
+use crate::rules::{Item, Located, MAX_STEPS, Node, RuleFile, Section, Slot, Type, What};
 
 /// The deepest type, and the most that a Field's steps and its type's depth sum to.
 const MAX_DEPTH: usize = 16;
-/// The most steps of a fetched path.
-const MAX_STEPS: u64 = 15;
 
 const CHECKS: [fn(&Located) -> Option<Fault>; 7] =
     [number, child, repeat, deep, shared, not_constant, path];
@@ -183,7 +181,7 @@ fn path(located: &Located) -> Option<Fault> {
     });
     binding.or_else(|| {
         let mut items = fields(located, Section::Fetched, &[What::Steps]);
-        let item = items.find(|item| item.value > MAX_STEPS)?;
+        let item = items.find(|item| item.value > MAX_STEPS.into())?;
         let expected = format!("a fetched path of {MAX_STEPS} steps at most");
         Some(fault(
             Refusal::Path,

@@ -69,7 +69,7 @@ fn accepted(file: &[u8]) -> Result<Accepted, Fault> {
 }
 
 fn reported(located: &Located, bytes: &[u8]) -> Accepted {
-    let plan = Plan::read(bytes).unwrap_or_default();
+    let plan = Plan::open(bytes).unwrap_or_default();
     let note = |&(node, diagnostic): &(u16, Diagnostic)| Note {
         diagnostic,
         node,

@@ -1,15 +1,18 @@
 //! A plan as data: levels with their seeks, and what was added to the four lists.
 //!
-//! [`Plan::read`] opens a plan's bytes, [`Plan::write`] gives them back;
-//! [`Plan::shown`] is for people.
+//! [`Plan::open`] opens a plan's bytes, [`Plan::to_bytes`] gives them back;
+//! [`Plan::shown`] and [`Plan::described`] are for people.
 
+mod fault;
+mod keeps;
 mod read;
 mod show;
 mod values;
 mod write;
 
-pub use read::PlanFault;
-pub use show::Shown;
+pub use fault::PlanFault;
+pub use keeps::LevelRule;
+pub use show::{Described, Shown};
 pub use values::{Value, values};
 
 use crate::Diagnostic;

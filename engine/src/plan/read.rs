@@ -1,46 +1,44 @@
 //! A plan opened from its bytes.
 
-use std::error::Error;
-use std::fmt;
-
 use super::*;
-use crate::rules::{NONE, Slot};
-
-/// Why bytes are no plan.
-#[derive(Debug, Clone, Copy, PartialEq, Eq)]
-#[non_exhaustive]
-pub enum PlanFault {
-    /// They end at this offset, inside an item.
-    Ends(usize),
-    /// The byte at this offset has no meaning.
-    Byte(usize),
-    /// The plan ends at this offset, and the bytes do not.
-    Follows(usize),
-}
-
-impl fmt::Display for PlanFault {
-    fn fmt(&self, f: &mut fmt::Formatter<'_>) -> fmt::Result {
-        match self {
-            PlanFault::Ends(at) => write!(f, "the plan ends early, at offset {at}"),
-            PlanFault::Byte(at) => write!(f, "the byte at offset {at} has no meaning in a plan"),
-            PlanFault::Follows(at) => write!(f, "bytes follow the plan, from offset {at} on"),
-        }
-    }
-}
-
-impl Error for PlanFault {}
+use crate::rules::{MAX_STEPS, NONE, Slot};
+use crate::{MAX_PLAN, Refusal, read_into};
 
 type Read<T> = Result<T, PlanFault>;
 
 impl Plan {
-    /// Opens a plan's bytes.
+    /// Opens a plan's bytes: the proved reader accepts or refuses them.
     ///
-    /// This reads the form alone: whether a level keeps the rules that every
-    /// compiled plan keeps is not looked at.
-    pub fn read(bytes: &[u8]) -> Result<Self, PlanFault> {
+    /// Every plan that a compile writes is accepted; [`Plan::to_bytes`] gives the
+    /// very bytes back. [`PlanFault::of`] says where bytes are refused.
+    ///
+    /// ```
+    /// use sinalvento::{Plan, Refusal};
+    ///
+    /// let empty = Plan::open(&[0; 10])?;
+    /// assert!(empty.levels.is_empty());
+    /// assert_eq!(empty.to_bytes(), [0; 10]);
+    /// assert_eq!(Plan::open(&[0; 9]), Err(Refusal::PlanEnds));
+    /// # Ok::<(), Refusal>(())
+    /// ```
+    pub fn open(bytes: &[u8]) -> Result<Self, Refusal> {
+        let mut out = vec![0; bytes.len().min(MAX_PLAN)];
+        let accepted = read_into(bytes, &mut out, &mut [])?;
+        match Self::read(accepted) {
+            Ok((plan, _)) => Ok(plan),
+            Err(fault) => Err(fault.refusal()),
+        }
+    }
+
+    /// The plan that bytes tell by their form alone, and where each level begins.
+    pub(crate) fn read(bytes: &[u8]) -> Result<(Self, Vec<usize>), PlanFault> {
+        let mut starts = vec![];
         let mut reader = Reader { bytes, at: 0 };
         let plan = Plan {
-            levels: reader.list(Reader::level)?,
+            levels: reader.list(|reader| {
+                starts.push(reader.at);
+                reader.level()
+            })?,
             bindings: reader.list(Reader::binding)?,
             constrained: reader.list(Reader::u16)?,
             selects: reader.list(Reader::select)?,
@@ -49,7 +47,7 @@ impl Plan {
         if reader.at < bytes.len() {
             return Err(PlanFault::Follows(reader.at));
         }
-        Ok(plan)
+        Ok((plan, starts))
     }
 }
 
@@ -85,7 +83,7 @@ impl Reader<'_> {
         Err(PlanFault::Byte(self.at - 1))
     }
 
-    fn list<T>(&mut self, each: impl Fn(&mut Self) -> Read<T>) -> Read<Vec<T>> {
+    fn list<T>(&mut self, mut each: impl FnMut(&mut Self) -> Read<T>) -> Read<Vec<T>> {
         let count = self.u16()?;
         (0..count).map(|_| each(self)).collect()
     }
@@ -97,6 +95,9 @@ impl Reader<'_> {
     fn path(&mut self) -> Read<Path> {
         let field = self.u16()?;
         let count = self.u8()?;
+        if count > MAX_STEPS {
+            return self.meaningless();
+        }
         let steps: Read<Vec<u32>> = (0..count).map(|_| self.u32()).collect();
         Ok(Path {
             field,
@@ -221,6 +222,10 @@ impl Reader<'_> {
     }
 
     fn diagnostic(&mut self) -> Read<(u16, Diagnostic)> {
-        Ok((self.u16()?, Diagnostic::from_code(self.u8()?)))
+        let (node, code) = (self.u16()?, self.u8()?);
+        match Diagnostic::from_code(code) {
+            Diagnostic::Unknown(_) => self.meaningless(),
+            diagnostic => Ok((node, diagnostic)),
+        }
     }
 }

@@ -1,10 +1,11 @@
-//! A plan for people: a line for each part, range, edge, guide and residual.
+//! A plan for people: a line for each part, range, edge, guide and residual, or a
+//! sentence for each seek.
 
 use std::fmt;
 
 use super::values::{Piece, alternative, pieces, prefix, values};
 use super::*;
-use crate::rules::{Node, RuleFile, Slot, Type};
+use crate::rules::{Level, Node, RuleFile, Slot, Type};
 use crate::text::{shown_bytes, shown_name, shown_text};
 
 /// A plan as people read it, with the names of its rule file if that is at hand.
@@ -23,6 +24,39 @@ impl Plan {
             rules: Some(rules),
             predicates: &[],
         }
+    }
+
+    /// The plan in a sentence for each level, such as
+    /// `seek prefix "k" of field 1 (tag) after room = 7`.
+    pub fn described<'a>(&'a self, rules: &'a RuleFile) -> Described<'a> {
+        Described(self.shown(rules))
+    }
+}
+
+/// A plan in sentences, for those who write rules.
+#[derive(Clone, Copy)]
+pub struct Described<'a>(Shown<'a>);
+
+impl<'a> Described<'a> {
+    /// With the predicates' labels, which a rule file does not keep.
+    pub fn labelled(self, predicates: &'a [String]) -> Self {
+        Self(self.0.labelled(predicates))
+    }
+}
+
+impl fmt::Display for Described<'_> {
+    fn fmt(&self, f: &mut fmt::Formatter<'_>) -> fmt::Result {
+        let Described(shown) = self;
+        for (number, level) in shown.plan.levels.iter().enumerate() {
+            let mut cursor = shown.cursor(number);
+            write!(f, "level {number}")?;
+            if let Some(facts) = shown.facts(number) {
+                write!(f, " ({facts})")?;
+            }
+            writeln!(f, ": seek {}", shown.sentence(&level.seek, &mut cursor))?;
+            shown.tests(f, level, cursor.key)?;
+        }
+        shown.lists(f)
     }
 }
 
@@ -50,6 +84,13 @@ impl fmt::Display for Shown<'_> {
         for (number, level) in self.plan.levels.iter().enumerate() {
             self.level(f, number, level)?;
         }
+        self.lists(f)
+    }
+}
+
+impl Shown<'_> {
+    /// What the levels added to the four lists.
+    fn lists(&self, f: &mut fmt::Formatter<'_>) -> fmt::Result {
         for binding in &self.plan.bindings {
             writeln!(
                 f,
@@ -116,24 +157,50 @@ impl<'a> Shown<'a> {
     }
 
     fn level(&self, f: &mut fmt::Formatter<'_>, number: usize, level: &PlanLevel) -> fmt::Result {
-        let of_file = self.rules.and_then(|rules| rules.levels.get(number));
         write!(f, "level {number}: ")?;
-        if let Some(level) = of_file {
-            let predicate = level.predicate;
-            match self.predicates.get(usize::from(predicate)) {
-                Some(label) => write!(f, "{label} in r{}, ", level.address)?,
-                None => write!(f, "p{predicate} in r{}, ", level.address)?,
-            }
+        if let Some(facts) = self.facts(number) {
+            write!(f, "{facts}, ")?;
         }
         writeln!(f, "seek {}", self.headline(level))?;
-        let key = of_file.and_then(|level| self.rules?.key_of(level));
-        let mut cursor = Cursor {
-            key,
+        let mut cursor = self.cursor(number);
+        for line in self.seek(&level.seek, &mut cursor) {
+            writeln!(f, "    {line}")?;
+        }
+        self.tests(f, level, cursor.key)
+    }
+
+    fn of_file(&self, number: usize) -> Option<&'a Level> {
+        self.rules?.levels.get(number)
+    }
+
+    /// Whose facts a level looks for, and into which register.
+    fn facts(&self, number: usize) -> Option<String> {
+        let Level {
+            predicate, address, ..
+        } = *self.of_file(number)?;
+        let label = self.predicates.get(usize::from(predicate));
+        let label = label.map_or_else(|| format!("p{predicate}"), String::clone);
+        Some(format!("{label} in r{address}"))
+    }
+
+    /// A level's key, before its first part.
+    fn cursor(&self, number: usize) -> Cursor<'a> {
+        let level = self.of_file(number);
+        Cursor {
+            key: level.and_then(|level| self.rules?.key_of(level)),
             sure: self.in_order(),
             field: 0,
             open: vec![],
-        };
-        self.seek(f, &level.seek, &mut cursor)?;
+        }
+    }
+
+    /// What each fact found is held against, beside the seek.
+    fn tests(
+        &self,
+        f: &mut fmt::Formatter<'_>,
+        level: &PlanLevel,
+        key: Option<&'a Type>,
+    ) -> fmt::Result {
         if let Some(guide) = &level.guide {
             let (place, _) = self.place(key, &guide.path);
             writeln!(f, "    guide: {place} = {}", self.fuzzy(guide.fuzzy))?;
@@ -163,105 +230,110 @@ impl<'a> Shown<'a> {
         words.join(", ")
     }
 
-    fn seek(
-        &self,
-        f: &mut fmt::Formatter<'_>,
-        seek: &Seek,
-        cursor: &mut Cursor<'a>,
-    ) -> fmt::Result {
+    /// A line for each part, range and edge.
+    fn seek(&self, seek: &Seek, cursor: &mut Cursor<'a>) -> Vec<String> {
+        let parts = self.parts(seek, cursor);
+        let mut lines: Vec<String> = parts.iter().map(|part| format!("part: {part}")).collect();
         match seek {
-            Seek::Prefix(bytes) if bytes.is_empty() => writeln!(f, "    every fact"),
-            Seek::Prefix(bytes) => self.pieces(f, bytes, cursor),
-            Seek::Composite(parts) => self.parts(f, parts, cursor),
-            Seek::PrefixRange(parts, text, path) => {
-                self.parts(f, parts, cursor)?;
+            Seek::Prefix(bytes) if bytes.is_empty() => lines.push(String::from("every fact")),
+            Seek::Prefix(_) | Seek::Composite(_) => {}
+            Seek::PrefixRange(_, text, path) => {
                 let (place, _) = self.place(cursor.key, path);
-                writeln!(f, "    range: {place} = {}", shown_prefix(text))
+                lines.push(format!("range: {place} = {}..", shown_prefix(text)));
             }
-            Seek::Bounded(parts, lo, hi) => {
-                self.parts(f, parts, cursor)?;
-                self.edge(f, lo.as_ref(), [">", ">="], cursor)?;
-                self.edge(f, hi.as_ref(), ["<", "<="], cursor)
+            Seek::Bounded(..) => {
+                let edges = self.edges(seek, cursor);
+                lines.extend(edges.iter().map(|edge| format!("edge: {edge}")));
             }
+        }
+        lines
+    }
+
+    /// The seek in a sentence: what is looked for, after what is known.
+    fn sentence(&self, seek: &Seek, cursor: &mut Cursor<'a>) -> String {
+        let parts = self.parts(seek, cursor);
+        let known = match parts.as_slice() {
+            [] => String::new(),
+            parts => format!(" after {}", parts.join(", ")),
+        };
+        match seek {
+            Seek::Prefix(_) | Seek::Composite(_) if parts.is_empty() => String::from("every fact"),
+            Seek::Prefix(_) | Seek::Composite(_) => parts.join(", "),
+            Seek::PrefixRange(_, text, path) => {
+                let (prefix, mut place) = (shown_prefix(text), in_words(path));
+                if let Some((name, _)) = self.named(cursor.key, path) {
+                    place = format!("{place} ({name})");
+                }
+                format!("prefix {prefix} of {place}{known}")
+            }
+            Seek::Bounded(..) => format!("{}{known}", self.edges(seek, cursor).join(" and ")),
         }
     }
 
-    fn edge(
-        &self,
-        f: &mut fmt::Formatter<'_>,
-        edge: Option<&Edge>,
-        signs: [&str; 2],
-        cursor: &Cursor<'a>,
-    ) -> fmt::Result {
-        let Some(Edge { inclusive, bytes }) = edge else {
-            return Ok(());
+    /// Its edges, lo first.
+    fn edges(&self, seek: &Seek, cursor: &Cursor<'a>) -> Vec<String> {
+        let Seek::Bounded(_, lo, hi) = seek else {
+            return vec![];
         };
         let (place, ty) = self.next_place(cursor);
-        let sign = signs[usize::from(*inclusive)];
-        let value = self.value(bytes, ty);
-        match place {
-            Some(place) => writeln!(f, "    edge: {place} {sign} {value}"),
-            None => writeln!(f, "    edge: {sign} {value}"),
-        }
+        let place = place.map_or_else(String::new, |place| format!("{place} "));
+        let edge = |(edge, signs): (&Option<Edge>, [&str; 2])| {
+            let Edge { inclusive, bytes } = edge.as_ref()?;
+            let sign = signs[usize::from(*inclusive)];
+            Some(format!("{place}{sign} {}", self.value(bytes, ty)))
+        };
+        let both = [(lo, [">", ">="]), (hi, ["<", "<="])];
+        both.into_iter().filter_map(edge).collect()
     }
 
-    fn parts(
-        &self,
-        f: &mut fmt::Formatter<'_>,
-        parts: &[Part],
-        cursor: &mut Cursor<'a>,
-    ) -> fmt::Result {
-        for part in parts {
-            let value = match part {
-                Part::Bytes(bytes) => {
-                    self.pieces(f, bytes, cursor)?;
-                    continue;
-                }
-                Part::RegisterField(address, path) => self.register(*address, path).0,
-                Part::RegisterFact(address) => format!("row r{address}"),
-            };
-            let (place, _) = self.next_place(cursor);
-            writeln!(f, "    part: {}{value}", equal(place))?;
-            cursor.pass();
-        }
-        Ok(())
-    }
-
-    fn pieces(
-        &self,
-        f: &mut fmt::Formatter<'_>,
-        bytes: &[u8],
-        cursor: &mut Cursor<'a>,
-    ) -> fmt::Result {
-        for piece in pieces(bytes) {
-            let (place, ty) = self.next_place(cursor);
-            match piece {
-                Piece::Value(value) => {
-                    let value = value.shown(self.rules, ty);
-                    writeln!(f, "    part: {}{value}", equal(place))?;
-                    cursor.pass();
-                }
-                Piece::Tag(disc) => {
-                    let found = alternative(self.rules, ty, disc);
-                    let name = found.map_or_else(|| disc.to_string(), |(name, _)| name);
-                    let place = place.as_deref().unwrap_or("a union");
-                    writeln!(f, "    part: {place} is {name}")?;
-                    cursor.open.push(disc);
-                }
-                Piece::Closer => {
-                    cursor.open.pop();
-                    let (place, _) = self.next_place(cursor);
-                    writeln!(
-                        f,
-                        "    part: {} ends",
-                        place.as_deref().unwrap_or("a union")
-                    )?;
-                    cursor.pass();
-                }
-                Piece::Other(bytes) => writeln!(f, "    part: {}", shown_bytes(&bytes))?,
+    /// Its parts in words. A Prefix's bytes are all of them, joined.
+    fn parts(&self, seek: &Seek, cursor: &mut Cursor<'a>) -> Vec<String> {
+        match seek {
+            Seek::Prefix(bytes) => self.pieces(bytes, cursor),
+            Seek::Composite(parts) | Seek::PrefixRange(parts, ..) | Seek::Bounded(parts, ..) => {
+                let parts = parts.iter();
+                parts.flat_map(|part| self.part(part, cursor)).collect()
             }
         }
-        Ok(())
+    }
+
+    fn part(&self, part: &Part, cursor: &mut Cursor<'a>) -> Vec<String> {
+        let value = match part {
+            Part::Bytes(bytes) => return self.pieces(bytes, cursor),
+            Part::RegisterField(address, path) => self.register(*address, path).0,
+            Part::RegisterFact(address) => format!("row r{address}"),
+        };
+        let (place, _) = self.next_place(cursor);
+        cursor.pass();
+        vec![format!("{}{value}", equal(place))]
+    }
+
+    fn pieces(&self, bytes: &[u8], cursor: &mut Cursor<'a>) -> Vec<String> {
+        let pieces = pieces(bytes).into_iter();
+        pieces.map(|piece| self.piece(piece, cursor)).collect()
+    }
+
+    fn piece(&self, piece: Piece, cursor: &mut Cursor<'a>) -> String {
+        let (place, ty) = self.next_place(cursor);
+        match piece {
+            Piece::Value(value) => {
+                cursor.pass();
+                format!("{}{}", equal(place), value.shown(self.rules, ty))
+            }
+            Piece::Tag(disc) => {
+                let found = alternative(self.rules, ty, disc);
+                let name = found.map_or_else(|| disc.to_string(), |(name, _)| name);
+                cursor.open.push(disc);
+                format!("{} is {name}", place.as_deref().unwrap_or("a union"))
+            }
+            Piece::Closer => {
+                cursor.open.pop();
+                let (place, _) = self.next_place(cursor);
+                cursor.pass();
+                format!("{} ends", place.as_deref().unwrap_or("a union"))
+            }
+            Piece::Other(bytes) => shown_bytes(&bytes),
+        }
     }
 
     /// Where the next part belongs, if that is sure.
@@ -298,7 +370,7 @@ impl<'a> Shown<'a> {
         let (place, ty) = self.place(key, &residual.path);
         match &residual.op {
             ResidualOp::Bytes(bytes) => format!("{place} = {}", self.value(bytes, ty)),
-            ResidualOp::Prefix(bytes) => format!("{place} = {}", shown_prefix(bytes)),
+            ResidualOp::Prefix(bytes) => format!("{place} = {}..", shown_prefix(bytes)),
             ResidualOp::RegisterField(address, path) => {
                 format!("{place} = {}", self.register(*address, path).0)
             }
@@ -397,9 +469,15 @@ fn numbered(path: &Path) -> String {
     format!("[{}{}]", path.field, steps.collect::<String>())
 }
 
+/// `field 1`, or `field 1, step 0, step 2`.
+fn in_words(path: &Path) -> String {
+    let steps = path.steps.iter().map(|step| format!(", step {step}"));
+    format!("field {}{}", path.field, steps.collect::<String>())
+}
+
 fn shown_prefix(bytes: &[u8]) -> String {
     match prefix(bytes) {
-        Some(text) => format!("{}..", shown_text(&text)),
-        None => format!("{}..", shown_bytes(bytes)),
+        Some(text) => shown_text(&text),
+        None => shown_bytes(bytes),
     }
 }

@@ -4,8 +4,9 @@ use super::*;
 use crate::rules::Writer;
 
 impl Plan {
-    /// The plan's bytes. Counts and lengths are taken modulo their range.
-    pub fn write(&self) -> Vec<u8> {
+    /// The plan's bytes: of a plan that was opened, the very bytes. Counts and
+    /// lengths are taken modulo their range.
+    pub fn to_bytes(&self) -> Vec<u8> {
         let mut bytes = Writer::default();
         bytes.section(&self.levels, level);
         bytes.section(&self.bindings, |bytes, binding| {

@@ -15,6 +15,8 @@ use crate::Fault;
 
 /// The number that stands for no value type and no predicate.
 pub(crate) const NONE: u16 = 0xFFFF;
+/// The most steps that a path holds.
+pub(crate) const MAX_STEPS: u8 = 15;
 
 /// A rule file. A table's numbers are indices into its `Vec`; nothing says that
 /// they are in range before the file is compiled.
