@@ -44,12 +44,24 @@ pub fn compile_within(
     plan_len: usize,
     work_len: usize,
 ) -> Option<Result<Vec<u8>, u8>> {
+    let plan = plan_within(walk, fuel, file, work_len)?;
+    Some(plan.and_then(|plan| plan_bytes(&plan, plan_len)))
+}
+
+/// The plan as data, before it is written; none where the bodies look at more
+/// than `fuel` nodes.
+pub fn plan_within(
+    walk: Walk,
+    fuel: u64,
+    file: &[u8],
+    work_len: usize,
+) -> Option<Result<Plan, u8>> {
     let file = match front(file, work_len) {
         Ok(file) => file,
         Err(number) => return Some(Err(number)),
     };
     match catch_unwind(AssertUnwindSafe(|| walk(&file, fuel))) {
-        Ok(plan) => Some(plan_bytes(&plan, plan_len)),
+        Ok(plan) => Some(Ok(plan)),
         Err(thrown) if thrown.is::<OutOfFuel>() => None,
         Err(thrown) => resume_unwind(thrown),
     }

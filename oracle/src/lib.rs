@@ -15,6 +15,7 @@ pub mod fixed;
 pub mod mutants;
 pub mod plan;
 pub mod read;
+pub mod reread;
 pub mod rng;
 pub mod run;
 pub mod shrink;

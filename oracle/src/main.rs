@@ -18,6 +18,7 @@ const USAGE: &str = "usage:
   oracle coverage SEED COUNT            which branches of the bodies the files reach
   oracle compare PROGRAM SEED COUNT     PROGRAM's lines beside the bodies', smallest differences shown
   oracle fixed                          the fixed list, as fixed/pairs.txt holds it
+  oracle plans                          the fixed list of plans, as fixed/plans.txt holds it
   oracle worst NAME                     a file that is costly to walk, as hex: opened or unions
   oracle mutants SEED COUNT             on how many files each mistake shows (feature `mutants`)";
 
@@ -56,7 +57,8 @@ fn dispatch(words: &[&str]) -> Option<ExitCode> {
         ["survey", seed, count] => Some(look(number(seed)?, number(count)?, max)),
         ["coverage", seed, count] => Some(cover(number(seed)?, number(count)?)),
         ["compare", program, seed, count] => Some(compare(program, number(seed)?, number(count)?)),
-        ["fixed"] => Some(fixed_list()),
+        ["fixed"] => Some(print_list(fixed::list())),
+        ["plans"] => Some(print_list(fixed::plans::list())),
         ["mutants", seed, count] => Some(mutants(number(seed)?, number(count)?)),
         _ => None,
     }
@@ -64,7 +66,7 @@ fn dispatch(words: &[&str]) -> Option<ExitCode> {
 
 fn is_command(words: &[&str]) -> bool {
     let commands = [
-        "plan", "pairs", "survey", "coverage", "compare", "fixed", "mutants",
+        "plan", "pairs", "survey", "coverage", "compare", "fixed", "plans", "mutants",
     ];
     words.first().is_some_and(|word| commands.contains(word))
 }
@@ -155,8 +157,8 @@ fn compare(program: &str, seed: u64, count: u64) -> ExitCode {
     ExitCode::SUCCESS
 }
 
-fn fixed_list() -> ExitCode {
-    print!("{}", fixed::list());
+fn print_list(list: String) -> ExitCode {
+    print!("{list}");
     ExitCode::SUCCESS
 }
 

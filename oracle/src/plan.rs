@@ -70,7 +70,8 @@ pub fn plan_bytes(plan: &Plan, buffer: usize) -> Result<Vec<u8>, u8> {
     Ok(bytes)
 }
 
-fn write_plan(plan: &Plan) -> Vec<u8> {
+/// The plan's bytes, however many there are.
+pub fn write_plan(plan: &Plan) -> Vec<u8> {
     let mut w = Writer::default();
     w.count(plan.levels.len());
     for level in &plan.levels {

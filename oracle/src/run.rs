@@ -1,8 +1,9 @@
 //! Drawn files with the bodies' answers.
 
-use crate::compile::{compile_within, original};
+use crate::compile::{compile_within, original, plan_within};
 use crate::draw;
 use crate::file::{MAX_PLAN, MIN_WORK};
+use crate::plan::{Plan, plan_bytes};
 
 /// Looks at a node that one drawn file may cost before it is left out.
 pub const FUEL: u64 = 2_000_000;
@@ -13,6 +14,14 @@ pub type Answered = (Vec<u8>, Result<Vec<u8>, u8>);
 /// The answer as program `plan` gives it, or none where it costs too much.
 pub fn answer(file: &[u8]) -> Option<Result<Vec<u8>, u8>> {
     compile_within(original, FUEL, file, MAX_PLAN, MIN_WORK)
+}
+
+/// An accepted file's plan as the bodies leave it, and its bytes; none where the
+/// file is refused or costs too much.
+pub fn planned(file: &[u8]) -> Option<(Plan, Vec<u8>)> {
+    let plan = plan_within(original, FUEL, file, MIN_WORK)?.ok()?;
+    let bytes = plan_bytes(&plan, MAX_PLAN).ok()?;
+    Some((plan, bytes))
 }
 
 /// The files of a seed that are short enough and not too costly, without end.

@@ -6,6 +6,7 @@ mod damage;
 mod fault;
 mod pattern;
 mod place;
+pub mod plans;
 mod query;
 mod schema;
 pub mod shape;

@@ -1,6 +1,7 @@
 //! The fixed list: files made by hand and by seed, each with its line.
 
 pub mod door;
+pub mod plans;
 mod refusal;
 pub mod sketch;
 mod slots;

@@ -1,0 +1,244 @@
+//! The plan reader of request [1], written from the papers: refusals 15 to 18,
+//! or the plan as data.
+
+use crate::file::*;
+use crate::plan::{Edge, Fuzzy, Level, Part, Plan, ResidualOp, Seek};
+
+pub const TOO_LONG: u8 = 15;
+pub const ENDS: u8 = 16;
+pub const MEANINGLESS: u8 = 17;
+pub const BROKEN: u8 = 18;
+
+/// The last diagnostic's code.
+const LAST_CODE: u8 = 11;
+
+/// The plan that bytes tell, or the refusal's number, with an output buffer of
+/// `room` bytes.
+pub fn reread(bytes: &[u8], room: usize) -> Result<Plan, u8> {
+    if bytes.len() > MAX_PLAN || bytes.len() > room {
+        return Err(TOO_LONG);
+    }
+    let mut left = Left(bytes);
+    let plan = Plan {
+        levels: left.counted(Left::level)?,
+        bindings: left.counted(Left::binding)?,
+        constrained: left.counted(Left::u16)?,
+        selects: left.counted(|left| Ok((left.u16()?, left.path()?, left.u32()?)))?,
+        diagnostics: left.counted(|left| Ok((left.u16()?, left.one_of(1..=LAST_CODE)?)))?,
+    };
+    if !left.0.is_empty() {
+        return Err(MEANINGLESS);
+    }
+    if plan.levels.iter().any(|level| !broken(level).is_empty()) {
+        return Err(BROKEN);
+    }
+    Ok(plan)
+}
+
+/// A rule that a level keeps, in words.
+type Rule = (&'static str, fn(&Level) -> bool);
+
+/// What every level keeps: 18 where one doesn't.
+pub const RULES: [Rule; 7] = [
+    ("closers at most parts", |level| {
+        level.closers <= level.parts
+    }),
+    ("the sum of narrowings", |level| {
+        let placed = level.parts + level.residuals.len() + ranges(level) + guides(level);
+        level.narrowings + level.closers == placed
+    }),
+    ("as many edges as folded", |level| {
+        edges(level) == level.folded.len()
+    }),
+    (
+        "Composite has a part that isn't bytes",
+        |level| match &level.seek {
+            Seek::Composite(parts) => parts.iter().any(|part| !matches!(part, Part::Bytes(_))),
+            _ => true,
+        },
+    ),
+    ("a guide has the range's path", |level| {
+        match (&level.seek, &level.guide) {
+            (Seek::PrefixRange(_, _, range), Some((path, _))) => range == path,
+            _ => true,
+        }
+    }),
+    ("Bounded has an edge", |level| {
+        !is_bounded(level) || edges(level) > 0
+    }),
+    ("Bounded has no guide", |level| {
+        !is_bounded(level) || level.guide.is_none()
+    }),
+];
+
+/// The rules that a level breaks, by their place in [`RULES`].
+pub fn broken(level: &Level) -> Vec<usize> {
+    let rules = RULES.iter().enumerate();
+    let broken = rules.filter(|(_, (_, keeps))| !keeps(level));
+    broken.map(|(at, _)| at).collect()
+}
+
+fn is_bounded(level: &Level) -> bool {
+    matches!(level.seek, Seek::Bounded(..))
+}
+
+fn ranges(level: &Level) -> usize {
+    usize::from(matches!(level.seek, Seek::PrefixRange(..)))
+}
+
+fn guides(level: &Level) -> usize {
+    usize::from(level.guide.is_some())
+}
+
+fn edges(level: &Level) -> usize {
+    match &level.seek {
+        Seek::Bounded(_, lo, hi) => lo.iter().count() + hi.iter().count(),
+        _ => 0,
+    }
+}
+
+/// The bytes not read yet.
+struct Left<'a>(&'a [u8]);
+
+impl<'a> Left<'a> {
+    fn take(&mut self, count: usize) -> Result<&'a [u8], u8> {
+        let (taken, rest) = self.0.split_at_checked(count).ok_or(ENDS)?;
+        self.0 = rest;
+        Ok(taken)
+    }
+
+    /// Bytes as a number, the lowest first.
+    fn number(&mut self, count: usize) -> Result<u32, u8> {
+        let bytes = self.take(count)?.iter().rev();
+        Ok(bytes.fold(0, |number, &byte| number << 8 | u32::from(byte)))
+    }
+
+    fn u8(&mut self) -> Result<u8, u8> {
+        self.number(1).map(|number| number as u8)
+    }
+
+    fn u16(&mut self) -> Result<u16, u8> {
+        self.number(2).map(|number| number as u16)
+    }
+
+    fn u32(&mut self) -> Result<u32, u8> {
+        self.number(4)
+    }
+
+    /// A byte that has a meaning.
+    fn one_of(&mut self, known: std::ops::RangeInclusive<u8>) -> Result<u8, u8> {
+        let byte = self.u8()?;
+        if known.contains(&byte) {
+            Ok(byte)
+        } else {
+            Err(MEANINGLESS)
+        }
+    }
+
+    fn times<T>(
+        &mut self,
+        count: usize,
+        one: impl Fn(&mut Self) -> Result<T, u8>,
+    ) -> Result<Vec<T>, u8> {
+        (0..count).map(|_| one(self)).collect()
+    }
+
+    fn counted<T>(&mut self, one: impl Fn(&mut Self) -> Result<T, u8>) -> Result<Vec<T>, u8> {
+        let count = self.u16()?;
+        self.times(count.into(), one)
+    }
+
+    fn text(&mut self) -> Result<Vec<u8>, u8> {
+        let length = self.u16()?;
+        Ok(self.take(length.into())?.to_vec())
+    }
+
+    /// A step count above what a path holds has no meaning, whatever follows.
+    fn path(&mut self) -> Result<Path, u8> {
+        let field = self.u16()?;
+        let count = self.one_of(0..=MAX_STEPS as u8)?;
+        let steps = self.times(count.into(), Self::u32)?;
+        Ok(Path { field, steps })
+    }
+
+    fn fuzzy(&mut self) -> Result<Fuzzy, u8> {
+        Ok(Fuzzy {
+            name: self.u16()?,
+            distance: self.u8()?,
+            anchor: [Anchor::Prefix, Anchor::Whole][usize::from(self.one_of(0..=1)?)],
+        })
+    }
+
+    fn level(&mut self) -> Result<Level, u8> {
+        let narrowings = self.u16()?.into();
+        let closers = self.u16()?.into();
+        let parts = self.u16()?.into();
+        Ok(Level {
+            narrowings,
+            closers,
+            parts,
+            seek: self.seek(parts)?,
+            guide: match self.one_of(0..=1)? {
+                0 => None,
+                _ => Some((self.path()?, self.fuzzy()?)),
+            },
+            residuals: self.counted(|left| Ok((left.path()?, left.op()?)))?,
+            folded: self.counted(|left| left.u16().map(usize::from))?,
+        })
+    }
+
+    fn seek(&mut self, parts: usize) -> Result<Seek, u8> {
+        let kind = self.one_of(0..=3)?;
+        if kind == 0 {
+            return self.text().map(Seek::Prefix);
+        }
+        let parts = self.times(parts, Self::part)?;
+        Ok(match kind {
+            1 => Seek::Composite(parts),
+            2 => Seek::PrefixRange(parts, self.text()?, self.path()?),
+            _ => Seek::Bounded(parts, self.edge()?, self.edge()?),
+        })
+    }
+
+    fn part(&mut self) -> Result<Part, u8> {
+        Ok(match self.one_of(0..=2)? {
+            0 => Part::Bytes(self.text()?),
+            1 => Part::RegisterField(self.u16()?, self.path()?),
+            _ => Part::RegisterFactId(self.u16()?),
+        })
+    }
+
+    fn edge(&mut self) -> Result<Option<Edge>, u8> {
+        let inclusive = match self.one_of(0..=2)? {
+            0 => return Ok(None),
+            kind => kind == 2,
+        };
+        let bytes = self.text()?;
+        Ok(Some(Edge { inclusive, bytes }))
+    }
+
+    fn op(&mut self) -> Result<ResidualOp, u8> {
+        Ok(match self.one_of(0..=5)? {
+            0 => ResidualOp::Bytes(self.text()?),
+            1 => ResidualOp::Prefix(self.text()?),
+            2 => ResidualOp::RegisterField(self.u16()?, self.path()?),
+            3 => ResidualOp::RegisterFactId(self.u16()?),
+            4 => ResidualOp::Disc(self.u32()?),
+            _ => ResidualOp::Fuzzy(self.fuzzy()?),
+        })
+    }
+
+    /// All six slots, though a compile writes two of them.
+    fn binding(&mut self) -> Result<Binding, u8> {
+        let name = self.u16()?;
+        let slot = match self.one_of(0..=5)? {
+            0 => Slot::Row(self.u16()?, self.u16()?),
+            1 => Slot::Key(self.u16()?, self.u16()?),
+            2 => Slot::Derived(self.u16()?),
+            3 => Slot::Field(self.u16()?, self.path()?, self.u16()?),
+            4 => Slot::Value(self.u16()?, self.u16()?),
+            _ => Slot::Const(self.u16()?),
+        };
+        Ok(Binding { name, slot })
+    }
+}
