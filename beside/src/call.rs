@@ -1,4 +1,4 @@
-//! One call, and what the format's paper says of it.
+//! One call of an exported function, and what the papers say of it.
 
 use std::fmt;
 use std::hint::black_box;
@@ -10,20 +10,20 @@ use oracle::rng::Rng;
 
 use crate::lent::Lent;
 
-/// The exported function's form.
-pub type Compile = fn(&[u8], &mut [u8], &mut [u8]) -> u64;
+/// An exported function's form: what is read, the output buffer, the work area.
+pub type Call = fn(&[u8], &mut [u8], &mut [u8]) -> u64;
 
-/// A plan, or a refusal's number.
+/// What is written, or a refusal's number.
 pub type Answer = Result<Vec<u8>, u8>;
 
 /// How much memory a call is lent.
 #[derive(Clone, Copy)]
 pub struct Lengths {
-    pub plan: usize,
+    pub output: usize,
     pub work: usize,
 }
 
-/// The answer with this much memory, from the one with enough of it.
+/// A compile's answer with this much memory, from the one with enough of it.
 pub fn expected(file: &[u8], answer: &Answer, lengths: Lengths) -> Answer {
     if file.len() > MAX_FILE {
         return Err(1);
@@ -32,7 +32,7 @@ pub fn expected(file: &[u8], answer: &Answer, lengths: Lengths) -> Answer {
         return Err(2);
     }
     match answer {
-        Ok(plan) if plan.len() > lengths.plan => Err(15),
+        Ok(plan) if plan.len() > lengths.output => Err(15),
         _ => answer.clone(),
     }
 }
@@ -47,47 +47,47 @@ pub struct Difference {
 
 impl fmt::Display for Difference {
     fn fmt(&self, f: &mut fmt::Formatter<'_>) -> fmt::Result {
-        let Lengths { plan, work } = self.lengths;
-        writeln!(f, "lent     plan buffer {plan}, work area {work} bytes")?;
+        let Lengths { output, work } = self.lengths;
+        writeln!(f, "lent     output buffer {output}, work area {work} bytes")?;
         writeln!(f, "expected {}", self.expected)?;
         writeln!(f, "given    {}", self.given)?;
         write!(f, "wrong    {}", self.faults.join(", "))
     }
 }
 
-/// Calls `compile` on random memory and looks at every byte of it afterwards.
+/// Calls `function` on random memory and looks at every byte of it afterwards.
 pub fn difference(
-    compile: Compile,
-    file: &[u8],
+    function: Call,
+    input: &[u8],
     expected: &Answer,
     lengths: Lengths,
     rng: &mut Rng,
 ) -> Option<Difference> {
-    let mut lent_file = Lent::copy_of(rng, file);
-    let mut plan = Lent::random(rng, lengths.plan);
+    let mut lent = Lent::copy_of(rng, input);
+    let mut output = Lent::random(rng, lengths.output);
     let mut work = Lent::random(rng, lengths.work);
-    let result = compile(lent_file.slice(), plan.slice_mut(), work.slice_mut());
-    // Rust may take the file and the guards as unchanged; they are to be looked at.
-    for lent in [&mut lent_file, &mut plan, &mut work] {
+    let result = function(lent.slice(), output.slice_mut(), work.slice_mut());
+    // Rust may take the input and the guards as unchanged; they are to be looked at.
+    for lent in [&mut lent, &mut output, &mut work] {
         black_box(lent);
     }
 
     let written = expected.as_deref().unwrap_or_default();
     let checks = [
         ("result", result == result_of(expected)),
-        ("plan buffer", holds(plan.slice(), written)),
+        ("output buffer", holds(output.slice(), written)),
         ("work area", holds(work.slice(), &[])),
-        ("file", lent_file.slice() == file),
-        ("bytes around the plan buffer", plan.guarded()),
+        ("input", lent.slice() == input),
+        ("bytes around the output buffer", output.guarded()),
         ("bytes around the work area", work.guarded()),
-        ("bytes around the file", lent_file.guarded()),
+        ("bytes around the input", lent.guarded()),
     ];
     let wrong = checks.iter().filter(|(_, good)| !good);
     let faults: Vec<&str> = wrong.map(|(what, _)| *what).collect();
     (!faults.is_empty()).then(|| Difference {
         lengths,
         expected: line(expected),
-        given: told(result, plan.slice()),
+        given: told(result, output.slice()),
         faults,
     })
 }
@@ -124,7 +124,7 @@ mod tests {
     use oracle::{HAS_BODIES, draw, on_large_stack};
 
     const ENOUGH: Lengths = Lengths {
-        plan: MAX_PLAN,
+        output: MAX_PLAN,
         work: MIN_WORK,
     };
 
@@ -139,24 +139,24 @@ mod tests {
                 let answer = oracle::compile(&file, MAX_PLAN, MIN_WORK);
                 let plan = answer.as_ref().map_or(0, Vec::len);
                 let lengths = Lengths {
-                    plan: draw::plan_buffer(&mut rng, plan),
+                    output: draw::plan_buffer(&mut rng, plan),
                     work: rng.within(MIN_WORK - 1, MIN_WORK + 1),
                 };
-                let whole = oracle::compile(&file, lengths.plan, lengths.work);
+                let whole = oracle::compile(&file, lengths.output, lengths.work);
                 assert_eq!(expected(&file, &answer, lengths), whole);
             }
         });
     }
 
     /// A compile of D1 that is right but for what `spoil` does.
-    fn faults(answer: Answer, compile: Compile) -> Vec<&'static str> {
+    fn faults(answer: Answer, compile: Call) -> Vec<&'static str> {
         let found = difference(compile, &write(&d1()), &answer, ENOUGH, &mut Rng::new(1, 1));
         found.map_or(vec![], |found| found.faults)
     }
 
     #[test]
     fn every_byte_is_looked_at() {
-        let good: Compile = |_, plan, work| {
+        let good: Call = |_, plan, work| {
             plan.fill(0);
             work.fill(0);
             plan[..2].copy_from_slice(b"ab");
@@ -164,11 +164,11 @@ mod tests {
         };
         let plan = || Ok(b"ab".to_vec());
         assert!(faults(plan(), good).is_empty());
-        assert_eq!(faults(Ok(b"ac".to_vec()), good), ["plan buffer"]);
-        assert_eq!(faults(Ok(b"a".to_vec()), good), ["result", "plan buffer"]);
-        assert_eq!(faults(Err(15), good), ["result", "plan buffer"]);
+        assert_eq!(faults(Ok(b"ac".to_vec()), good), ["output buffer"]);
+        assert_eq!(faults(Ok(b"a".to_vec()), good), ["result", "output buffer"]);
+        assert_eq!(faults(Err(15), good), ["result", "output buffer"]);
 
-        let work_left: Compile = |_, plan, work| {
+        let work_left: Call = |_, plan, work| {
             plan.fill(0);
             work[1..].fill(0);
             work[0] = 1;
@@ -176,14 +176,14 @@ mod tests {
         };
         assert_eq!(faults(Err(15), work_left), ["work area"]);
 
-        let plan_left: Compile = |_, plan, work| {
+        let plan_left: Call = |_, plan, work| {
             plan.fill(0);
             work.fill(0);
             plan[MAX_PLAN - 1] = 1;
             3 << 16
         };
-        assert_eq!(faults(Err(3), plan_left), ["plan buffer"]);
-        assert_eq!(faults(Err(4), plan_left), ["result", "plan buffer"]);
+        assert_eq!(faults(Err(3), plan_left), ["output buffer"]);
+        assert_eq!(faults(Err(4), plan_left), ["result", "output buffer"]);
     }
 
     #[test]

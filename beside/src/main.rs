@@ -1,45 +1,68 @@
-//! The exported function beside the Rust bodies, in one process; see
-//! docs/ORACLE.md.
+//! The exported functions beside the Rust bodies and a reader written from the
+//! papers, in one process; see docs/ORACLE.md.
 
 mod call;
 mod lent;
+mod opened;
+mod plans;
 mod run;
 
 use std::process::ExitCode;
 
 use oracle::HAS_BODIES;
 
+use plans::Plans;
 use run::{Outcome, Run};
 
-const USAGE: &str = "usage: beside SEED COUNT";
+const USAGE: &str = "usage:
+  beside SEED COUNT         drawn files, compiled
+  beside plans SEED COUNT   the plans of drawn files, and bytes drawn around them, read";
 
 fn main() -> ExitCode {
     let arguments: Vec<String> = std::env::args().skip(1).collect();
-    let Some((seed, count)) = numbers(&arguments) else {
+    let words: Vec<&str> = arguments.iter().map(String::as_str).collect();
+    let (of_plans, numbers) = match words.as_slice() {
+        ["plans", rest @ ..] => (true, numbers(rest)),
+        rest => (false, numbers(rest)),
+    };
+    let Some((seed, count)) = numbers else {
         eprintln!("{USAGE}");
         return ExitCode::from(2);
     };
+    if of_plans {
+        return oracle::on_large_stack(move || read(seed, count));
+    }
     if !HAS_BODIES {
         eprintln!("built without the bodies: set FJORD_SRC to the source and build again");
         return ExitCode::from(2);
     }
-    oracle::on_large_stack(move || compare(seed, count))
+    oracle::on_large_stack(move || compile(seed, count))
 }
 
-fn numbers(words: &[String]) -> Option<(u64, u64)> {
+fn numbers(words: &[&str]) -> Option<(u64, u64)> {
     match words {
         [seed, count] => Some((seed.parse().ok()?, count.parse().ok()?)),
         _ => None,
     }
 }
 
-fn compare(seed: u64, count: u64) -> ExitCode {
-    let run = Run {
-        compile: sinalvento::call,
+fn compile(seed: u64, count: u64) -> ExitCode {
+    let compile = sinalvento::call;
+    let run = Run { compile, seed };
+    ended(&run.files(count, |shown| println!("{shown}")))
+}
+
+fn read(seed: u64, count: u64) -> ExitCode {
+    let plans = Plans {
+        read: sinalvento::call_read,
+        open: opened::opened,
         seed,
     };
-    let outcome = run.files(count, |shown| println!("{shown}"));
-    print(&outcome);
+    ended(&plans.run(count, |shown| println!("{shown}")))
+}
+
+fn ended(outcome: &Outcome) -> ExitCode {
+    print(outcome);
     if outcome.different > 0 {
         return ExitCode::FAILURE;
     }

@@ -9,12 +9,12 @@ use oracle::rng::Rng;
 use oracle::run::answer;
 use oracle::shrink::shrink;
 
-use crate::call::{Answer, Compile, Difference, Lengths, difference, expected};
+use crate::call::{Answer, Call, Difference, Lengths, difference, expected};
 
 /// How often a file that shows a difference is tried smaller.
-const TRIES: usize = 400;
+pub const TRIES: usize = 400;
 /// So many differences are shown; the others are counted.
-const SHOWN: usize = 20;
+pub const SHOWN: usize = 20;
 /// Keeps the memory's draws apart from the file's.
 const MEMORY: u64 = 0x6D65_6D6F_7279;
 
@@ -29,7 +29,7 @@ pub struct Outcome {
 }
 
 pub struct Run {
-    pub compile: Compile,
+    pub compile: Call,
     pub seed: u64,
 }
 
@@ -90,15 +90,15 @@ fn lengths(answer: &Answer, rng: &mut Rng) -> [Lengths; 3] {
     let less = [1, rng.within(1, MIN_WORK), MIN_WORK][rng.weighted(&[80, 15, 5])];
     [
         Lengths {
-            plan: MAX_PLAN,
+            output: MAX_PLAN,
             work: MIN_WORK,
         },
         Lengths {
-            plan: draw::plan_buffer(rng, plan),
+            output: draw::plan_buffer(rng, plan),
             work: MIN_WORK + more,
         },
         Lengths {
-            plan: draw::plan_buffer(rng, plan),
+            output: draw::plan_buffer(rng, plan),
             work: MIN_WORK - less,
         },
     ]
@@ -116,7 +116,7 @@ fn count_calls(calls: &mut BTreeMap<String, usize>, file: &[u8], answer: &Answer
         if let Ok(plan) = answer {
             add(format!(
                 "plan buffer {}",
-                plan_kind(lengths.plan, plan.len())
+                plan_kind(lengths.output, plan.len())
             ));
         }
     }
@@ -131,7 +131,7 @@ fn work_kind(work: usize) -> &'static str {
     }
 }
 
-fn plan_kind(buffer: usize, plan: usize) -> &'static str {
+pub fn plan_kind(buffer: usize, plan: usize) -> &'static str {
     match buffer {
         0 => "of 0 bytes",
         _ if buffer == plan => "exact",
@@ -169,7 +169,7 @@ mod tests {
         result
     }
 
-    fn run(compile: Compile) -> (Outcome, Vec<String>) {
+    fn run(compile: Call) -> (Outcome, Vec<String>) {
         on_large_stack(move || {
             let mut shown = vec![];
             let run = Run { compile, seed: 32 };

@@ -11,7 +11,11 @@ fn drawn_files_are_explained() {
     for (index, file) in draw::files(16, 4_000).enumerate() {
         let given = match compile(&file, &mut buffers) {
             Ok(plan) => {
-                assert_eq!(Plan::read(plan).map(|it| it.write()).as_deref(), Ok(plan), "{index}");
+                assert_eq!(
+                    Plan::open(plan).map(|it| it.to_bytes()).as_deref(),
+                    Ok(plan),
+                    "{index}"
+                );
                 (0, plan.len())
             }
             Err(refusal) => (refusal.number(), 0),
@@ -23,7 +27,8 @@ fn drawn_files_are_explained() {
         assert_eq!(explained, given, "file {index}");
         if let Ok(rules) = RuleFile::read(&file) {
             let written = text::print(&rules);
-            let parsed = text::parse(&written).unwrap_or_else(|fault| panic!("file {index}: {fault}"));
+            let parsed =
+                text::parse(&written).unwrap_or_else(|fault| panic!("file {index}: {fault}"));
             assert_eq!(parsed.rules.write(), file, "file {index}");
             assert_eq!(text::print(&parsed.rules), written, "file {index}");
         }

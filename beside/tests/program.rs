@@ -26,7 +26,17 @@ fn drawn_files_agree() {
 }
 
 #[test]
+fn drawn_plans_agree() {
+    let output = beside(&["plans", "4", "300"]);
+    let printed = String::from_utf8_lossy(&output.stdout).into_owned();
+    let last = printed.lines().last().unwrap_or_default();
+    assert!(last.ends_with(" compared, 0 different"), "{printed}");
+    assert_eq!(output.status.code(), Some(0));
+}
+
+#[test]
 fn unknown_words_are_refused() {
     assert_eq!(beside(&[]).status.code(), Some(2));
     assert_eq!(beside(&["1", "many"]).status.code(), Some(2));
+    assert_eq!(beside(&["plans", "1"]).status.code(), Some(2));
 }

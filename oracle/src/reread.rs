@@ -18,6 +18,15 @@ pub fn reread(bytes: &[u8], room: usize) -> Result<Plan, u8> {
     if bytes.len() > MAX_PLAN || bytes.len() > room {
         return Err(TOO_LONG);
     }
+    let plan = form(bytes)?;
+    if plan.levels.iter().any(|level| !broken(level).is_empty()) {
+        return Err(BROKEN);
+    }
+    Ok(plan)
+}
+
+/// The plan that bytes tell by their form alone: 16 and 17.
+pub fn form(bytes: &[u8]) -> Result<Plan, u8> {
     let mut left = Left(bytes);
     let plan = Plan {
         levels: left.counted(Left::level)?,
@@ -28,9 +37,6 @@ pub fn reread(bytes: &[u8], room: usize) -> Result<Plan, u8> {
     };
     if !left.0.is_empty() {
         return Err(MEANINGLESS);
-    }
-    if plan.levels.iter().any(|level| !broken(level).is_empty()) {
-        return Err(BROKEN);
     }
     Ok(plan)
 }

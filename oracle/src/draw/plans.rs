@@ -322,12 +322,12 @@ mod tests {
     #[test]
     fn spoiled_levels_break_their_rule_alone() {
         let mut rng = Rng::new(62, 0);
-        for rule in 0..RULES.len() {
+        for (rule, (words, _)) in RULES.iter().enumerate() {
             let mut alone = 0;
             for _ in 0..500 {
                 let level = spoiled(&mut rng, rule);
                 let found = broken(&level);
-                assert!(found.contains(&rule), "{}: {level:?}", RULES[rule].0);
+                assert!(found.contains(&rule), "{words}: {level:?}");
                 alone += usize::from(found == [rule]);
                 let levels = vec![level];
                 let plan = Plan {
@@ -338,8 +338,7 @@ mod tests {
             }
             assert!(
                 if rule == 0 { alone > 100 } else { alone == 500 },
-                "{}",
-                RULES[rule].0
+                "{words}"
             );
         }
     }
