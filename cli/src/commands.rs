@@ -1,33 +1,34 @@
-//! The four commands.
+//! The commands.
 
 use std::fmt::Write as _;
 use std::fs;
 use std::path::Path;
 
+use sinalvento::plan::PlanFault;
 use sinalvento::rules::Section;
 use sinalvento::{Accepted, Buffers, Explanation, Fault, Plan, RuleFile, compile, explain, text};
 
 use crate::Outcome;
 use crate::arguments::{Command, Form, Manner, Verb};
 use crate::json;
-use crate::source::{Source, Trouble};
+use crate::source::{Source, Trouble, contents};
 
 pub fn run(command: &Command) -> Outcome {
-    let form = match command.verb {
-        Verb::Build => Form::Text,
-        _ => command.form,
+    let source = |form| Source::read(&command.file, form);
+    let ended = match command.verb {
+        Verb::Build => source(Form::Text).map(|source| build(&source, command)),
+        Verb::Show => source(command.form).map(|source| show(&source)),
+        Verb::Plan(manner) => {
+            let output = command.output.as_deref();
+            source(command.form).map(|source| plan(&source, manner, output))
+        }
+        Verb::Open(manner) => open(command, manner),
+        Verb::Explain => source(command.form).map(|source| explained(&source)),
     };
-    let source = match Source::read(&command.file, form) {
-        Ok(source) => source,
-        Err(Trouble::Io(why)) => return Outcome::Failed(why),
-        Err(Trouble::Text(told)) => return refused(told),
-    };
-    match command.verb {
-        Verb::Build => build(&source, command),
-        Verb::Show => show(&source),
-        Verb::Plan(manner) => plan(&source, manner),
-        Verb::Explain => explained(&source),
-    }
+    ended.unwrap_or_else(|trouble| match trouble {
+        Trouble::Io(why) => Outcome::Failed(why),
+        Trouble::Text(told) => refused(told),
+    })
 }
 
 fn refused(told: String) -> Outcome {
@@ -75,16 +76,21 @@ fn build(source: &Source, command: &Command) -> Outcome {
             .to_string_lossy()
             .into_owned(),
     };
-    if output == "-" {
-        let output = source.bytes.clone();
+    written(&output, &source.bytes, told)
+}
+
+/// Bytes in a file, or on standard output.
+fn written(name: &str, bytes: &[u8], told: String) -> Outcome {
+    if name == "-" {
+        let output = bytes.to_vec();
         return Outcome::Done { output, told };
     }
-    match fs::write(&output, &source.bytes) {
+    match fs::write(name, bytes) {
         Ok(()) => Outcome::Done {
             output: vec![],
             told,
         },
-        Err(error) => Outcome::Failed(format!("{output}: {error}\n")),
+        Err(error) => Outcome::Failed(format!("{name}: {error}\n")),
     }
 }
 
@@ -95,31 +101,76 @@ fn show(source: &Source) -> Outcome {
     }
 }
 
-fn plan(source: &Source, manner: Manner) -> Outcome {
+fn plan(source: &Source, manner: Manner, output: Option<&str>) -> Outcome {
     let mut buffers = Buffers::new();
     let Ok(bytes) = compile(&source.bytes, &mut buffers) else {
         return refused(explanation(source));
     };
-    let opened = (Plan::read(bytes), RuleFile::read(&source.bytes));
-    let output = match (manner, &opened) {
-        (Manner::Hex, _) => {
-            bytes
-                .iter()
-                .map(|byte| format!("{byte:02x}"))
-                .collect::<String>()
-                + "\n"
-        }
-        (Manner::Json, (Ok(plan), Ok(rules))) => format!("{}\n", json::plan(plan, rules)),
-        (Manner::Readable, (Ok(plan), Ok(rules))) => {
-            plan.shown(rules).labelled(source.predicates()).to_string()
-        }
-        (_, (Err(fault), _)) => return Outcome::Failed(format!("{}: {fault}\n", source.name)),
-        (_, (_, Err(fault))) => return refused(fault_told(source, fault)),
-    };
-    Outcome::Done {
-        output: output.into_bytes(),
-        told: explanation(source),
+    let told = explanation(source);
+    if let Some(name) = output {
+        return written(name, bytes, told);
     }
+    let rules = match RuleFile::read(&source.bytes) {
+        Ok(rules) => rules,
+        Err(fault) => return refused(fault_told(source, &fault)),
+    };
+    match Plan::open(bytes) {
+        Ok(plan) => Outcome::Done {
+            output: printed(&plan, Some((&rules, source.predicates())), manner).into_bytes(),
+            told,
+        },
+        Err(refusal) => Outcome::Failed(format!("{}: its plan: {refusal}\n", source.name)),
+    }
+}
+
+/// A plan as it is printed, with the names of its rule file and the labels of
+/// its predicates where these are at hand.
+fn printed(plan: &Plan, rules: Option<(&RuleFile, &[String])>, manner: Manner) -> String {
+    match (manner, rules) {
+        (Manner::Hex, _) => hex(&plan.to_bytes()),
+        (Manner::Json, _) => format!("{}\n", json::plan(plan, rules.map(|(rules, _)| rules))),
+        (Manner::Readable, None) => plan.to_string(),
+        (Manner::Readable, Some((rules, labels))) => plan.shown(rules).labelled(labels).to_string(),
+        (Manner::Brief, None) => plan.described(&RuleFile::default()).to_string(),
+        (Manner::Brief, Some((rules, labels))) => {
+            plan.described(rules).labelled(labels).to_string()
+        }
+    }
+}
+
+fn hex(bytes: &[u8]) -> String {
+    let digits = bytes.iter().map(|byte| format!("{byte:02x}"));
+    digits.collect::<String>() + "\n"
+}
+
+/// A plan's bytes, with or without the rule file that they are of.
+fn open(command: &Command, manner: Manner) -> Result<Outcome, Trouble> {
+    let (name, bytes) = contents(&command.file)?;
+    let plan = match Plan::open(&bytes) {
+        Ok(plan) => plan,
+        Err(refusal) => {
+            let place = PlanFault::of(&bytes).map(|fault| fault.to_string());
+            let place = place.unwrap_or_else(|| refusal.to_string());
+            return Ok(refused(format!("{name}: {place}\n")));
+        }
+    };
+    let Some(rules) = &command.rules else {
+        return Ok(done(printed(&plan, None, manner).into_bytes()));
+    };
+    let source = Source::read(rules, command.form)?;
+    let rules = match RuleFile::read(&source.bytes) {
+        Ok(rules) => rules,
+        Err(fault) => return Ok(refused(fault_told(&source, &fault))),
+    };
+    let output = printed(&plan, Some((&rules, source.predicates())), manner);
+    let same = compile(&source.bytes, &mut Buffers::new()).is_ok_and(|made| made == bytes);
+    Ok(Outcome::Done {
+        output: output.into_bytes(),
+        told: match same {
+            true => String::new(),
+            false => format!("{name}: this is not the plan of {}\n", source.name),
+        },
+    })
 }
 
 /// A fault, or what there is to report: nothing of a file without a mistake.

@@ -16,13 +16,12 @@ enum Json {
 
 use Json::*;
 
-/// The plan in one line.
-pub fn plan(plan: &Plan, rules: &RuleFile) -> String {
+/// The plan in one line. Without its rule file there are no names, and no
+/// level's predicate and register.
+pub fn plan(plan: &Plan, rules: Option<&RuleFile>) -> String {
     let levels = plan.levels.iter().enumerate();
-    let names = rules
-        .names
-        .iter()
-        .map(|name| Text(String::from_utf8_lossy(name).into_owned()));
+    let names = rules.iter().flat_map(|rules| &rules.names);
+    let names = names.map(|name| Text(String::from_utf8_lossy(name).into_owned()));
     let object = Object(vec![
         ("names", List(names.collect())),
         (
@@ -79,8 +78,8 @@ fn path(path: &Path) -> Json {
     ])
 }
 
-fn level(at: usize, level: &PlanLevel, rules: &RuleFile) -> Json {
-    let of_file = rules.levels.get(at);
+fn level(at: usize, level: &PlanLevel, rules: Option<&RuleFile>) -> Json {
+    let of_file = rules.and_then(|rules| rules.levels.get(at));
     let of_file = |value: fn(&sinalvento::rules::Level) -> u16| {
         of_file.map_or(Null, |level| number(value(level)))
     };

@@ -1,4 +1,5 @@
-//! A rule file as it was handed in: bytes, or text that was built to bytes.
+//! What was handed in: a plan's bytes; a rule file as bytes, or as text that was
+//! built to bytes.
 
 use std::fs::File;
 use std::io::{self, Read};
@@ -9,7 +10,7 @@ use sinalvento::text::{self, Parsed};
 
 use crate::arguments::Form;
 
-/// No rule file, nor its text, comes near this many bytes.
+/// No plan, rule file, nor its text, comes near this many bytes.
 const MOST: u64 = 4 << 20;
 
 /// A rule file, with its text if it came as one.
@@ -30,9 +31,7 @@ pub enum Trouble {
 
 impl Source {
     pub fn read(file: &str, form: Form) -> Result<Self, Trouble> {
-        let name = if file == "-" { "standard input" } else { file };
-        let bytes = contents(file).map_err(|error| Trouble::Io(format!("{name}: {error}\n")))?;
-        let name = String::from(name);
+        let (name, bytes) = contents(file)?;
         if !is_text(file, form) {
             let parsed = None;
             return Ok(Self {
@@ -83,7 +82,16 @@ fn is_text(file: &str, form: Form) -> bool {
     }
 }
 
-fn contents(file: &str) -> io::Result<Vec<u8>> {
+/// What a file is called in messages, and what it holds.
+pub fn contents(file: &str) -> Result<(String, Vec<u8>), Trouble> {
+    let name = if file == "-" { "standard input" } else { file };
+    match bytes_of(file) {
+        Ok(bytes) => Ok((String::from(name), bytes)),
+        Err(error) => Err(Trouble::Io(format!("{name}: {error}\n"))),
+    }
+}
+
+fn bytes_of(file: &str) -> io::Result<Vec<u8>> {
     let mut bytes = vec![];
     if file == "-" {
         io::stdin().lock().take(MOST + 1).read_to_end(&mut bytes)?;
@@ -92,7 +100,7 @@ fn contents(file: &str) -> io::Result<Vec<u8>> {
     }
     if bytes.len() as u64 > MOST {
         return Err(io::Error::other(
-            "this is longer than any rule file or its text",
+            "this is longer than any plan, rule file or its text",
         ));
     }
     Ok(bytes)

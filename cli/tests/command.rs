@@ -82,6 +82,75 @@ fn plans_for_people_and_programs() {
 }
 
 #[test]
+fn plans_are_opened() {
+    let (rules, plan) = (scratch("open.rules"), scratch("open.bin"));
+    fs::write(&rules, DOOR).expect("it can be written");
+    let [rules, plan_name] = [&rules, &plan].map(|path| path.to_str().expect("text"));
+    assert_eq!(run(&["plan", "-o", plan_name, rules], &[]).status, 0);
+    let bytes = fs::read(&plan).expect("it was written");
+    assert_eq!(bytes.len(), 41);
+
+    let bare = run(&["open", "-"], &bytes);
+    assert_eq!(bare.status, 0);
+    assert_eq!(
+        bare.text(),
+        "level 0: seek PrefixRange, 2 narrowings, 1 part\n    part: 7\n    range: [1] = \"k\"..\n"
+    );
+    for manner in [vec![], vec!["--brief"], vec!["--json"]] {
+        let planned = run(&[&["plan", rules][..], &manner].concat(), &[]);
+        let opened = run(&[&["open", plan_name, rules][..], &manner].concat(), &[]);
+        assert_eq!((opened.status, opened.told.as_str()), (0, ""));
+        assert_eq!(opened.text(), planned.text());
+    }
+    let brief = run(&["open", "--brief", "-", rules], &bytes);
+    assert_eq!(
+        brief.text(),
+        "level 0 (door in r0): seek prefix \"k\" of field 1 (tag) after room = 7\n"
+    );
+    let brief = run(&["open", "--brief", "-"], &bytes);
+    assert_eq!(
+        brief.text(),
+        "level 0: seek prefix \"k\" of field 1 after 7\n"
+    );
+    let json = run(&["open", "--json", "-"], &bytes);
+    assert!(
+        json.text()
+            .starts_with("{\"names\":[],\"levels\":[{\"predicate\":null,")
+    );
+}
+
+#[test]
+fn bytes_that_are_no_plan() {
+    let bytes = run(&["plan", "-o", "-", "--text", "-"], DOOR.as_bytes()).output;
+    let cut = run(&["open", "-"], &bytes[..40]);
+    assert_eq!((cut.status, cut.text().as_str()), (1, ""));
+    assert_eq!(
+        cut.told,
+        "standard input: refused by 16: plan ends early\n  at offset 40 (28 hex): more bytes are expected\n"
+    );
+    let mut other = bytes.clone();
+    other[2] = 3;
+    let broken = run(&["open", "-"], &other);
+    assert_eq!(broken.status, 1);
+    assert!(
+        broken
+            .told
+            .ends_with("level 0: narrowings = parts - closers + residuals + range + guide\n")
+    );
+
+    // The plan of another file: it is shown, and said.
+    let rules = scratch("another.rules");
+    fs::write(&rules, DOOR.replace('7', "8")).expect("it can be written");
+    let rules = rules.to_str().expect("text");
+    let ended = run(&["open", "-", rules], &bytes);
+    assert_eq!(ended.status, 0);
+    assert_eq!(
+        ended.told,
+        format!("standard input: this is not the plan of {rules}\n")
+    );
+}
+
+#[test]
 fn files_by_name() {
     let (text, bytes) = (scratch("door.rules"), scratch("door.bin"));
     fs::write(&text, DOOR).expect("it can be written");
@@ -213,6 +282,7 @@ fn random_bytes() {
             ["show", "-"],
             ["plan", "-"],
             ["explain", "-"],
+            ["open", "-"],
             ["build", "-"],
         ] {
             let ended = run(&arguments, &bytes);

@@ -31,6 +31,17 @@ fn plans_as_printed() {
     }
 }
 
+/// The sentences that README.md there tells.
+#[test]
+fn plans_in_brief() {
+    let page = fs::read_to_string(file("README", "md")).expect("it is there");
+    for room in ["weight-on-plate", "key-by-prefix"] {
+        let brief = printed(&["plan", "--brief"], room);
+        let block: String = brief.lines().map(|line| format!("    {line}\n")).collect();
+        assert!(page.contains(&format!("{room}\n\n{block}\n")), "{block}");
+    }
+}
+
 #[test]
 fn what_is_shown_is_the_same_room() {
     for room in ROOMS {
