@@ -1,7 +1,9 @@
-//! The two that are measured: the exported function, and the oracle.
+//! The two that are measured: the exported functions, and the oracle.
 
 use std::hint::black_box;
 
+use oracle::plan::write_plan;
+use oracle::reread::reread;
 use sinalvento::{MAX_PLAN, MIN_WORK};
 
 use crate::clock::timed;
@@ -29,14 +31,15 @@ impl Lent {
     }
 }
 
-/// Each file once, by the exported function.
+/// Each file once, by the exported function. The plan reader is lent no work
+/// area: it uses none.
 pub fn exported(case: &Case, lent: &mut Lent) {
     for file in &case.files {
-        black_box(sinalvento::call(
-            black_box(file),
-            &mut lent.plan,
-            &mut lent.work,
-        ));
+        let file = black_box(file);
+        black_box(match case.part {
+            Part::Plan => sinalvento::call_read(file, &mut lent.plan, &mut []),
+            _ => sinalvento::call(file, &mut lent.plan, &mut lent.work),
+        });
     }
 }
 
@@ -47,6 +50,7 @@ pub fn rust(case: &Case) {
         match case.part {
             Part::Whole => drop(black_box(oracle::compile(file, MAX_PLAN, MIN_WORK))),
             Part::Front => drop(black_box(oracle::front(file, MIN_WORK))),
+            Part::Plan => drop(black_box(read_back(file))),
         }
     }
 }
@@ -55,10 +59,27 @@ pub fn rust(case: &Case) {
 type Answer = Result<Vec<u8>, u8>;
 
 /// The exported function's answer.
-fn given(file: &[u8], lent: &mut Lent) -> Answer {
-    sinalvento::compile_into(file, &mut lent.plan, &mut lent.work)
+fn given(file: &[u8], part: Part, lent: &mut Lent) -> Answer {
+    let answer = match part {
+        Part::Plan => sinalvento::read_into(file, &mut lent.plan, &mut []),
+        _ => sinalvento::compile_into(file, &mut lent.plan, &mut lent.work),
+    };
+    answer
         .map(<[u8]>::to_vec)
         .map_err(|refusal| refusal.number())
+}
+
+/// The oracle's answer.
+fn expected(file: &[u8], part: Part) -> Answer {
+    match part {
+        Part::Plan => read_back(file),
+        _ => oracle::compile(file, MAX_PLAN, MIN_WORK),
+    }
+}
+
+/// A plan by the reader that is written from the papers: as data, and written.
+fn read_back(plan: &[u8]) -> Answer {
+    reread(plan, MAX_PLAN).map(|data| write_plan(&data))
 }
 
 /// The answers to a case's files and how long they took; none where the two
@@ -67,8 +88,8 @@ pub fn agreed(case: &Case, lent: &mut Lent) -> Option<(Vec<Answer>, Times)> {
     let mut answers = vec![];
     let mut times = Times::default();
     for file in &case.files {
-        let (given, exported) = timed(|| given(file, lent));
-        let (expected, rust) = timed(|| oracle::compile(file, MAX_PLAN, MIN_WORK));
+        let (given, exported) = timed(|| given(file, case.part, lent));
+        let (expected, rust) = timed(|| expected(file, case.part));
         if given != expected {
             return None;
         }

@@ -1,4 +1,4 @@
-//! The files that are timed, and those whose stack is measured.
+//! The files and plans that are timed, and those whose stack is measured.
 
 mod deep;
 mod large;
@@ -6,23 +6,28 @@ mod typical;
 mod worst;
 
 use oracle::draw::boundary::plan_of_length;
+use oracle::draw::plans::around;
 use oracle::file::{MAX_PLAN, RuleFile};
 use oracle::fixed::door::d1;
+use oracle::reread::form;
 use oracle::rng::Rng;
 use oracle::run::answer;
 use oracle::write::write;
 use oracle::{draw, on_large_stack};
+use sinalvento::Buffers;
 
 use deep::{MOST_READS, READS, Read};
 
-/// What the Rust side does on a case's files; the exported function always
-/// compiles.
+/// What the two sides do on a case's files. But for plans, the exported function
+/// always compiles.
 #[derive(Clone, Copy, PartialEq, Eq)]
 pub enum Part {
     Whole,
     /// Reading and checking. The exported function does no more either where
     /// there is no level, or where 14 refuses.
     Front,
+    /// The files are plans, and are read.
+    Plan,
 }
 
 #[derive(Clone)]
@@ -47,10 +52,39 @@ fn front(name: &'static str, file: &RuleFile) -> Case {
     }
 }
 
+/// The plan of a file, to be read.
+fn read(name: &'static str, file: &RuleFile) -> Case {
+    Case {
+        name,
+        files: plan_bytes(&write(file)).into_iter().collect(),
+        part: Part::Plan,
+    }
+}
+
+/// The plan that the exported function writes; none of a refused file.
+fn plan_bytes(file: &[u8]) -> Option<Vec<u8>> {
+    let mut buffers = Buffers::new();
+    let plan = sinalvento::compile(file, &mut buffers).ok()?;
+    Some(plan.to_vec())
+}
+
+/// Plans of drawn files, each followed by bytes that are drawn around it.
+fn drawn_plans() -> Vec<Vec<u8>> {
+    let plans = draw::files(MIX_SEED, PLANS).filter_map(|file| plan_bytes(&file));
+    let pairs = plans.enumerate().map(|(index, plan)| {
+        let mut rng = Rng::new(MIX_SEED, index as u64);
+        let data = form(&plan).expect("a compiled plan has its form");
+        [plan, around(&mut rng, &data).1]
+    });
+    pairs.flatten().collect()
+}
+
 const MIX_SEED: u64 = 7;
 const MIX: u64 = 1_000;
 /// Drawn files whose stack is measured.
 const MANY: u64 = 20_000;
+/// Drawn files whose plans are read for it.
+const PLANS: u64 = 5_000;
 
 /// Drawn files, but those that the bodies take too long for.
 fn drawn(count: u64) -> Vec<Vec<u8>> {
@@ -78,6 +112,9 @@ pub fn everyday() -> Vec<Case> {
         front("read and check, no level", &large::without_levels()),
         front("read and check, refused", &large::refused_by_14()),
         front("read and check, wide types", &large::wide_types()),
+        read("read a typical plan", &typical::typical()),
+        read("read a plan of 64 levels", &large::largest()),
+        read("read the longest plan", &longest_plan()),
     ]
 }
 
@@ -97,30 +134,33 @@ pub struct Kind {
     make: fn() -> Vec<RuleFile>,
 }
 
-/// The drawn files' kind; the other ones are made by hand.
+/// The drawn files' kind and that of their plans; the other ones are made by hand.
 const DRAWN: &str = "drawn";
+const DRAWN_PLANS: &str = "plans, drawn, read";
 
 impl Kind {
     pub fn case(self) -> Case {
-        let files = match self.name {
-            DRAWN => draw::files(MIX_SEED, MANY).collect(),
-            _ => (self.make)().iter().map(write).collect(),
+        let (files, part) = match self.name {
+            DRAWN => (draw::files(MIX_SEED, MANY).collect(), Part::Whole),
+            DRAWN_PLANS => (drawn_plans(), Part::Plan),
+            _ => ((self.make)().iter().map(write).collect(), Part::Whole),
         };
         Case {
             name: self.name,
             files,
-            part: Part::Whole,
+            part,
         }
     }
 }
 
-/// Everyday files, drawn files, and those that go deepest.
-pub const STACKED: [Kind; 29] = [
+/// Everyday files, drawn files, their plans, and those that go deepest.
+pub const STACKED: [Kind; 30] = [
     kind("D1", || vec![d1()]),
     kind("typical", || vec![typical::typical()]),
     kind("largest file", || vec![large::largest()]),
     kind("longest plan", || vec![longest_plan()]),
     kind(DRAWN, Vec::new),
+    kind(DRAWN_PLANS, Vec::new),
     kind("opened, one level", || vec![one_level(worst::opened())]),
     kind("unions, one level", || vec![one_level(worst::unions())]),
     kind("depth 16, constants inside", deep::constants_inside),
@@ -237,6 +277,15 @@ mod tests {
             assert!(plan_length(&file).is_ok(), "{:?}", plan_length(&file));
         }
         assert_eq!(plan_length(&longest_plan()), Ok(MAX_PLAN));
+    }
+
+    #[test]
+    fn plans_that_are_read() {
+        let plans = |file: &RuleFile| read("a plan", file).files;
+        assert_eq!(plans(&longest_plan())[0].len(), MAX_PLAN);
+        let many = form(&plans(&large::largest())[0]).expect("a plan");
+        assert_eq!(many.levels.len(), LIMITS[9]);
+        assert!(drawn_plans().len() > 5_000);
     }
 
     #[test]
