@@ -1,9 +1,12 @@
-//! docs/FORMAT.md: every block of hex in it is tried by the exported function,
+//! docs/FORMAT.md: every block of hex in it is tried by the exported functions,
 //! and so are the limits that it tells.
 
 mod files;
 
-use sinalvento::{MAX_PLAN, MIN_WORK, call};
+use std::collections::BTreeSet;
+
+use sinalvento::plan::PlanFault;
+use sinalvento::{MAX_PLAN, MIN_WORK, call, call_read};
 
 const PAGE: &str = include_str!("../../docs/FORMAT.md");
 
@@ -57,14 +60,29 @@ fn is_file(block: &Block) -> bool {
     block.words[0] == "file"
 }
 
+fn is_plan(block: &Block) -> bool {
+    block.words[0] == "plan"
+}
+
 /// The answer: a plan, or a refusal's number.
 fn answer(file: &[u8], plan: usize, work: usize) -> Result<Vec<u8>, u64> {
     let (mut plan, mut work) = (vec![0; plan], vec![0; work]);
     let result = call(file, &mut plan, &mut work);
+    written(result, &plan)
+}
+
+fn written(result: u64, output: &[u8]) -> Result<Vec<u8>, u64> {
     match result >> 16 {
-        0 => Ok(plan[..result as usize].to_vec()),
+        0 => Ok(output[..result as usize].to_vec()),
         number => Err(number),
     }
+}
+
+/// The plan reader's answer, without a work area.
+fn read_back(plan: &[u8], room: usize) -> Result<Vec<u8>, u64> {
+    let mut out = vec![0; room];
+    let result = call_read(plan, &mut out, &mut []);
+    written(result, &out)
 }
 
 fn refusal(file: &[u8]) -> Option<u64> {
@@ -75,10 +93,9 @@ fn refusal(file: &[u8]) -> Option<u64> {
 fn every_block_is_of_a_known_kind() {
     for block in blocks() {
         match block.words.as_slice() {
-            ["plan", _] => {}
-            ["file", rest @ ..] => {
+            ["file" | "plan", rest @ ..] => {
                 let kinds = ["refused", "diagnostics"].map(|kind| block.word(kind).is_some());
-                let named = rest.len() == 1 && !rest[0].contains('=');
+                let named = matches!(rest, [name] if !name.contains('='));
                 assert_eq!(
                     kinds.iter().filter(|&&is| is).count() + usize::from(named),
                     1
@@ -151,6 +168,54 @@ fn every_refusal_has_a_file_that_meets_it() {
     assert_eq!(met, (1..=15).collect::<Vec<_>>());
 }
 
+/// Plans of the page are read back, and one that is cut short ends early.
+#[test]
+fn worked_plans_are_read_back() {
+    let all = blocks();
+    let named = all
+        .iter()
+        .filter(|block| is_plan(block) && block.word("refused").is_none());
+    for Block { words, bytes } in named {
+        assert_eq!(
+            read_back(bytes, bytes.len()),
+            Ok(bytes.clone()),
+            "{words:?}"
+        );
+        for length in 0..bytes.len() {
+            assert_eq!(
+                read_back(&bytes[..length], MAX_PLAN),
+                Err(16),
+                "{words:?}, {length}"
+            );
+        }
+    }
+}
+
+#[test]
+fn every_refusal_of_the_reader_has_a_plan_that_meets_it() {
+    let (mut met, mut rules) = (vec![], BTreeSet::new());
+    for block in blocks().iter().filter(|block| is_plan(block)) {
+        let Some(number) = block.number("refused") else {
+            continue;
+        };
+        let room = block.number("room").unwrap_or(MAX_PLAN);
+        assert_eq!(
+            read_back(&block.bytes, room),
+            Err(number as u64),
+            "{:02x?}",
+            block.bytes
+        );
+        met.push(number);
+        if let Some(PlanFault::Level { rule, .. }) = PlanFault::of(&block.bytes) {
+            rules.insert(rule);
+        }
+    }
+    met.dedup();
+    assert_eq!(met, [15, 16, 17, 18]);
+    // One for each rule of 18.
+    assert_eq!(rules.len(), sinalvento::plan::LevelRule::ALL.len());
+}
+
 /// One unit more of what was lent, or one byte less of the file, and the
 /// refusals 1, 2 and 15 are gone.
 #[test]
@@ -192,29 +257,29 @@ fn without(file: &[u8], start: usize, end: usize) -> Vec<u8> {
     [&file[..start], &file[end..]].concat()
 }
 
-/// Taking a run of bytes out of a smallest file never leaves one that is refused
-/// for the same reason.
+/// Taking a run of bytes out of a smallest file or plan never leaves one that is
+/// refused for the same reason.
 #[test]
-fn smallest_files_cannot_be_shortened() {
+fn smallest_blocks_cannot_be_shortened() {
     let all = blocks();
     let smallest = all.iter().filter(|block| block.words.contains(&"smallest"));
     let mut count = 0;
     for block in smallest {
         let number = block.number("refused").expect("it is refused") as u64;
-        let file = &block.bytes;
-        for start in 0..file.len() {
-            for end in start + 1..=file.len() {
-                let shorter = without(file, start, end);
-                assert_ne!(
-                    refusal(&shorter),
-                    Some(number),
-                    "{number}: {start} to {end}"
-                );
+        let bytes = &block.bytes;
+        for start in 0..bytes.len() {
+            for end in start + 1..=bytes.len() {
+                let shorter = without(bytes, start, end);
+                let found = match is_plan(block) {
+                    true => read_back(&shorter, MAX_PLAN).err(),
+                    false => refusal(&shorter),
+                };
+                assert_ne!(found, Some(number), "{number}: {start} to {end}");
             }
         }
         count += 1;
     }
-    assert_eq!(count, 12);
+    assert_eq!(count, 15);
 }
 
 /// All files of up to four bytes over an alphabet with every kind of byte that
@@ -288,7 +353,7 @@ fn the_limits_are_as_told() {
 #[test]
 fn refusals_are_told_in_order() {
     let mut rest = PAGE;
-    for number in 1..=15 {
+    for number in 1..=18 {
         let head = format!("\n**{number}: ");
         let at = rest
             .find(&head)
