@@ -119,10 +119,12 @@ fn binding(rng: &mut Rng) -> Binding {
 
 fn level(rng: &mut Rng) -> Level {
     let parts = some(rng, 3, part);
+    // A Prefix's parts are a number alone, and may be any.
+    let [many_closers, many_parts] = [number(rng), number(rng)].map(usize::from);
     let mut level = Level {
         narrowings: 0,
-        closers: rng.below(4),
-        parts: parts.len(),
+        closers: [rng.below(4), many_closers][rng.below(2)],
+        parts: [parts.len(), many_parts][rng.below(2)],
         seek: match rng.below(4) {
             0 => Seek::Prefix(text(rng)),
             1 => Seek::Composite([parts, vec![Part::RegisterFactId(number(rng))]].concat()),
@@ -166,7 +168,13 @@ fn counted(level: &mut Level) {
     level.folded.resize(edges, 1);
     let guides = usize::from(level.guide.is_some());
     level.narrowings = level.parts - level.closers + level.residuals.len() + ranges + guides;
+    let above = level.narrowings.saturating_sub(MOST);
+    level.closers += above;
+    level.narrowings -= above;
 }
+
+/// The most that a number of a level can be.
+const MOST: usize = 0xFFFF;
 
 /// A level that breaks the rule of this place in `reread::RULES`, and keeps the
 /// others; but too many closers may stand beside a sum that is cut off at 0.
@@ -174,9 +182,10 @@ pub fn spoiled(rng: &mut Rng, rule: usize) -> Level {
     let mut level = level(rng);
     match rule {
         0 => too_many_closers(rng, &mut level),
+        1 if rng.chance(20) => overflowing(rng, &mut level),
         1 => {
-            let change = [1, rng.within(1, 4), 256, 0xFFFF][rng.below(4)];
-            level.narrowings = (level.narrowings + change) & 0xFFFF;
+            let change = [1, rng.within(1, 4), 256, MOST][rng.below(4)];
+            level.narrowings = (level.narrowings + change) & MOST;
         }
         2 if level.folded.is_empty() || rng.chance(50) => level.folded.push(number(rng).into()),
         2 => drop(level.folded.pop()),
@@ -206,9 +215,19 @@ pub fn spoiled(rng: &mut Rng, rule: usize) -> Level {
     level
 }
 
+/// Narrowings that are the sum in two bytes, and not the sum.
+fn overflowing(rng: &mut Rng, level: &mut Level) {
+    level.seek = Seek::Prefix(text(rng));
+    level.residuals.push(residual(rng));
+    level.folded.clear();
+    (level.parts, level.closers) = (MOST, 0);
+    let guides = usize::from(level.guide.is_some());
+    level.narrowings = (MOST + level.residuals.len() + guides) & MOST;
+}
+
 fn too_many_closers(rng: &mut Rng, level: &mut Level) {
     let more = rng.within(1, 3);
-    level.closers = 0;
+    (level.parts, level.closers) = (rng.below(4), 0);
     if rng.chance(50) {
         level.residuals.extend((0..more).map(|_| residual(rng)));
         counted(level);

@@ -8,7 +8,8 @@ use crate::draw::boundary::plan_of_length;
 use crate::draw::plans::{made, spoiled};
 use crate::file::MAX_PLAN;
 use crate::fixed::door::d1;
-use crate::plan::{Level, Plan, write_plan};
+use crate::fixed::sketch::field;
+use crate::plan::{Edge, Level, Plan, ResidualOp, Seek, write_plan};
 use crate::reread::{RULES, broken, reread};
 use crate::rng::Rng;
 use crate::run::planned;
@@ -258,7 +259,60 @@ fn rules() -> Vec<Entry> {
         }
         found.extend(short);
     }
+    found.extend(counts());
     found
+}
+
+/// Levels of numbers alone: narrowings, closers, parts of a Prefix; and lists
+/// that are a level's only item.
+fn counts() -> Vec<Entry> {
+    let level = |[narrowings, closers, parts]: [usize; 3]| Level {
+        narrowings,
+        closers,
+        parts,
+        seek: Seek::Prefix(vec![]),
+        guide: None,
+        residuals: vec![],
+        folded: vec![],
+    };
+    let of_counts = |shows: &str, counts| entry(shows, of_levels(vec![level(counts)]));
+    let one_more = Level {
+        residuals: vec![(field(0, &[]), ResidualOp::RegisterFactId(0))],
+        ..level([0, 0, 0xFFFF])
+    };
+    let edge = Edge {
+        inclusive: true,
+        bytes: vec![3],
+    };
+    let edges = |folded: usize| {
+        let level = Level {
+            seek: Seek::Bounded(vec![], Some(edge.clone()), None),
+            folded: vec![0; folded],
+            ..level([0, 0, 0])
+        };
+        entry(format!("one edge, {folded} folded"), of_levels(vec![level]))
+    };
+    vec![
+        of_counts("closers above parts, and the sum cut off at 0", [0, 1, 0]),
+        of_counts("closers above parts, and the sum cut off at 0", [0, 4, 3]),
+        of_counts(
+            "closers above parts, and the sum in two bytes",
+            [0xFFFF, 1, 0],
+        ),
+        of_counts(
+            "closers above parts, and the sum in two bytes",
+            [0xFFFE, 0xFFFF, 0xFFFD],
+        ),
+        of_counts("256 narrowings too many", [256, 0, 0]),
+        of_counts("256 narrowings too few", [0, 0, 256]),
+        of_counts("as many as there can be", [0xFFFF, 0, 0xFFFF]),
+        of_counts("as many as there can be", [0, 0xFFFF, 0xFFFF]),
+        of_counts("as many as there can be", [0xFFFE, 1, 0xFFFF]),
+        entry("the sum in two bytes alone", of_levels(vec![one_more])),
+        edges(0),
+        edges(1),
+        edges(2),
+    ]
 }
 
 /// 15 before 16, 16 and 17 by which is met first, 18 last, in whichever level.
