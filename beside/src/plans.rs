@@ -258,6 +258,7 @@ mod tests {
             "bytes Made",
             "bytes Cut",
             "bytes Damaged",
+            "bytes Marred",
             "bytes Joined",
             "bytes Spoiled",
             "bytes Stretched",

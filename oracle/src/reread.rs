@@ -27,18 +27,16 @@ pub fn reread(bytes: &[u8], room: usize) -> Result<Plan, u8> {
 
 /// The plan that bytes tell by their form alone: 16 and 17.
 pub fn form(bytes: &[u8]) -> Result<Plan, u8> {
-    let mut left = Left(bytes);
-    let plan = Plan {
-        levels: left.counted(Left::level)?,
-        bindings: left.counted(Left::binding)?,
-        constrained: left.counted(Left::u16)?,
-        selects: left.counted(|left| Ok((left.u16()?, left.path()?, left.u32()?)))?,
-        diagnostics: left.counted(|left| Ok((left.u16()?, left.one_of(1..=LAST_CODE)?)))?,
-    };
-    if !left.0.is_empty() {
-        return Err(MEANINGLESS);
-    }
-    Ok(plan)
+    Left::new(bytes).plan()
+}
+
+/// The places of a plan's bytes that have a list of meanings, each with the last
+/// one: seeks, parts, edges, guides, ops, anchors, slots, step counts, codes.
+pub fn marked(bytes: &[u8]) -> Vec<(usize, u8)> {
+    let mut left = Left::new(bytes);
+    // Of bytes that are no plan, as far as they go.
+    let _ = left.plan();
+    left.marked
 }
 
 /// A rule that a level keeps, in words.
@@ -103,13 +101,39 @@ fn edges(level: &Level) -> usize {
     }
 }
 
-/// The bytes not read yet.
-struct Left<'a>(&'a [u8]);
+/// The bytes not read yet, how many there were, and which had a list of meanings.
+struct Left<'a> {
+    rest: &'a [u8],
+    length: usize,
+    marked: Vec<(usize, u8)>,
+}
 
 impl<'a> Left<'a> {
+    fn new(bytes: &'a [u8]) -> Self {
+        Self {
+            rest: bytes,
+            length: bytes.len(),
+            marked: vec![],
+        }
+    }
+
+    fn plan(&mut self) -> Result<Plan, u8> {
+        let plan = Plan {
+            levels: self.counted(Self::level)?,
+            bindings: self.counted(Self::binding)?,
+            constrained: self.counted(Self::u16)?,
+            selects: self.counted(|left| Ok((left.u16()?, left.path()?, left.u32()?)))?,
+            diagnostics: self.counted(|left| Ok((left.u16()?, left.one_of(1..=LAST_CODE)?)))?,
+        };
+        if !self.rest.is_empty() {
+            return Err(MEANINGLESS);
+        }
+        Ok(plan)
+    }
+
     fn take(&mut self, count: usize) -> Result<&'a [u8], u8> {
-        let (taken, rest) = self.0.split_at_checked(count).ok_or(ENDS)?;
-        self.0 = rest;
+        let (taken, rest) = self.rest.split_at_checked(count).ok_or(ENDS)?;
+        self.rest = rest;
         Ok(taken)
     }
 
@@ -133,7 +157,9 @@ impl<'a> Left<'a> {
 
     /// A byte that has a meaning.
     fn one_of(&mut self, known: std::ops::RangeInclusive<u8>) -> Result<u8, u8> {
+        let at = self.length - self.rest.len();
         let byte = self.u8()?;
+        self.marked.push((at, *known.end()));
         if known.contains(&byte) {
             Ok(byte)
         } else {

@@ -3,6 +3,7 @@
 
 use crate::file::*;
 use crate::plan::{Edge, Fuzzy, Level, Part, Plan, ResidualOp, Seek, write_plan};
+use crate::reread::marked;
 use crate::rng::Rng;
 
 /// How bytes were come by.
@@ -12,6 +13,7 @@ pub enum Kind {
     Made,
     Cut,
     Damaged,
+    Marred,
     Joined,
     Spoiled,
     Stretched,
@@ -20,13 +22,14 @@ pub enum Kind {
 
 /// Bytes drawn around a plan.
 pub fn around(rng: &mut Rng, plan: &Plan) -> (Kind, Vec<u8>) {
-    match rng.weighted(&[15, 10, 35, 8, 20, 4, 8]) {
+    match rng.weighted(&[15, 8, 30, 12, 7, 20, 3, 5]) {
         0 => (Kind::Made, write_plan(&made(rng))),
         1 => (Kind::Cut, cut(rng, plan)),
         2 => (Kind::Damaged, damaged(rng, plan)),
-        3 => (Kind::Joined, joined(rng, plan)),
-        4 => (Kind::Spoiled, write_plan(&spoiled_plan(rng, plan))),
-        5 => (Kind::Stretched, stretched(rng, plan)),
+        3 => (Kind::Marred, marred(rng, plan)),
+        4 => (Kind::Joined, joined(rng, plan)),
+        5 => (Kind::Spoiled, write_plan(&spoiled_plan(rng, plan))),
+        6 => (Kind::Stretched, stretched(rng, plan)),
         _ => (Kind::Noise, noise(rng)),
     }
 }
@@ -284,6 +287,24 @@ fn damaged(rng: &mut Rng, plan: &Plan) -> Vec<u8> {
             6 => bytes.push(rng.below(4) as u8),
             _ => bytes[at] = rng.below(20) as u8,
         }
+    }
+    bytes
+}
+
+/// A plan in which a byte with a list of meanings has another value, most often
+/// the first one behind that list, and perhaps is the last byte of all.
+fn marred(rng: &mut Rng, plan: &Plan) -> Vec<u8> {
+    let mut bytes = match rng.chance(50) {
+        true => write_plan(&made(rng)),
+        false => write_plan(plan),
+    };
+    let marked = marked(&bytes);
+    let Some(&(at, last)) = rng.pick(&marked) else {
+        return bytes;
+    };
+    bytes[at] = [last + 1, last, 0, 0xFF, rng.bits() as u8][rng.weighted(&[60, 10, 10, 10, 10])];
+    if rng.chance(50) {
+        bytes.truncate(at + 1);
     }
     bytes
 }
