@@ -2,14 +2,18 @@
 
 use oracle::file as data;
 use oracle::plan as made;
-use sinalvento::plan::{Edge, Fuzzy, Part, Plan, PlanLevel, ResidualOp, Seek};
+use sinalvento::plan::{Edge, Fuzzy, Part, Plan, PlanFault, PlanLevel, ResidualOp, Seek};
 use sinalvento::rules::{Anchor, Binding, Path, Slot};
 
 /// What `Plan::open` gives: the data and the bytes that these are written to, or
-/// the refusal's number.
+/// the refusal's number; 0 where `PlanFault` tells another one.
 pub fn opened(bytes: &[u8]) -> Result<(made::Plan, Vec<u8>), u8> {
-    let plan = Plan::open(bytes).map_err(|refusal| refusal.number())?;
-    Ok((plan_data(&plan), plan.to_bytes()))
+    let plan = Plan::open(bytes).map_err(|refusal| refusal.number());
+    let told = PlanFault::of(bytes).map(|fault| fault.refusal().number());
+    if told != plan.as_ref().err().copied() {
+        return Err(0);
+    }
+    plan.map(|plan| (plan_data(&plan), plan.to_bytes()))
 }
 
 fn plan_data(plan: &Plan) -> made::Plan {
