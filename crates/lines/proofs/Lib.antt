@@ -1,2 +1,3 @@
 pub mod Hexes
 pub mod Fronts
+pub mod Calls

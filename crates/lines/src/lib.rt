@@ -55,6 +55,27 @@ pub fn put_refusal(n: u8, out: &mut [u8]) -> usize
     10
 }
 
+// An exported call answers a refusal's number × this + the length of what it wrote.
+const LENGTHS: u64 = 65536;
+
+// The line for what an exported call answered and left in its output. Gives its length.
+pub fn put_line(answer: u64, output: &[u8], out: &mut [u8]) -> usize
+    requires { ⌜ Lines.Printable answer (now output) (now out) ⌝ }
+    ensures gives { λ r. ⌜ r ≡ length (Lines.lineOf answer (now (output .entry))) ⌝ }
+    ensures leaves { λ _. ⌜ (
+        let text = Lines.lineOf answer (now (output .entry)) in
+        now (out .exit) ≡ sets (now (out .entry)) 0 text
+        ) ⌝ }
+{
+    let number = answer / LENGTHS;
+    if number == 0 {
+        let n = (answer % LENGTHS) as usize;
+        put_hex(&output[..n], out);
+        return n * 2;
+    }
+    put_refusal(number as u8, out)
+}
+
 // The number that a hex digit stands for.
 fn value(c: u8) -> u8
     ensures { λ r. ⌜ r ≡ Lines.value c ⌝ }
