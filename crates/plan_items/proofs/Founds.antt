@@ -1,11 +1,11 @@
 -- What a reading that succeeds says of its pieces, each at its own place, and how the pieces' readings make up the whole.
-use Prim.Native.Nat.{ℕ, zero, suc, _+_, _*_, _-_, _≤_, _<_}
+use Prim.Native.Nat.{ℕ, zero, suc, _+_, _-_, _≤_, _<_}
 use mathlib.Core.Path.{_≡_, refl, sym, ap, _∙_}
-use mathlib.Core.List.{List, [], _∷_}
+use mathlib.Core.List.{List, _∷_}
 use mathlib.Core.Logic.{⊎-elim}
 use native.Mathlib.Omega.{arith}
 use lib.ListN.{length, getD, drop}
-use Rattle.rules.specs.Read.{Read, Reader, _>>=_, pure, refuse, u8, u16, many, kind}
+use Rattle.rules.specs.Read.{Reader, _>>=_, pure, refuse, u8, u16, many, kind}
 use Rattle.rules.specs.Read.Read.{got}
 use Rattle.file.specs.Steps.{word, readAt}
 use Rattle.file.proofs.Readers.{lt-or-le, down, bind-got, bind-inv, then-got, kind-in, Fixed, needs-fixed, needs-first, fixed-u16}

@@ -6,7 +6,7 @@ use mathlib.Core.Option.{Option}
 use native.Mathlib.Omega.{arith}
 use lib.ListN.{length, getD, drop}
 use Rattle.rules.specs.File.{Slot}
-use Rattle.rules.specs.Read.{Reader, _>>=_, pure, refuse, u16, u32, optional, kind, rowSlot, keySlot, derivedSlot, valueSlot, constSlot}
+use Rattle.rules.specs.Read.{Reader, pure, refuse, u16, u32, optional, kind, rowSlot, keySlot, derivedSlot, valueSlot, constSlot}
 use Rattle.rules.specs.Read.Read.{got}
 use Rattle.rules.specs.Reader as Reader
 use Rattle.rules.specs.Events.{Code}

@@ -6,19 +6,15 @@ use Rattle.plan_items.proofs.bounded_seek.Lts as lts
 use Rattle.plan_items.proofs.edge_at.Reads as edge-at-reads
 use Rattle.plan_items.proofs.parts_past.Reads as parts-past-reads
 
--- src/lib.rt:380:9
 parts-past-requires : tie.Need-parts-past-requires
 parts-past-requires c κs = bounded-parts _ _ _ (c .before .pre)
 
--- src/lib.rt:381:9
 edge-at-requires : tie.Need-edge-at-requires
 edge-at-requires c κs = bounded-lo _ _ _ _ (c .parts-past .result) (c .parts-past .ensures) (c .before .before .pre)
 
--- src/lib.rt:382:9
 edge-at-requires-2 : tie.Need-edge-at-requires-2
 edge-at-requires-2 c κs = bounded-hi _ _ _ _ (c .before .parts-past .result) (c .before .parts-past .ensures) (c .before .before .before .pre) _ (c .edge-at .result .end) (c .edge-at .ensures .0)
 
--- src/lib.rt:373:1
 returns : tie.Need-returns
 returns c = (bounded-reads _ _ _ _ (c .before .before .parts-past .result) (c .before .before .parts-past .ensures) _ _ (c .before .edge-at .result .end) (c .edge-at2 .result .end) (c .before .edge-at .ensures .0) (c .edge-at2 .ensures .0), (bounded-parts _ _ _ (c .before .before .before .before .pre), c .before .edge-at .ensures .1, c .edge-at2 .ensures .1))
 

@@ -7,39 +7,30 @@ use Rattle.plan_items.proofs.edge_at.Reads as reads
 use Rattle.plan_items.proofs.edge_at.Lts as lts
 use Rattle.plan_items.proofs.text_at.Reads as text-at-reads
 
--- src/lib.rt:191:13
 add-q : tie.Need-add-q
 add-q c = omega (arith, edge-inside _ _ (c .before .pre))
 
--- src/lib.rt:192:11
 shared-slice-read-match : tie.Need-shared-slice-read-match
 shared-slice-read-match c = edge-inside _ _ (c .before .before .pre)
 
--- src/lib.rt:198:17
 text-at-requires : tie.Need-text-at-requires
 text-at-requires c κs = exclusive-text _ _ (c .before .before .before .pre) (omega arith)
 
--- src/lib.rt:201:22
 add-t12 : tie.Need-add-t12
 add-t12 c = search needs
 
--- src/lib.rt:205:17
 text-at-requires-2 : tie.Need-text-at-requires-2
 text-at-requires-2 c κs = inclusive-text _ _ (c .before .before .before .pre) (omega (arith, edge-known _ _ (c .before .before .before .pre)))
 
--- src/lib.rt:208:22
 add-t14 : tie.Need-add-t14
 add-t14 c = search needs
 
--- src/lib.rt:184:1
 returns : tie.Need-returns
 returns c = (edge-none _ _ (c .before .before .before .pre) (omega arith), tt)
 
--- src/lib.rt:184:1
 returns-2 : tie.Need-returns-2
 returns-2 c = (edge-exclusive _ _ (c .before .before .before .before .before .pre) (c .before .text-at .result) (omega arith) (c .before .text-at .ensures .0), c .before .text-at .ensures .1)
 
--- src/lib.rt:184:1
 returns-3 : tie.Need-returns-3
 returns-3 c = (edge-inclusive _ _ (c .before .before .before .before .before .pre) (c .before .text-at2 .result) (omega (arith, edge-known _ _ (c .before .before .before .before .before .pre))) (c .before .text-at2 .ensures .0), c .before .text-at2 .ensures .1)
 

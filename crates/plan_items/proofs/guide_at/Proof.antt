@@ -9,51 +9,39 @@ use Rattle.file.proofs.word_at.Reads as word-at-reads
 use Rattle.plan_items.proofs.path_past.Reads as path-past-reads
 use Rattle.views.proofs.anchor_of.Reads as anchor-of-reads
 
--- src/lib.rt:222:16
 add-path : tie.Need-add-path
 add-path c = omega (arith, guide-inside _ _ (c .before .pre))
 
--- src/lib.rt:223:8
 shared-slice-read-if1 : tie.Need-shared-slice-read-if1
 shared-slice-read-if1 c = guide-inside _ _ (c .before .before .pre)
 
--- src/lib.rt:224:9
 returns : tie.Need-returns
 returns c = (guide-none _ _ (c .before .before .before .pre) (omega arith), tt)
 
--- src/lib.rt:229:9
 path-past-requires : tie.Need-path-past-requires
 path-past-requires c κs = guide-path _ _ (c .before .before .before .pre) (omega (arith, guide-known _ _ (c .before .before .before .pre)))
 
--- src/lib.rt:230:9
 word-at-requires : tie.Need-word-at-requires
 word-at-requires c κs = omega (arith, guide-room _ _ (c .before .before .before .before .pre) (c .path-past .result) (omega (arith, guide-known _ _ (c .before .before .before .before .pre))) (c .path-past .ensures))
 
--- src/lib.rt:231:25
 add-distance : tie.Need-add-distance
 add-distance c = omega (arith, guide-room _ _ (c .before .before .before .before .before .pre) (c .before .path-past .result) (omega (arith, guide-known _ _ (c .before .before .before .before .before .pre))) (c .before .path-past .ensures))
 
--- src/lib.rt:231:20
 shared-slice-read-distance : tie.Need-shared-slice-read-distance
 shared-slice-read-distance c = omega (arith, guide-room _ _ (c .before .before .before .before .before .before .pre) (c .before .before .path-past .result) (omega (arith, guide-known _ _ (c .before .before .before .before .before .before .pre))) (c .before .before .path-past .ensures))
 
--- src/lib.rt:232:33
 add-anchor-of : tie.Need-add-anchor-of
 add-anchor-of c = omega (arith, guide-room _ _ (c .before .before .before .before .before .before .pre) (c .before .before .path-past .result) (omega (arith, guide-known _ _ (c .before .before .before .before .before .before .pre))) (c .before .before .path-past .ensures))
 
--- src/lib.rt:232:28
 shared-slice-read-anchor-of : tie.Need-shared-slice-read-anchor-of
 shared-slice-read-anchor-of c = omega (arith, guide-room _ _ (c .before .before .before .before .before .before .before .pre) (c .before .before .before .path-past .result) (omega (arith, guide-known _ _ (c .before .before .before .before .before .before .before .pre))) (c .before .before .before .path-past .ensures))
 
--- src/lib.rt:232:9
 anchor-of-requires : tie.Need-anchor-of-requires
 anchor-of-requires c κs = guide-anchor _ _ (c .before .before .before .before .before .before .before .pre) (c .before .before .before .path-past .result) (omega (arith, guide-known _ _ (c .before .before .before .before .before .before .before .pre))) (c .before .before .before .path-past .ensures)
 
--- src/lib.rt:235:14
 add-t12 : tie.Need-add-t12
 add-t12 c = omega (arith, guide-room _ _ (c .before .before .before .before .before .before .before .before .pre) (c .before .before .before .before .path-past .result) (omega (arith, guide-known _ _ (c .before .before .before .before .before .before .before .before .pre))) (c .before .before .before .before .path-past .ensures))
 
--- src/lib.rt:215:1
 returns-2 : tie.Need-returns-2
 returns-2 c = (guide-some _ _ (c .before .before .before .before .before .before .before .before .pre) (c .before .before .before .before .path-past .result) (omega (arith, guide-known _ _ (c .before .before .before .before .before .before .before .before .pre))) (c .before .before .before .before .path-past .ensures) _ _ _ (c .before .before .before .word-at .ensures .0) refl (c .anchor-of .ensures), guide-path _ _ (c .before .before .before .before .before .before .before .before .pre) (omega (arith, guide-known _ _ (c .before .before .before .before .before .before .before .before .pre))))
 

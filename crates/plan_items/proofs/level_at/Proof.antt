@@ -10,47 +10,36 @@ use Rattle.plan_items.proofs.residuals_at.Reads as residuals-at-reads
 use Rattle.plan_items.proofs.seek_at.Reads as seek-at-reads
 use Rattle.plan_items.proofs.words_at.Reads as words-at-reads
 
--- src/lib.rt:453:9
 word-at-requires : tie.Need-word-at-requires
 word-at-requires c κs = omega (arith, counts-inside _ _ (c .before .pre))
 
--- src/lib.rt:454:33
 add-word-at : tie.Need-add-word-at
 add-word-at c = omega (arith, counts-inside _ _ (c .before .before .pre))
 
--- src/lib.rt:454:9
 word-at-requires-2 : tie.Need-word-at-requires-2
 word-at-requires-2 c κs = omega (arith, counts-inside _ _ (c .before .before .pre))
 
--- src/lib.rt:455:31
 add-word-at-2 : tie.Need-add-word-at-2
 add-word-at-2 c = omega (arith, counts-inside _ _ (c .before .before .before .pre))
 
--- src/lib.rt:455:9
 word-at-requires-3 : tie.Need-word-at-requires-3
 word-at-requires-3 c κs = omega (arith, counts-inside _ _ (c .before .before .before .pre))
 
--- src/lib.rt:456:34
 add-seek-at : tie.Need-add-seek-at
 add-seek-at c = omega (arith, counts-inside _ _ (c .before .before .before .before .pre))
 
--- src/lib.rt:456:9
 seek-at-requires : tie.Need-seek-at-requires
 seek-at-requires c κs = level-seek _ _ (c .before .before .before .before .pre) _ (c .word-at3 .ensures .0)
 
--- src/lib.rt:458:9
 guide-at-requires : tie.Need-guide-at-requires
 guide-at-requires c κs = level-guide _ _ (c .before .before .before .before .before .pre) _ (c .before .word-at3 .ensures .0) _ (c .seek-at .result .end) (c .seek-at .ensures .0)
 
--- src/lib.rt:460:9
 residuals-at-requires : tie.Need-residuals-at-requires
 residuals-at-requires c κs = level-residuals _ _ (c .before .before .before .before .before .before .pre) _ (c .before .before .word-at3 .ensures .0) _ (c .before .seek-at .result .end) (c .before .seek-at .ensures .0) _ (c .guide-at .result .end) (c .guide-at .ensures .0)
 
--- src/lib.rt:461:9
 words-at-requires : tie.Need-words-at-requires
 words-at-requires c κs = level-folded _ _ (c .before .before .before .before .before .before .before .pre) _ (c .before .before .before .word-at3 .ensures .0) _ (c .before .before .seek-at .result .end) (c .before .before .seek-at .ensures .0) _ (c .before .guide-at .result .end) (c .before .guide-at .ensures .0) _ (c .residuals-at .result .end) (c .residuals-at .ensures .0)
 
--- src/lib.rt:446:1
 returns : tie.Need-returns
 returns c = (level-reads _ _ (c .before .before .before .before .before .before .before .before .pre) _ (c .before .before .before .before .word-at3 .ensures .0) _ (c .before .before .before .seek-at .result .end) (c .before .before .before .seek-at .ensures .0) _ (c .before .before .guide-at .result .end) (c .before .before .guide-at .ensures .0) _ (c .before .residuals-at .result .end) (c .before .residuals-at .ensures .0) _ _ _ (c .words-at .result .end) (c .before .before .before .before .before .before .word-at .ensures .0) (c .before .before .before .before .before .word-at2 .ensures .0) (c .words-at .ensures .0), record { seek = c .before .before .before .seek-at .ensures .1; guide = c .before .before .guide-at .ensures .1; residuals = c .before .residuals-at .ensures .1; folded = c .words-at .ensures .1; few = c .before .before .before .before .word-at3 .ensures .1 })
 

@@ -13,107 +13,81 @@ use Rattle.views.proofs.anchor_of.Reads as anchor-of-reads
 use Rattle.views.proofs.half_at.Reads as half-at-reads
 use Rattle.views.proofs.long_at.Reads as long-at-reads
 
--- src/lib.rt:247:13
 add-q : tie.Need-add-q
 add-q c = omega (arith, op-inside _ _ (c .before .pre))
 
--- src/lib.rt:248:11
 shared-slice-read-match : tie.Need-shared-slice-read-match
 shared-slice-read-match c = op-inside _ _ (c .before .before .pre)
 
--- src/lib.rt:250:17
 text-at-requires : tie.Need-text-at-requires
 text-at-requires c κs = bytes-text _ _ (c .before .before .before .pre) (omega arith)
 
--- src/lib.rt:253:22
 add-t13 : tie.Need-add-t13
 add-t13 c = search needs
 
--- src/lib.rt:257:17
 text-at-requires-2 : tie.Need-text-at-requires-2
 text-at-requires-2 c κs = prefix-text _ _ (c .before .before .before .pre) (omega arith)
 
--- src/lib.rt:260:22
 add-t15 : tie.Need-add-t15
 add-t15 c = search needs
 
--- src/lib.rt:264:35
 half-at-requires : tie.Need-half-at-requires
 half-at-requires c κs = op-address _ _ (c .before .before .before .pre) (omega arith)
 
--- src/lib.rt:265:24
 add-path : tie.Need-add-path
 add-path c = omega (arith, op-address _ _ (c .before .before .before .before .pre) (omega arith))
 
--- src/lib.rt:268:22
 path-past-requires : tie.Need-path-past-requires
 path-past-requires c κs = op-path _ _ (c .before .before .before .before .pre) (omega arith)
 
--- src/lib.rt:272:54
 half-at-requires-2 : tie.Need-half-at-requires-2
 half-at-requires-2 c κs = op-fact-inside _ _ (c .before .before .before .pre) (omega arith)
 
--- src/lib.rt:273:18
 add-t22 : tie.Need-add-t22
 add-t22 c = omega (arith, op-fact-inside _ _ (c .before .before .before .before .pre) (omega arith))
 
--- src/lib.rt:276:43
 long-at-requires : tie.Need-long-at-requires
 long-at-requires c κs = op-tag-inside _ _ (c .before .before .before .pre) (omega arith)
 
--- src/lib.rt:277:18
 add-t25 : tie.Need-add-t25
 add-t25 c = omega (arith, op-tag-inside _ _ (c .before .before .before .before .pre) (omega arith))
 
--- src/lib.rt:280:45
 word-at-requires : tie.Need-word-at-requires
 word-at-requires c κs = omega (arith, op-fuzzy-room _ _ (c .before .before .before .pre) (omega (arith, op-known _ _ (c .before .before .before .pre))))
 
--- src/lib.rt:280:68
 add-t27 : tie.Need-add-t27
 add-t27 c = omega (arith, op-fuzzy-room _ _ (c .before .before .before .before .pre) (omega (arith, op-known _ _ (c .before .before .before .before .pre))))
 
--- src/lib.rt:280:63
 shared-slice-read-t29 : tie.Need-shared-slice-read-t29
 shared-slice-read-t29 c = omega (arith, op-fuzzy-room _ _ (c .before .before .before .before .before .pre) (omega (arith, op-known _ _ (c .before .before .before .before .before .pre))))
 
--- src/lib.rt:280:91
 add-anchor-of : tie.Need-add-anchor-of
 add-anchor-of c = omega (arith, op-fuzzy-room _ _ (c .before .before .before .before .before .pre) (omega (arith, op-known _ _ (c .before .before .before .before .before .pre))))
 
--- src/lib.rt:280:86
 shared-slice-read-anchor-of : tie.Need-shared-slice-read-anchor-of
 shared-slice-read-anchor-of c = omega (arith, op-fuzzy-room _ _ (c .before .before .before .before .before .before .pre) (omega (arith, op-known _ _ (c .before .before .before .before .before .before .pre))))
 
--- src/lib.rt:280:76
 anchor-of-requires : tie.Need-anchor-of-requires
 anchor-of-requires c κs = op-fuzzy-anchor _ _ (c .before .before .before .before .before .before .pre) (omega (arith, op-known _ _ (c .before .before .before .before .before .before .pre)))
 
--- src/lib.rt:281:18
 add-t35 : tie.Need-add-t35
 add-t35 c = omega (arith, op-fuzzy-room _ _ (c .before .before .before .before .before .before .before .pre) (omega (arith, op-known _ _ (c .before .before .before .before .before .before .before .pre))))
 
--- src/lib.rt:240:1
 returns : tie.Need-returns
 returns c = (op-bytes _ _ (c .before .before .before .before .before .pre) (c .before .text-at .result) (omega arith) (c .before .text-at .ensures .0), c .before .text-at .ensures .1)
 
--- src/lib.rt:240:1
 returns-2 : tie.Need-returns-2
 returns-2 c = (op-prefix _ _ (c .before .before .before .before .before .pre) (c .before .text-at2 .result) (omega arith) (c .before .text-at2 .ensures .0), c .before .text-at2 .ensures .1)
 
--- src/lib.rt:240:1
 returns-3 : tie.Need-returns-3
 returns-3 c = (op-register _ _ (c .before .before .before .before .before .pre) _ (c .path-past .result) (omega arith) (c .before .half-at .ensures) (c .path-past .ensures), op-path _ _ (c .before .before .before .before .before .pre) (omega arith))
 
--- src/lib.rt:240:1
 returns-4 : tie.Need-returns-4
 returns-4 c = (op-fact _ _ (c .before .before .before .before .pre) _ (omega arith) (c .half-at2 .ensures), tt)
 
--- src/lib.rt:240:1
 returns-5 : tie.Need-returns-5
 returns-5 c = (op-tag _ _ (c .before .before .before .before .pre) _ (omega arith) (c .long-at .ensures), tt)
 
--- src/lib.rt:240:1
 returns-6 : tie.Need-returns-6
 returns-6 c = (op-fuzzy _ _ (c .before .before .before .before .before .before .before .pre) _ _ _ (omega (arith, op-known _ _ (c .before .before .before .before .before .before .before .pre))) (c .before .before .before .word-at .ensures .0) refl (c .anchor-of .ensures), tt)
 

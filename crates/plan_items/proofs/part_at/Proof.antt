@@ -9,51 +9,39 @@ use Rattle.plan_items.proofs.path_past.Reads as path-past-reads
 use Rattle.plan_items.proofs.text_at.Reads as text-at-reads
 use Rattle.views.proofs.half_at.Reads as half-at-reads
 
--- src/lib.rt:159:13
 add-q : tie.Need-add-q
 add-q c = omega (arith, part-inside _ _ (c .before .pre))
 
--- src/lib.rt:160:11
 shared-slice-read-match : tie.Need-shared-slice-read-match
 shared-slice-read-match c = part-inside _ _ (c .before .before .pre)
 
--- src/lib.rt:162:17
 text-at-requires : tie.Need-text-at-requires
 text-at-requires c κs = part-text _ _ (c .before .before .before .pre) (omega arith)
 
--- src/lib.rt:165:22
 add-t12 : tie.Need-add-t12
 add-t12 c = search needs
 
--- src/lib.rt:169:35
 half-at-requires : tie.Need-half-at-requires
 half-at-requires c κs = part-address _ _ (c .before .before .before .pre) (omega arith)
 
--- src/lib.rt:170:24
 add-path : tie.Need-add-path
 add-path c = omega (arith, part-address _ _ (c .before .before .before .before .pre) (omega arith))
 
--- src/lib.rt:173:22
 path-past-requires : tie.Need-path-past-requires
 path-past-requires c κs = part-path _ _ (c .before .before .before .before .pre) (omega arith)
 
--- src/lib.rt:177:52
 half-at-requires-2 : tie.Need-half-at-requires-2
 half-at-requires-2 c κs = part-fact-inside _ _ (c .before .before .before .pre) (omega (arith, part-known _ _ (c .before .before .before .pre)))
 
--- src/lib.rt:178:18
 add-t19 : tie.Need-add-t19
 add-t19 c = omega (arith, part-fact-inside _ _ (c .before .before .before .before .pre) (omega (arith, part-known _ _ (c .before .before .before .before .pre))))
 
--- src/lib.rt:152:1
 returns : tie.Need-returns
 returns c = (part-bytes _ _ (c .before .before .before .before .before .pre) (c .before .text-at .result) (omega arith) (c .before .text-at .ensures .0), c .before .text-at .ensures .1)
 
--- src/lib.rt:152:1
 returns-2 : tie.Need-returns-2
 returns-2 c = (part-register _ _ (c .before .before .before .before .before .pre) _ (c .path-past .result) (omega arith) (c .before .half-at .ensures) (c .path-past .ensures), part-path _ _ (c .before .before .before .before .before .pre) (omega arith))
 
--- src/lib.rt:152:1
 returns-3 : tie.Need-returns-3
 returns-3 c = (part-fact _ _ (c .before .before .before .before .pre) _ (omega (arith, part-known _ _ (c .before .before .before .before .pre))) (c .half-at2 .ensures), tt)
 

@@ -5,11 +5,9 @@ use Rattle.plan_items.proofs.path_at.Reads as reads
 use Rattle.plan_items.proofs.path_at.Lts as lts
 use Rattle.views.proofs.path_at.Reads as path-at-reads
 
--- src/lib.rt:148:5
 path-at-requires : tie.Need-path-at-requires
 path-at-requires c κs = (path-inside _ _ (c .before .pre), path-short _ _ (c .before .pre))
 
--- src/lib.rt:140:1
 returns : tie.Need-returns
 returns c = path-value _ _ (c .before .before .pre) (c .path-at .result) (c .path-at .ensures .0)
 

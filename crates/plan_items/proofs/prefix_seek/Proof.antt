@@ -6,15 +6,12 @@ use Rattle.plan_items.proofs.prefix_seek.Reads as reads
 use Rattle.plan_items.proofs.prefix_seek.Lts as lts
 use Rattle.plan_items.proofs.text_at.Reads as text-at-reads
 
--- src/lib.rt:348:9
 text-at-requires : tie.Need-text-at-requires
 text-at-requires c κs = prefix-text _ _ (c .before .pre)
 
--- src/lib.rt:351:14
 add-t6 : tie.Need-add-t6
 add-t6 c = search needs
 
--- src/lib.rt:341:1
 returns : tie.Need-returns
 returns c = (prefix-reads _ _ (c .before .before .before .pre) (c .before .text-at .result) (c .before .text-at .ensures .0), c .before .text-at .ensures .1)
 

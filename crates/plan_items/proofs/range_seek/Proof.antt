@@ -9,23 +9,18 @@ use Rattle.plan_items.proofs.parts_past.Reads as parts-past-reads
 use Rattle.plan_items.proofs.path_past.Reads as path-past-reads
 use Rattle.plan_items.proofs.text_at.Reads as text-at-reads
 
--- src/lib.rt:363:9
 parts-past-requires : tie.Need-parts-past-requires
 parts-past-requires c κs = range-parts _ _ _ (c .before .pre)
 
--- src/lib.rt:364:9
 text-at-requires : tie.Need-text-at-requires
 text-at-requires c κs = range-text _ _ _ _ (c .parts-past .result) (c .parts-past .ensures) (c .before .before .pre)
 
--- src/lib.rt:365:16
 add-path : tie.Need-add-path
 add-path c = search needs
 
--- src/lib.rt:368:14
 path-past-requires : tie.Need-path-past-requires
 path-past-requires c κs = range-path _ _ _ _ (c .before .before .parts-past .result) (c .before .before .parts-past .ensures) (c .before .before .before .before .pre) _ (c .before .text-at .result .at + c .before .text-at .result .len) (c .before .text-at .ensures .0)
 
--- src/lib.rt:356:1
 returns : tie.Need-returns
 returns c = (range-reads _ _ _ _ (c .before .before .before .parts-past .result) (c .before .before .before .parts-past .ensures) _ (c .before .before .text-at .result .at + c .before .before .text-at .result .len) (c .path-past .result) (c .before .before .text-at .ensures .0) (c .path-past .ensures), (range-parts _ _ _ (c .before .before .before .before .before .pre), c .before .before .text-at .ensures .1, range-path _ _ _ _ (c .before .before .before .parts-past .result) (c .before .before .before .parts-past .ensures) (c .before .before .before .before .before .pre) _ (c .before .before .text-at .result .at + c .before .before .text-at .result .len) (c .before .before .text-at .ensures .0)))
 

@@ -6,15 +6,12 @@ use Rattle.plan_items.proofs.residual_at.Lts as lts
 use Rattle.plan_items.proofs.op_at.Reads as op-at-reads
 use Rattle.plan_items.proofs.path_past.Reads as path-past-reads
 
--- src/lib.rt:294:9
 path-past-requires : tie.Need-path-past-requires
 path-past-requires c κs = residual-path _ _ (c .before .pre)
 
--- src/lib.rt:295:9
 op-at-requires : tie.Need-op-at-requires
 op-at-requires c κs = residual-op _ _ (c .before .before .pre) (c .path-past .result) (c .path-past .ensures)
 
--- src/lib.rt:287:1
 returns : tie.Need-returns
 returns c = (residual-reads _ _ (c .before .before .before .pre) (c .before .path-past .result) (c .before .path-past .ensures) _ (c .op-at .result .end) (c .op-at .ensures .0), record { path = residual-path _ _ (c .before .before .before .pre); op = c .op-at .ensures .1 })
 

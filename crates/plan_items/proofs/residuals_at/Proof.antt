@@ -7,19 +7,15 @@ use Rattle.plan_items.proofs.residuals_at.Lts as lts
 use Rattle.file.proofs.word_at.Reads as word-at-reads
 use Rattle.plan_items.proofs.residuals_past.Reads as residuals-past-reads
 
--- src/lib.rt:419:9
 word-at-requires : tie.Need-word-at-requires
 word-at-requires c κs = counted-inside _ _ _ (c .before .pre)
 
--- src/lib.rt:420:14
 add-at : tie.Need-add-at
 add-at c = omega (arith, counted-inside _ _ _ (c .before .before .pre))
 
--- src/lib.rt:424:14
 residuals-past-requires : tie.Need-residuals-past-requires
 residuals-past-requires c κs = counted-found _ _ _ (c .before .before .pre) _ (c .word-at .ensures .0)
 
--- src/lib.rt:412:1
 returns : tie.Need-returns
 returns c = (counted-reads _ _ _ (c .before .before .before .pre) _ (c .residuals-past .result) (c .before .word-at .ensures .0) (c .residuals-past .ensures), record { found = counted-found _ _ _ (c .before .before .before .pre) _ (c .before .word-at .ensures .0); few = c .before .word-at .ensures .1 })
 

@@ -13,27 +13,21 @@ Inv-loop plan n p q₀ left₀ q left = Left plan Reader.residual n p left q
 abbrev μ-loop : tie.MeasureT-loop
 μ-loop plan n p q₀ left₀ q left = left
 
--- src/lib.rt:332:5
 loop-holds : tie.Need-loop-holds Inv-loop μ-loop
 loop-holds c = left-all _ _ _ _ (c .before .pre)
 
--- src/lib.rt:333:13
 residual-at-requires : tie.Need-residual-at-requires Inv-loop μ-loop
 residual-at-requires c κs = found-one _ _ _ _ (omega arith) (c .before .loop .inv .found)
 
--- src/lib.rt:335:9
 sub-left : tie.Need-sub-left Inv-loop μ-loop
 sub-left c = omega arith
 
--- src/lib.rt:332:5
 loop-less : tie.Need-loop-less Inv-loop μ-loop
 loop-less c = omega arith
 
--- src/lib.rt:332:5
 loop-again : tie.Need-loop-again Inv-loop μ-loop
 loop-again c = left-more _ _ _ _ _ _ _ _ (omega arith) (c .residual-at .ensures .0) (c .before .before .loop .inv)
 
--- src/lib.rt:323:1
 returns : tie.Need-returns Inv-loop μ-loop
 returns c = left-none _ _ _ _ _ _ (omega arith) (c .before .loop .inv)
 

@@ -9,43 +9,33 @@ use Rattle.plan_items.proofs.parts_past.Reads as parts-past-reads
 use Rattle.plan_items.proofs.prefix_seek.Reads as prefix-seek-reads
 use Rattle.plan_items.proofs.range_seek.Reads as range-seek-reads
 
--- src/lib.rt:399:13
 add-q : tie.Need-add-q
 add-q c = omega (arith, seek-inside _ _ _ (c .before .pre))
 
--- src/lib.rt:400:11
 shared-slice-read-match : tie.Need-shared-slice-read-match
 shared-slice-read-match c = seek-inside _ _ _ (c .before .before .pre)
 
--- src/lib.rt:401:14
 prefix-seek-requires : tie.Need-prefix-seek-requires
 prefix-seek-requires c κs = prefix-found _ _ _ (c .before .before .before .pre) (omega arith)
 
--- src/lib.rt:404:18
 parts-past-requires : tie.Need-parts-past-requires
 parts-past-requires c κs = composite-parts _ _ _ (composite-found _ _ _ (c .before .before .before .pre) (omega arith))
 
--- src/lib.rt:406:14
 range-seek-requires : tie.Need-range-seek-requires
 range-seek-requires c κs = range-found _ _ _ (c .before .before .before .pre) (omega arith)
 
--- src/lib.rt:407:14
 bounded-seek-requires : tie.Need-bounded-seek-requires
 bounded-seek-requires c κs = bounded-found _ _ _ (c .before .before .before .pre) (omega (arith, seek-known _ _ _ (c .before .before .before .pre)))
 
--- src/lib.rt:392:1
 returns : tie.Need-returns
 returns c = (seek-prefix _ _ _ (c .before .before .before .before .pre) _ (c .prefix-seek .result .end) (omega arith) (c .prefix-seek .ensures .0), c .prefix-seek .ensures .1)
 
--- src/lib.rt:392:1
 returns-2 : tie.Need-returns-2
 returns-2 c = (seek-composite _ _ _ (c .before .before .before .before .pre) _ (c .parts-past .result) (omega arith) (composite-reads _ _ _ _ (c .parts-past .result) (c .parts-past .ensures)), composite-parts _ _ _ (composite-found _ _ _ (c .before .before .before .before .pre) (omega arith)))
 
--- src/lib.rt:392:1
 returns-3 : tie.Need-returns-3
 returns-3 c = (seek-range _ _ _ (c .before .before .before .before .pre) _ (c .range-seek .result .end) (omega arith) (c .range-seek .ensures .0), c .range-seek .ensures .1)
 
--- src/lib.rt:392:1
 returns-4 : tie.Need-returns-4
 returns-4 c = (seek-bounded _ _ _ (c .before .before .before .before .pre) _ (c .bounded-seek .result .end) (omega (arith, seek-known _ _ _ (c .before .before .before .before .pre))) (c .bounded-seek .ensures .0), c .bounded-seek .ensures .1)
 

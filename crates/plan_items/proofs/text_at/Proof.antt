@@ -6,15 +6,12 @@ use Rattle.plan_items.proofs.text_at.Reads as reads
 use Rattle.plan_items.proofs.text_at.Lts as lts
 use Rattle.file.proofs.word_at.Reads as word-at-reads
 
--- src/lib.rt:123:13
 add-t3 : tie.Need-add-t3
 add-t3 c = omega (arith, text-inside _ _ (c .before .pre))
 
--- src/lib.rt:124:14
 word-at-requires : tie.Need-word-at-requires
 word-at-requires c κs = text-inside _ _ (c .before .pre)
 
--- src/lib.rt:114:1
 returns : tie.Need-returns
 returns c = (text-reads _ _ (c .before .before .pre) _ (c .word-at .ensures .0), omega (arith, text-room _ _ (c .before .before .pre), c .word-at .ensures .0))
 

@@ -7,23 +7,18 @@ use Rattle.plan_items.proofs.words_at.Reads as reads
 use Rattle.plan_items.proofs.words_at.Lts as lts
 use Rattle.file.proofs.word_at.Reads as word-at-reads
 
--- src/lib.rt:436:9
 word-at-requires : tie.Need-word-at-requires
 word-at-requires c κs = counted-inside _ _ _ (c .before .pre)
 
--- src/lib.rt:437:14
 add-at : tie.Need-add-at
 add-at c = omega (arith, counted-inside _ _ _ (c .before .before .pre))
 
--- src/lib.rt:441:19
 mul-t5 : tie.Need-mul-t5
 mul-t5 c = search needs
 
--- src/lib.rt:441:14
 add-t6 : tie.Need-add-t6
 add-t6 c = omega (arith, words-room _ _ (c .before .before .pre) _ (c .word-at .ensures .0))
 
--- src/lib.rt:429:1
 returns : tie.Need-returns
 returns c = (words-read _ _ (c .before .before .pre) _ (c .word-at .ensures .0), record { found = counted-found _ _ _ (c .before .before .pre) _ (c .word-at .ensures .0); few = c .word-at .ensures .1 })
 

@@ -8,27 +8,21 @@ use Rattle.plan_rules.proofs.bounded_keeps.Lts as lts
 use Rattle.plan_rules.proofs.edge_number.Reads as edge-number-reads
 use Rattle.plan_rules.proofs.guide_number.Reads as guide-number-reads
 
--- src/lib.rt:161:8
 edge-number-requires : tie.Need-edge-number-requires
 edge-number-requires c κs = search needs
 
--- src/lib.rt:161:26
 edge-number-requires-2 : tie.Need-edge-number-requires-2
 edge-number-requires-2 c κs = search needs
 
--- src/lib.rt:161:8
 add-if1 : tie.Need-add-if1
 add-if1 c = search needs
 
--- src/lib.rt:162:9
 returns : tie.Need-returns
 returns c = λ f parts. no-edge parts _ _ _ (omega (arith, c .before .edge-number2 .ensures .0 f, c .before .before .edge-number .ensures .0 f))
 
--- src/lib.rt:164:5
 guide-number-requires : tie.Need-guide-number-requires
 guide-number-requires c κs = search needs
 
--- src/lib.rt:156:1
 returns-2 : tie.Need-returns-2
 returns-2 c = λ f parts. some-edge parts _ _ _ _ (omega (arith, c .before .before .edge-number2 .ensures .0 f, c .before .before .before .edge-number .ensures .0 f)) (c .guide-number .ensures .0 f)
 

@@ -5,7 +5,6 @@ use Rattle.plan_rules.proofs.closers_among_parts.Tie as tie
 use Rattle.plan_rules.proofs.closers_among_parts.Reads as reads
 use Rattle.plan_rules.proofs.closers_among_parts.Lts as lts
 
--- src/lib.rt:76:1
 returns : tie.Need-returns
 unfolding closersAmongParts
 returns c = λ f. refl

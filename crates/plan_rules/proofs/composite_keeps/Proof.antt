@@ -1,5 +1,5 @@
 use native.Mathlib.Omega.{arith}
-use mathlib.Core.Path.{ap, sym, _∙_}
+use mathlib.Core.Path.{sym, _∙_}
 use borrow.Author.Tests.{not-true, not-false}
 use borrow.Author.Needs.{needs}
 use Rattle.plan_rules.proofs.Rules.{Bytes, bytes-all, bytes-next, bytes-more, bytes-met, bytes-only}
@@ -16,35 +16,27 @@ Inv-loop plan n p q₀ left₀ q left = Bytes plan n p left q
 abbrev μ-loop : tie.MeasureT-loop
 μ-loop plan n p q₀ left₀ q left = left
 
--- src/lib.rt:125:5
 loop-holds : tie.Need-loop-holds Inv-loop μ-loop
 loop-holds c = bytes-all _ _ _ (c .before .pre)
 
--- src/lib.rt:126:13
 part-at-requires : tie.Need-part-at-requires Inv-loop μ-loop
 part-at-requires c κs = bytes-next _ _ _ _ _ (c .before .loop .inv) (omega arith)
 
--- src/lib.rt:128:13
 is-bytes-requires : tie.Need-is-bytes-requires Inv-loop μ-loop
 is-bytes-requires c κs = search needs
 
--- src/lib.rt:129:13
 returns : tie.Need-returns Inv-loop μ-loop
 returns c = λ g. bytes-met _ _ _ _ _ (c .before .before .before .before .loop .inv) _ (c .before .before .part-at .result .end) (omega arith) (c .before .before .part-at .ensures .0) (sym (c .before .is-bytes .ensures _) ∙ not-true _ (c .if1 .taken)) g
 
--- src/lib.rt:132:9
 sub-left : tie.Need-sub-left Inv-loop μ-loop
 sub-left c = omega arith
 
--- src/lib.rt:125:5
 loop-less : tie.Need-loop-less Inv-loop μ-loop
 loop-less c = omega arith
 
--- src/lib.rt:125:5
 loop-again : tie.Need-loop-again Inv-loop μ-loop
 loop-again c = bytes-more _ _ _ _ _ (c .before .before .before .before .loop .inv) _ (c .before .before .part-at .result .end) (omega arith) (c .before .before .part-at .ensures .0) (sym (c .before .is-bytes .ensures _) ∙ not-false _ (c .if1 .left))
 
--- src/lib.rt:116:1
 returns-2 : tie.Need-returns-2 Inv-loop μ-loop
 returns-2 c = bytes-only _ _ _ _ _ (c .before .loop .inv) (omega arith)
 

@@ -1,5 +1,5 @@
 use native.Mathlib.Omega.{arith}
-use mathlib.Core.Path.{ap, sym, _∙_}
+use mathlib.Core.Path.{ap, sym}
 use Rattle.rules.specs.Demand3.{number}
 use Rattle.plan_items.specs.declared.EdgeView.{EdgeView}
 use Rattle.plan_items.specs.Items.{edgeOf}
@@ -9,29 +9,23 @@ use Rattle.plan_rules.proofs.edge_number.Tie as tie
 use Rattle.plan_rules.proofs.edge_number.Reads as reads
 use Rattle.plan_rules.proofs.edge_number.Lts as lts
 
--- src/lib.rt:33:30
 enum-told : tie.Need-enum-told
 enum-told c = search needs
 
--- src/lib.rt:34:35
 enum-told-2 : tie.Need-enum-told-2
 enum-told-2 c = search needs
 
--- src/lib.rt:35:35
 enum-told-3 : tie.Need-enum-told-3
 enum-told-3 c = search needs
 
--- src/lib.rt:28:1
 returns : tie.Need-returns
 unfolding number
 returns c = (λ f. ap (λ (v : EdgeView). number (edgeOf f v)) (sym (c .enum-told .given .1)), omega arith)
 
--- src/lib.rt:28:1
 returns-2 : tie.Need-returns-2
 unfolding number
 returns-2 c = (λ f. ap (λ (v : EdgeView). number (edgeOf f v)) (sym (c .enum-told2 .given .1)), omega arith)
 
--- src/lib.rt:28:1
 returns-3 : tie.Need-returns-3
 unfolding number
 returns-3 c = (λ f. ap (λ (v : EdgeView). number (edgeOf f v)) (sym (c .enum-told3 .given .1)), omega arith)

@@ -6,11 +6,9 @@ use Rattle.plan_rules.proofs.edges_folded.Reads as reads
 use Rattle.plan_rules.proofs.edges_folded.Lts as lts
 use Rattle.plan_rules.proofs.edges_number.Reads as edges-number-reads
 
--- src/lib.rt:101:5
 edges-number-requires : tie.Need-edges-number-requires
 edges-number-requires c κs = search needs
 
--- src/lib.rt:96:1
 returns : tie.Need-returns
 returns c = λ f x. folded-is f _ x _ (c .before .edges-number .ensures f _)
 

@@ -1,5 +1,5 @@
 use native.Mathlib.Omega.{arith}
-use mathlib.Core.Path.{ap, sym, _∙_}
+use mathlib.Core.Path.{ap, sym}
 use Rattle.rules.specs.Demand3.{number}
 use Rattle.plan_items.specs.declared.GuideView.{GuideView}
 use Rattle.plan_items.specs.Items.{guideOf}
@@ -9,20 +9,16 @@ use Rattle.plan_rules.proofs.guide_number.Tie as tie
 use Rattle.plan_rules.proofs.guide_number.Reads as reads
 use Rattle.plan_rules.proofs.guide_number.Lts as lts
 
--- src/lib.rt:45:31
 enum-told : tie.Need-enum-told
 enum-told c = search needs
 
--- src/lib.rt:46:40
 enum-told-2 : tie.Need-enum-told-2
 enum-told-2 c = search needs
 
--- src/lib.rt:40:1
 returns : tie.Need-returns
 unfolding number
 returns c = (λ f. ap (λ (v : GuideView). number (guideOf f v)) (sym (c .enum-told .given .1)), omega arith)
 
--- src/lib.rt:40:1
 returns-2 : tie.Need-returns-2
 unfolding number
 returns-2 c = (λ f. ap (λ (v : GuideView). number (guideOf f v)) (sym (c .enum-told2 .given .1)), omega arith)

@@ -1,4 +1,4 @@
-use mathlib.Core.Path.{ap, sym, _∙_}
+use mathlib.Core.Path.{ap, sym}
 use Rattle.plan_rules.specs.Parts.{isBytes}
 use Rattle.plan_items.specs.declared.PartView.{PartView}
 use Rattle.plan_items.specs.Items.{partOf}
@@ -8,27 +8,21 @@ use Rattle.plan_rules.proofs.is_bytes.Tie as tie
 use Rattle.plan_rules.proofs.is_bytes.Reads as reads
 use Rattle.plan_rules.proofs.is_bytes.Lts as lts
 
--- src/lib.rt:109:31
 enum-told : tie.Need-enum-told
 enum-told c = search needs
 
--- src/lib.rt:110:42
 enum-told-2 : tie.Need-enum-told-2
 enum-told-2 c = search needs
 
--- src/lib.rt:111:40
 enum-told-3 : tie.Need-enum-told-3
 enum-told-3 c = search needs
 
--- src/lib.rt:105:1
 returns : tie.Need-returns
 returns c = λ f. ap (λ (v : PartView). isBytes (partOf f v)) (sym (c .enum-told .given .1))
 
--- src/lib.rt:105:1
 returns-2 : tie.Need-returns-2
 returns-2 c = λ f. ap (λ (v : PartView). isBytes (partOf f v)) (sym (c .enum-told2 .given .1))
 
--- src/lib.rt:105:1
 returns-3 : tie.Need-returns-3
 returns-3 c = λ f. ap (λ (v : PartView). isBytes (partOf f v)) (sym (c .enum-told3 .given .1))
 

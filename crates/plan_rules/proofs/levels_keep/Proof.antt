@@ -1,5 +1,5 @@
 use native.Mathlib.Omega.{arith}
-use mathlib.Core.Path.{ap, sym, _∙_}
+use mathlib.Core.Path.{sym, _∙_}
 use borrow.Author.Tests.{not-true, not-false}
 use Rattle.plan_items.proofs.Plans.{levels-inside}
 use Rattle.plan_rules.proofs.Rules.{Going, going-first, going-next, going-more, going-broken, going-end}
@@ -17,39 +17,30 @@ Inv-loop plan left₀ p₀ left p = Going plan left p
 abbrev μ-loop : tie.MeasureT-loop
 μ-loop plan left₀ p₀ left p = left
 
--- src/lib.rt:207:9
 word-at-requires : tie.Need-word-at-requires Inv-loop μ-loop
 word-at-requires c κs = omega (arith, levels-inside _ (c .before .pre))
 
--- src/lib.rt:209:5
 loop-holds : tie.Need-loop-holds Inv-loop μ-loop
 loop-holds c = going-first _ (c .before .before .pre) _ (c .word-at .ensures .0)
 
--- src/lib.rt:210:13
 level-at-requires : tie.Need-level-at-requires Inv-loop μ-loop
 level-at-requires c κs = going-next _ _ _ (c .before .loop .inv) (omega arith)
 
--- src/lib.rt:211:13
 level-keeps-requires : tie.Need-level-keeps-requires Inv-loop μ-loop
 level-keeps-requires c κs = c .level-at .ensures .1
 
--- src/lib.rt:212:13
 returns : tie.Need-returns Inv-loop μ-loop
 returns c = going-broken _ _ _ (c .before .before .before .before .loop .inv) (omega arith) _ (c .before .before .level-at .result .end) (c .before .before .level-at .ensures .0) (sym (c .before .level-keeps .ensures) ∙ not-true _ (c .if1 .taken))
 
--- src/lib.rt:215:9
 sub-left : tie.Need-sub-left Inv-loop μ-loop
 sub-left c = omega arith
 
--- src/lib.rt:209:5
 loop-less : tie.Need-loop-less Inv-loop μ-loop
 loop-less c = omega arith
 
--- src/lib.rt:209:5
 loop-again : tie.Need-loop-again Inv-loop μ-loop
 loop-again c = going-more _ _ _ (c .before .before .before .before .loop .inv) (omega arith) _ (c .before .before .level-at .result .end) (c .before .before .level-at .ensures .0) (sym (c .before .level-keeps .ensures) ∙ not-false _ (c .if1 .left))
 
--- src/lib.rt:203:1
 returns-2 : tie.Need-returns-2 Inv-loop μ-loop
 returns-2 c = going-end _ _ _ (c .before .loop .inv) (omega arith)
 

@@ -8,31 +8,24 @@ use Rattle.plan_rules.proofs.narrowings_sum.Lts as lts
 use Rattle.plan_rules.proofs.guide_number.Reads as guide-number-reads
 use Rattle.plan_rules.proofs.range_number.Reads as range-number-reads
 
--- src/lib.rt:91:18
 sub-placed : tie.Need-sub-placed
 sub-placed c = search needs
 
--- src/lib.rt:91:18
 add-placed : tie.Need-add-placed
 add-placed c = search needs
 
--- src/lib.rt:92:34
 range-number-requires : tie.Need-range-number-requires
 range-number-requires c κs = search needs
 
--- src/lib.rt:92:25
 add-result : tie.Need-add-result
 add-result c = search needs
 
--- src/lib.rt:92:55
 guide-number-requires : tie.Need-guide-number-requires
 guide-number-requires c κs = search needs
 
--- src/lib.rt:92:25
 add-result-2 : tie.Need-add-result-2
 add-result-2 c = search needs
 
--- src/lib.rt:83:1
 returns : tie.Need-returns
 returns c = λ f x. sum-is f _ x _ _ _ (c .before .before .before .before .before .before .pre .0) (c .before .guide-number .ensures .0 f) (c .before .before .range-number .ensures .0 f _) refl
 

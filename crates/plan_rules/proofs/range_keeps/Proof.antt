@@ -1,4 +1,4 @@
-use mathlib.Core.Path.{ap, sym, _∙_}
+use mathlib.Core.Path.{_∙_}
 use Rattle.plan_rules.proofs.Rules.{range-alone, range-beside, guide-as}
 use borrow.Author.Needs.{needs}
 use Rattle.plan_rules.proofs.range_keeps.Statement.{statement}
@@ -8,31 +8,24 @@ use Rattle.plan_rules.proofs.range_keeps.Lts as lts
 use Rattle.paths.proofs.FieldPath.same.Reads as same-reads
 use Rattle.plan_items.proofs.path_at.Reads as path-at-reads
 
--- src/lib.rt:147:31
 enum-told : tie.Need-enum-told
 enum-told c = search needs
 
--- src/lib.rt:148:25
 enum-known-guide : tie.Need-enum-known-guide
 enum-known-guide c = search needs
 
--- src/lib.rt:149:17
 path-at-requires : tie.Need-path-at-requires
 path-at-requires c κs = guide-as _ _ _ (c .before .guide .given .1) (c .before .before .before .before .pre .1)
 
--- src/lib.rt:150:23
 path-at-requires-2 : tie.Need-path-at-requires-2
 path-at-requires-2 c κs = search needs
 
--- src/lib.rt:150:13
 same-requires : tie.Need-same-requires
 same-requires c κs = search needs
 
--- src/lib.rt:138:1
 returns : tie.Need-returns
 returns c = λ parts prefix. range-alone _ _ _ parts prefix (c .enum-told .given .1)
 
--- src/lib.rt:138:1
 returns-2 : tie.Need-returns-2
 returns-2 c = λ parts prefix. c .same .ensures ∙ range-beside _ _ _ parts prefix _ _ _ _ _ _ _ _ (c .before .before .before .before .guide .given .1) (guide-as _ _ _ (c .before .before .before .before .guide .given .1) (c .before .before .before .before .before .before .before .pre .1)) (c .before .before .before .before .before .before .before .pre .0) (c .before .before .path-at .ensures .0) (c .before .path-at2 .ensures .0)
 

@@ -1,5 +1,5 @@
 use native.Mathlib.Omega.{arith}
-use mathlib.Core.Path.{ap, sym, _∙_}
+use mathlib.Core.Path.{ap, sym}
 use Rattle.rules.specs.Demand3.{number, seekRange}
 use Rattle.plan_items.specs.declared.SeekView.{SeekView}
 use Rattle.plan_items.specs.Items.{seekOf}
@@ -9,38 +9,30 @@ use Rattle.plan_rules.proofs.range_number.Tie as tie
 use Rattle.plan_rules.proofs.range_number.Reads as reads
 use Rattle.plan_rules.proofs.range_number.Lts as lts
 
--- src/lib.rt:56:32
 enum-told : tie.Need-enum-told
 enum-told c = search needs
 
--- src/lib.rt:57:35
 enum-told-2 : tie.Need-enum-told-2
 enum-told-2 c = search needs
 
--- src/lib.rt:58:43
 enum-told-3 : tie.Need-enum-told-3
 enum-told-3 c = search needs
 
--- src/lib.rt:59:39
 enum-told-4 : tie.Need-enum-told-4
 enum-told-4 c = search needs
 
--- src/lib.rt:51:1
 returns : tie.Need-returns
 unfolding number seekRange
 returns c = (λ f n. ap (λ (v : SeekView). number (seekRange (seekOf f n v))) (sym (c .enum-told .given .1)), omega arith)
 
--- src/lib.rt:51:1
 returns-2 : tie.Need-returns-2
 unfolding number seekRange
 returns-2 c = (λ f n. ap (λ (v : SeekView). number (seekRange (seekOf f n v))) (sym (c .enum-told2 .given .1)), omega arith)
 
--- src/lib.rt:51:1
 returns-3 : tie.Need-returns-3
 unfolding number seekRange
 returns-3 c = (λ f n. ap (λ (v : SeekView). number (seekRange (seekOf f n v))) (sym (c .enum-told3 .given .1)), omega arith)
 
--- src/lib.rt:51:1
 returns-4 : tie.Need-returns-4
 unfolding number seekRange
 returns-4 c = (λ f n. ap (λ (v : SeekView). number (seekRange (seekOf f n v))) (sym (c .enum-told4 .given .1)), omega arith)

@@ -8,47 +8,36 @@ use Rattle.plan_rules.proofs.bounded_keeps.Reads as bounded-keeps-reads
 use Rattle.plan_rules.proofs.composite_keeps.Reads as composite-keeps-reads
 use Rattle.plan_rules.proofs.range_keeps.Reads as range-keeps-reads
 
--- src/lib.rt:178:32
 enum-told : tie.Need-enum-told
 enum-told c = search needs
 
--- src/lib.rt:179:29
 enum-known-seek : tie.Need-enum-known-seek
 enum-known-seek c = search needs
 
--- src/lib.rt:179:39
 composite-keeps-requires : tie.Need-composite-keeps-requires
 composite-keeps-requires c κs = composite-parts _ _ (c .before .before .before .before .pre) _ (c .before .seek .given .1)
 
--- src/lib.rt:180:37
 enum-known-seek-2 : tie.Need-enum-known-seek-2
 enum-known-seek-2 c = search needs
 
--- src/lib.rt:180:46
 range-keeps-requires : tie.Need-range-keeps-requires
 range-keeps-requires c κs = (range-path _ _ (c .before .before .before .before .pre) _ _ _ (c .before .seek2 .given .1), c .before .before .before .before .pre .guide)
 
--- src/lib.rt:181:30
 enum-known-seek-3 : tie.Need-enum-known-seek-3
 enum-known-seek-3 c = search needs
 
--- src/lib.rt:181:41
 bounded-keeps-requires : tie.Need-bounded-keeps-requires
 bounded-keeps-requires c κs = search needs
 
--- src/lib.rt:168:1
 returns : tie.Need-returns
 returns c = prefix-keeps _ _ (c .before .before .before .pre) _ (c .enum-told .given .1)
 
--- src/lib.rt:168:1
 returns-2 : tie.Need-returns-2
 returns-2 c = composite-keeps _ _ (c .before .before .before .before .before .pre) _ _ (c .before .before .seek .given .1) (c .composite-keeps .ensures)
 
--- src/lib.rt:168:1
 returns-3 : tie.Need-returns-3
 returns-3 c = range-keeps _ _ (c .before .before .before .before .before .pre) _ _ _ _ (c .before .before .seek2 .given .1) (c .range-keeps .ensures)
 
--- src/lib.rt:168:1
 returns-4 : tie.Need-returns-4
 returns-4 c = bounded-keeps _ _ (c .before .before .before .before .before .pre) _ _ _ _ (c .before .before .seek3 .given .1) (c .bounded-keeps .ensures)
 
