@@ -1,6 +1,5 @@
 // How an exported call ends: every one of them returns number and length in one u64 and zeroes what it was lent past what it wrote.
 ghost use mathlib.Core.Path.{_≡_};
-ghost use Prim.Native.Nat.{_*_, _≤_};
 ghost use lib.ListN.{length};
 ghost use Rattle.rules.specs.Compile.{compiled};
 ghost use Rattle.endings.specs.Endings.{endingOutcome, lengthOf, answerOf, Within};

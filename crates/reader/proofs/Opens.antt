@@ -2,7 +2,7 @@
 use mathlib.Core.Bool.{Bool, true, false}
 use mathlib.Core.List.{List, []}
 use mathlib.Core.Path.{_≡_, refl, sym, ap, _∙_}
-use Prim.Native.Nat.{ℕ, _-_, _≤_}
+use Prim.Native.Nat.{ℕ, _≤_}
 use native.Mathlib.Omega.{arith}
 use borrow.Author.Tests.{eq-eqb, ne-eqb}
 use lib.Dec.{eqb}
@@ -18,12 +18,10 @@ use Rattle.rules.specs.Reader as Reader
 use Rattle.rules.specs.Reader.{levelRules}
 use Rattle.rules.proofs.ReaderWrites.{Reading, whole, ends-or-unknown, reading}
 use Rattle.file.specs.Steps.{stepOf, readAt, stepAt}
-use Rattle.file.specs.declared.Step.{Step}
 use Rattle.file.specs.declared.Step.the-variants.{Next, Refused}
 use Rattle.file.proofs.Readers.{refused-got, refused-next}
 use Rattle.plan_form.specs.Places.{gotPlan, planOf, Opened}
 use Rattle.endings.specs.Endings.{endingOutcome}
-use Rattle.endings.specs.declared.Ending.{Ending}
 use Rattle.endings.specs.declared.Ending.the-variants as Ends
 use Rattle.reader.specs.Copies.{numberOf}
 

@@ -4,7 +4,6 @@ use mathlib.Core.List.{List, [], _∷_}
 use mathlib.Core.Path.{_≡_, refl, sym, ap, ap₂, _∙_, subst₂}
 use Prim.Native.Nat.{ℕ, _+_, _-_, _*_, _/_, _≤_, _<_}
 use native.Mathlib.Omega.{arith}
-use native.Mathlib.Nat.{suc-ne-zero}
 use borrow.Author.Tests.{le-leb, lt-leb}
 use lib.Dec.{leb}
 use lib.ListN.{length, take, drop, getD, replicate, length-replicate}
@@ -17,7 +16,7 @@ use Rattle.rules.specs.Reader as Reader
 use Rattle.rules.specs.Reader.{readBack}
 use Rattle.rules.proofs.ReaderRules.{Shape, shape}
 use Rattle.bytes.specs.Bytes.{indexOf, slice}
-use Rattle.lines.specs.Lines.{line, lineOf, unhex}
+use Rattle.lines.specs.Lines.{line, unhex}
 use Rattle.lines.proofs.Fronts.{front, length-unhex}
 use Rattle.lines.proofs.Calls.{Said, said-planned, said-refused}
 use Rattle.tally.specs.Tallies.{same}

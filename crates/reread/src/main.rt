@@ -1,8 +1,8 @@
 // The stored list of plans, on standard input, each with what the reader of the Rust side says of it: how many were compared, and how many
 // differ.
 ghost use mathlib.Core.Path.{_≡_};
-ghost use Prim.Native.Nat.{_+_, _*_, _≤_, _<_};
-ghost use lib.ListN.{length, take, drop};
+ghost use Prim.Native.Nat.{_*_, _≤_, _<_};
+ghost use lib.ListN.{length};
 ghost use lib.Seq.{sets};
 ghost use Rattle.rules.specs.Limits.{planLimit};
 ghost use Rattle.rules.specs.Reader as Reader;

@@ -1,4 +1,3 @@
-use native.Mathlib.Omega.{arith}
 use lib.ListN.{replicate}
 use Rattle.reread.proofs.Rereads.{room-is, two-length}
 use borrow.Author.Needs.{needs}
