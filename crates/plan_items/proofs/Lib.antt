@@ -3,3 +3,4 @@ pub mod Leaves
 pub mod Levels
 pub mod Slots
 pub mod Plans
+pub mod Views

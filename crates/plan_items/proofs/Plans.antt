@@ -93,25 +93,27 @@ plan-is f P v a b c d e =
     ∙ ap {B = Plan} (λ (l : List Select). record { levels = planViewed f v .levels; bindings = planViewed f v .bindings; constrained = planViewed f v .constrained; selects = l; diagnostics = P .diagnostics }) d
     ∙ ap {B = Plan} (λ (l : List Diagnostic). record { levels = planViewed f v .levels; bindings = planViewed f v .bindings; constrained = planViewed f v .constrained; selects = planViewed f v .selects; diagnostics = l }) e
 
-module _ (f : List ℕ) (x : Opened f) (b k s d e : ℕ) (B : b ≡ opened f x .bindings) (K : k ≡ opened f x .constrained) (S : s ≡ opened f x .selects) (D : d ≡ opened f x .diagnostics) where
-  pub plan-opened : (lv bv kv sv dv : ListView) → lv ≡ listView f 0 b → bv ≡ listView f b k → kv ≡ listView f k s → sv ≡ listView f s d → dv ≡ listView f d e
+module _ (f : List ℕ) (x : Opened f) (b k s d : ℕ) (B : b ≡ opened f x .bindings) (K : k ≡ opened f x .constrained) (S : s ≡ opened f x .selects) (D : d ≡ opened f x .diagnostics) where
+  -- which items they are does not depend on where a list ends
+  pub plan-opened : (e1 e2 e3 e4 e5 : ℕ) (lv bv kv sv dv : ListView)
+      → lv ≡ listView f 0 e1 → bv ≡ listView f b e2 → kv ≡ listView f k e3 → sv ≡ listView f s e4 → dv ≡ listView f d e5
       → lv .count < wordLimit → bv .count < wordLimit → kv .count < wordLimit → sv .count < wordLimit → dv .count < wordLimit
       → (let v : PlanView = record { levels = lv; bindings = bv; constrained = kv; selects = sv; diagnostics = dv } in (planOf f ≡ planViewed f v) × PlanInside f v)
-  plan-opened lv bv kv sv dv l1 l2 l3 l4 l5 h1 h2 h3 h4 h5 =
+  plan-opened e1 e2 e3 e4 e5 lv bv kv sv dv l1 l2 l3 l4 l5 h1 h2 h3 h4 h5 =
       let L = opened f x in
       let v : PlanView = record { levels = lv; bindings = bv; constrained = kv; selects = sv; diagnostics = dv } in (
         plan-is f (planOf f) v
-            (list-is f Reader.level 0 _ (L .levels-at) 0 b refl lv l1)
-            (list-is f Reader.binding _ _ (L .bindings-at) b k B bv l2)
-            (list-is f u16 _ _ (L .constrained-at) k s K kv l3)
-            (list-is f Reader.select _ _ (L .selects-at) s d S sv l4)
-            (list-is f Reader.diagnostic _ _ (L .diagnostics-at) d e D dv l5),
+            (list-is f Reader.level 0 _ (L .levels-at) 0 e1 refl lv l1)
+            (list-is f Reader.binding _ _ (L .bindings-at) b e2 B bv l2)
+            (list-is f u16 _ _ (L .constrained-at) k e3 K kv l3)
+            (list-is f Reader.select _ _ (L .selects-at) s e4 S sv l4)
+            (list-is f Reader.diagnostic _ _ (L .diagnostics-at) d e5 D dv l5),
         record {
-          levels = list-inside f Reader.level 0 _ (L .levels-at) 0 b refl lv l1 h1;
-          bindings = list-inside f Reader.binding _ _ (L .bindings-at) b k B bv l2 h2;
-          constrained = list-inside f u16 _ _ (L .constrained-at) k s K kv l3 h3;
-          selects = list-inside f Reader.select _ _ (L .selects-at) s d S sv l4 h4;
-          diagnostics = list-inside f Reader.diagnostic _ _ (L .diagnostics-at) d e D dv l5 h5;
+          levels = list-inside f Reader.level 0 _ (L .levels-at) 0 e1 refl lv l1 h1;
+          bindings = list-inside f Reader.binding _ _ (L .bindings-at) b e2 B bv l2 h2;
+          constrained = list-inside f u16 _ _ (L .constrained-at) k e3 K kv l3 h3;
+          selects = list-inside f Reader.select _ _ (L .selects-at) s e4 S sv l4 h4;
+          diagnostics = list-inside f Reader.diagnostic _ _ (L .diagnostics-at) d e5 D dv l5 h5;
         },
       )
 

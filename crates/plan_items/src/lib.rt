@@ -1,6 +1,7 @@
 // The items of a plan by value, each found by its position (request [1]). A view carries numbers and positions; of a path or a list it
-// has the position, and `end` is where the next item begins. Which item of the plan stands at a position is told by number in
-// proofs/Plans.antt, and for the five lists in plan_form's proofs/Places.antt.
+// has the position, and `end` is where the next item begins. The clause `reads` says which item it is, `view` what the whole result is.
+// Which item of the plan stands at a position is told by number in proofs/Plans.antt, and for the five lists in plan_form's
+// proofs/Places.antt.
 ghost use mathlib.Core.Path.{_≡_};
 ghost use Prim.Native.Nat.{_+_, _*_, _≤_, _<_};
 ghost use lib.ListN.{length, drop};
@@ -8,14 +9,18 @@ ghost use Rattle.rules.specs.Limits.{stepLimit};
 ghost use Rattle.rules.specs.Read.{u16, many};
 ghost use Rattle.rules.specs.Read.Read.{got};
 ghost use Rattle.rules.specs.Reader as Reader;
-ghost use Rattle.file.specs.Steps.{wordLimit, readAt};
-ghost use Rattle.paths.specs.Paths.{pathOf};
-ghost use Rattle.views.specs.Views.{pathAt, textOf, slotViewed};
+ghost use Rattle.file.specs.Steps.{wordLimit, word, readAt};
+ghost use Rattle.paths.specs.Paths.{pathOf, pathFor};
+ghost use Rattle.views.specs.Views.{pathAt, pastPath, textOf, slotViewed};
 ghost use Rattle.plan_form.specs.Places.{planOf, Opened, Found};
 ghost use Rattle.plan_items.specs.Items.{itemsAt, listOf, partOf, edgeOf, guideOf, narrowingOf, residualOf, seekOf, levelOf};
 ghost use Rattle.plan_items.specs.Items.{bindingOf, selectOf, diagnosticOf, planViewed, pastOf, listView, SlotInside, PlanInside};
 ghost use Rattle.plan_items.specs.Items.{TextInside, PartInside, EdgeInside, GuideInside, NarrowingInside, ResidualInside};
 ghost use Rattle.plan_items.specs.Items.{SeekInside, ListInside, LevelInside};
+ghost use Rattle.plan_items.specs.Views.{textView, partItem, edgeItem, guideItem, narrowingItem, residualView};
+ghost use Rattle.plan_items.specs.Views.{partsPast, residualsPast, prefixItem, rangeItem, boundedItem, seekItem};
+ghost use Rattle.plan_items.specs.Views.{residualsView, wordsView, levelView, fieldItem, slotItem, bindingItem};
+ghost use Rattle.plan_items.specs.Views.{selectView, diagnosticView, planView};
 use file::Step;
 use file::word_at;
 use paths::Address;
@@ -173,6 +178,7 @@ pub fn text_at(plan: &[u8], p: usize) -> Text
         readAt bytes Reader.text p ≡ got (textOf bytes r) (drop (r .at + r .len) bytes)
         ) ⌝ }
     ensures inside { λ r. ⌜ TextInside (now (plan .entry)) r ⌝ }
+    ensures view { λ r. ⌜ r ≡ textView (now (plan .entry)) p ⌝ }
 {
     Text {
         at: p + 2,
@@ -183,10 +189,11 @@ pub fn text_at(plan: &[u8], p: usize) -> Text
 // Where the path at p ends.
 pub fn path_past(plan: &[u8], p: usize) -> usize
     requires { ⌜ Found (now plan) Reader.path p ⌝ }
-    ensures { λ r. ⌜ (
+    ensures reads { λ r. ⌜ (
         let bytes = now (plan .entry) in
         readAt bytes Reader.path p ≡ got (pathAt bytes p) (drop r bytes)
         ) ⌝ }
+    ensures view { λ r. ⌜ r ≡ pastPath (now (plan .entry)) p ⌝ }
 {
     past_path(plan, p)
 }
@@ -199,6 +206,7 @@ pub fn path_at(plan: &[u8], p: usize) -> FieldPath
         readAt bytes Reader.path p ≡ got (pathOf r) (drop (p + 3 + 4 * r .count) bytes)
         ) ⌝ }
     ensures short { λ r. ⌜ r .count ≤ stepLimit ⌝ }
+    ensures view { λ r. ⌜ r ≡ pathFor (pathAt (now (plan .entry)) p) ⌝ }
 {
     views::path_at(plan, p)
 }
@@ -211,6 +219,7 @@ pub fn part_at(plan: &[u8], p: usize) -> PartItem
         readAt bytes Reader.part p ≡ got (partOf bytes (r .part)) (drop (r .end) bytes)
         ) ⌝ }
     ensures inside { λ r. ⌜ PartInside (now (plan .entry)) (r .part) ⌝ }
+    ensures view { λ r. ⌜ r ≡ partItem (now (plan .entry)) p ⌝ }
 {
     let q = p + 1;
     match plan[p] {
@@ -244,6 +253,7 @@ pub fn edge_at(plan: &[u8], p: usize) -> EdgeItem
         readAt bytes Reader.edge p ≡ got (edgeOf bytes (r .edge)) (drop (r .end) bytes)
         ) ⌝ }
     ensures inside { λ r. ⌜ EdgeInside (now (plan .entry)) (r .edge) ⌝ }
+    ensures view { λ r. ⌜ r ≡ edgeItem (now (plan .entry)) p ⌝ }
 {
     let q = p + 1;
     match plan[p] {
@@ -276,6 +286,7 @@ pub fn guide_at(plan: &[u8], p: usize) -> GuideItem
         readAt bytes Reader.guide p ≡ got (guideOf bytes (r .guide)) (drop (r .end) bytes)
         ) ⌝ }
     ensures inside { λ r. ⌜ GuideInside (now (plan .entry)) (r .guide) ⌝ }
+    ensures view { λ r. ⌜ r ≡ guideItem (now (plan .entry)) p ⌝ }
 {
     let path = p + 1;
     if plan[p] == 0 {
@@ -302,6 +313,7 @@ fn op_at(plan: &[u8], p: usize) -> NarrowingItem
         readAt bytes Reader.op p ≡ got (narrowingOf bytes (r .narrowing)) (drop (r .end) bytes)
         ) ⌝ }
     ensures inside { λ r. ⌜ NarrowingInside (now (plan .entry)) (r .narrowing) ⌝ }
+    ensures view { λ r. ⌜ r ≡ narrowingItem (now (plan .entry)) p ⌝ }
 {
     let q = p + 1;
     match plan[p] {
@@ -350,6 +362,7 @@ pub fn residual_at(plan: &[u8], p: usize) -> ResidualView
         readAt bytes Reader.residual p ≡ got (residualOf bytes r) (drop (r .end) bytes)
         ) ⌝ }
     ensures inside { λ r. ⌜ ResidualInside (now (plan .entry)) r ⌝ }
+    ensures view { λ r. ⌜ r ≡ residualView (now (plan .entry)) p ⌝ }
 {
     let q = path_past(plan, p);
     let o = op_at(plan, q);
@@ -364,10 +377,11 @@ pub fn residual_at(plan: &[u8], p: usize) -> ResidualView
 // Where n parts from p on end.
 fn parts_past(plan: &[u8], n: usize, p: usize) -> usize
     requires { ⌜ Found (now plan) (many n Reader.part) p ⌝ }
-    ensures { λ r. ⌜ (
+    ensures reads { λ r. ⌜ (
         let bytes = now (plan .entry) in
         readAt bytes (many n Reader.part) p ≡ got (itemsAt bytes Reader.part n p) (drop r bytes)
         ) ⌝ }
+    ensures view { λ r. ⌜ r ≡ partsPast (now (plan .entry)) n p ⌝ }
 {
     let mut q = p;
     let mut left = n;
@@ -382,10 +396,11 @@ fn parts_past(plan: &[u8], n: usize, p: usize) -> usize
 // Where n residuals from p on end.
 fn residuals_past(plan: &[u8], n: usize, p: usize) -> usize
     requires { ⌜ Found (now plan) (many n Reader.residual) p ⌝ }
-    ensures { λ r. ⌜ (
+    ensures reads { λ r. ⌜ (
         let bytes = now (plan .entry) in
         readAt bytes (many n Reader.residual) p ≡ got (itemsAt bytes Reader.residual n p) (drop r bytes)
         ) ⌝ }
+    ensures view { λ r. ⌜ r ≡ residualsPast (now (plan .entry)) n p ⌝ }
 {
     let mut q = p;
     let mut left = n;
@@ -405,6 +420,7 @@ fn prefix_seek(plan: &[u8], n: usize, p: usize) -> SeekItem
         readAt bytes Reader.prefixSeek p ≡ got (seekOf bytes n (r .seek)) (drop (r .end) bytes)
         ) ⌝ }
     ensures inside { λ r. ⌜ SeekInside (now (plan .entry)) n (r .seek) ⌝ }
+    ensures view { λ r. ⌜ r ≡ prefixItem (now (plan .entry)) p ⌝ }
 {
     let text = text_at(plan, p);
     SeekItem {
@@ -421,6 +437,7 @@ fn range_seek(plan: &[u8], n: usize, p: usize) -> SeekItem
         readAt bytes (Reader.rangeSeek n) p ≡ got (seekOf bytes n (r .seek)) (drop (r .end) bytes)
         ) ⌝ }
     ensures inside { λ r. ⌜ SeekInside (now (plan .entry)) n (r .seek) ⌝ }
+    ensures view { λ r. ⌜ r ≡ rangeItem (now (plan .entry)) n p ⌝ }
 {
     let q = parts_past(plan, n, p);
     let text = text_at(plan, q);
@@ -439,6 +456,7 @@ fn bounded_seek(plan: &[u8], n: usize, p: usize) -> SeekItem
         readAt bytes (Reader.boundedSeek n) p ≡ got (seekOf bytes n (r .seek)) (drop (r .end) bytes)
         ) ⌝ }
     ensures inside { λ r. ⌜ SeekInside (now (plan .entry)) n (r .seek) ⌝ }
+    ensures view { λ r. ⌜ r ≡ boundedItem (now (plan .entry)) n p ⌝ }
 {
     let q = parts_past(plan, n, p);
     let low = edge_at(plan, q);
@@ -459,6 +477,7 @@ pub fn seek_at(plan: &[u8], n: usize, p: usize) -> SeekItem
         readAt bytes (Reader.seek n) p ≡ got (seekOf bytes n (r .seek)) (drop (r .end) bytes)
         ) ⌝ }
     ensures inside { λ r. ⌜ SeekInside (now (plan .entry)) n (r .seek) ⌝ }
+    ensures view { λ r. ⌜ r ≡ seekItem (now (plan .entry)) n p ⌝ }
 {
     let q = p + 1;
     match plan[p] {
@@ -480,6 +499,7 @@ fn residuals_at(plan: &[u8], p: usize) -> ListView
         readAt bytes (Reader.counted Reader.residual) p ≡ got (listOf bytes Reader.residual r) (drop (r .end) bytes)
         ) ⌝ }
     ensures inside { λ r. ⌜ ListInside (now (plan .entry)) Reader.residual r ⌝ }
+    ensures view { λ r. ⌜ r ≡ residualsView (now (plan .entry)) p ⌝ }
 {
     let count = word_at(plan, p);
     let at = p + 2;
@@ -498,6 +518,7 @@ fn words_at(plan: &[u8], p: usize) -> ListView
         readAt bytes (Reader.counted u16) p ≡ got (listOf bytes u16 r) (drop (r .end) bytes)
         ) ⌝ }
     ensures inside { λ r. ⌜ ListInside (now (plan .entry)) u16 r ⌝ }
+    ensures view { λ r. ⌜ r ≡ wordsView (now (plan .entry)) p ⌝ }
 {
     let count = word_at(plan, p);
     let at = p + 2;
@@ -516,6 +537,7 @@ pub fn level_at(plan: &[u8], p: usize) -> LevelView
         readAt bytes Reader.level p ≡ got (levelOf bytes r) (drop (r .end) bytes)
         ) ⌝ }
     ensures inside { λ r. ⌜ LevelInside (now (plan .entry)) r ⌝ }
+    ensures view { λ r. ⌜ r ≡ levelView (now (plan .entry)) p ⌝ }
 {
     let narrowings = word_at(plan, p);
     let closers = word_at(plan, p + 2);
@@ -541,10 +563,11 @@ pub fn level_at(plan: &[u8], p: usize) -> LevelView
 // The number at p: a folded comparison of a level, or a constrained name.
 pub fn number_at(plan: &[u8], p: usize) -> usize
     requires { ⌜ Found (now plan) u16 p ⌝ }
-    ensures { λ r. ⌜ (
+    ensures reads { λ r. ⌜ (
         let bytes = now (plan .entry) in
         readAt bytes u16 p ≡ got r (drop (p + 2) bytes)
         ) ⌝ }
+    ensures view { λ r. ⌜ r ≡ word (now (plan .entry)) p ⌝ }
 {
     word_at(plan, p)
 }
@@ -557,6 +580,7 @@ fn field_slot(plan: &[u8], p: usize) -> SlotItem
         readAt bytes Reader.fieldSlot p ≡ got (slotViewed bytes (r .slot)) (drop (r .end) bytes)
         ) ⌝ }
     ensures inside { λ r. ⌜ SlotInside (now (plan .entry)) (r .slot) ⌝ }
+    ensures view { λ r. ⌜ r ≡ fieldItem (now (plan .entry)) p ⌝ }
 {
     let address = Address(half_at(plan, p));
     let path = p + 2;
@@ -575,6 +599,7 @@ pub fn slot_at(plan: &[u8], p: usize) -> SlotItem
         readAt bytes Reader.slot p ≡ got (slotViewed bytes (r .slot)) (drop (r .end) bytes)
         ) ⌝ }
     ensures inside { λ r. ⌜ SlotInside (now (plan .entry)) (r .slot) ⌝ }
+    ensures view { λ r. ⌜ r ≡ slotItem (now (plan .entry)) p ⌝ }
 {
     let q = p + 1;
     match plan[p] {
@@ -613,6 +638,7 @@ pub fn binding_at(plan: &[u8], p: usize) -> BindingItem
         readAt bytes Reader.binding p ≡ got (bindingOf bytes r) (drop (r .end) bytes)
         ) ⌝ }
     ensures inside { λ r. ⌜ SlotInside (now (plan .entry)) (r .slot) ⌝ }
+    ensures view { λ r. ⌜ r ≡ bindingItem (now (plan .entry)) p ⌝ }
 {
     let name = word_at(plan, p);
     let s = slot_at(plan, p + 2);
@@ -632,6 +658,7 @@ pub fn select_at(plan: &[u8], p: usize) -> SelectView
         readAt bytes Reader.select p ≡ got (selectOf bytes r) (drop (r .end) bytes)
         ) ⌝ }
     ensures inside { λ r. ⌜ Found (now (plan .entry)) Reader.path (r .path) ⌝ }
+    ensures view { λ r. ⌜ r ≡ selectView (now (plan .entry)) p ⌝ }
 {
     let address = Address(half_at(plan, p));
     let path = p + 2;
@@ -647,10 +674,11 @@ pub fn select_at(plan: &[u8], p: usize) -> SelectView
 // The diagnostic at p.
 pub fn diagnostic_at(plan: &[u8], p: usize) -> DiagnosticView
     requires { ⌜ Found (now plan) Reader.diagnostic p ⌝ }
-    ensures { λ r. ⌜ (
+    ensures reads { λ r. ⌜ (
         let bytes = now (plan .entry) in
         readAt bytes Reader.diagnostic p ≡ got (diagnosticOf r) (drop (r .end) bytes)
         ) ⌝ }
+    ensures view { λ r. ⌜ r ≡ diagnosticView (now (plan .entry)) p ⌝ }
 {
     DiagnosticView {
         node: word_at(plan, p),
@@ -687,6 +715,7 @@ pub fn open_plan(plan: &[u8]) -> PlanView
     requires { ⌜ Opened (now plan) ⌝ }
     ensures reads { λ r. ⌜ planOf (now (plan .entry)) ≡ planViewed (now (plan .entry)) r ⌝ }
     ensures inside { λ r. ⌜ PlanInside (now (plan .entry)) r ⌝ }
+    ensures view { λ r. ⌜ r ≡ planView (now (plan .entry)) ⌝ }
 {
     let b = past(level_list_end(plan, 0));
     let k = past(list_end(plan, BINDINGS, b));

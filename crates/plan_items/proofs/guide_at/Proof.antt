@@ -1,6 +1,7 @@
 use native.Mathlib.Omega.{arith}
 use mathlib.Core.Path.{refl}
 use Rattle.plan_items.proofs.Leaves.{guide-inside, guide-known, guide-none, guide-path, guide-room, guide-anchor, guide-some}
+use Rattle.plan_items.proofs.Views.{guide-none-view, guide-some-view}
 use Rattle.plan_items.proofs.guide_at.Statement.{statement}
 use Rattle.plan_items.proofs.guide_at.Tie as tie
 use Rattle.plan_items.proofs.guide_at.Reads as reads
@@ -16,34 +17,34 @@ shared-slice-read-if1 : tie.Need-shared-slice-read-if1
 shared-slice-read-if1 c = guide-inside _ _ (c .before .before .pre)
 
 returns : tie.Need-returns
-returns c = (guide-none _ _ (c .before .before .before .pre) (omega arith), tt)
+returns c = (guide-none _ _ (c .before .before .before .pre) (omega arith), (tt, guide-none-view _ _ (omega arith)))
 
 path-past-requires : tie.Need-path-past-requires
 path-past-requires c κs = guide-path _ _ (c .before .before .before .pre) (omega (arith, guide-known _ _ (c .before .before .before .pre)))
 
 word-at-requires : tie.Need-word-at-requires
-word-at-requires c κs = omega (arith, guide-room _ _ (c .before .before .before .before .pre) (c .path-past .result) (omega (arith, guide-known _ _ (c .before .before .before .before .pre))) (c .path-past .ensures))
+word-at-requires c κs = omega (arith, guide-room _ _ (c .before .before .before .before .pre) (c .path-past .result) (omega (arith, guide-known _ _ (c .before .before .before .before .pre))) (c .path-past .ensures .0))
 
 add-distance : tie.Need-add-distance
-add-distance c = omega (arith, guide-room _ _ (c .before .before .before .before .before .pre) (c .before .path-past .result) (omega (arith, guide-known _ _ (c .before .before .before .before .before .pre))) (c .before .path-past .ensures))
+add-distance c = omega (arith, guide-room _ _ (c .before .before .before .before .before .pre) (c .before .path-past .result) (omega (arith, guide-known _ _ (c .before .before .before .before .before .pre))) (c .before .path-past .ensures .0))
 
 shared-slice-read-distance : tie.Need-shared-slice-read-distance
-shared-slice-read-distance c = omega (arith, guide-room _ _ (c .before .before .before .before .before .before .pre) (c .before .before .path-past .result) (omega (arith, guide-known _ _ (c .before .before .before .before .before .before .pre))) (c .before .before .path-past .ensures))
+shared-slice-read-distance c = omega (arith, guide-room _ _ (c .before .before .before .before .before .before .pre) (c .before .before .path-past .result) (omega (arith, guide-known _ _ (c .before .before .before .before .before .before .pre))) (c .before .before .path-past .ensures .0))
 
 add-anchor-of : tie.Need-add-anchor-of
-add-anchor-of c = omega (arith, guide-room _ _ (c .before .before .before .before .before .before .pre) (c .before .before .path-past .result) (omega (arith, guide-known _ _ (c .before .before .before .before .before .before .pre))) (c .before .before .path-past .ensures))
+add-anchor-of c = omega (arith, guide-room _ _ (c .before .before .before .before .before .before .pre) (c .before .before .path-past .result) (omega (arith, guide-known _ _ (c .before .before .before .before .before .before .pre))) (c .before .before .path-past .ensures .0))
 
 shared-slice-read-anchor-of : tie.Need-shared-slice-read-anchor-of
-shared-slice-read-anchor-of c = omega (arith, guide-room _ _ (c .before .before .before .before .before .before .before .pre) (c .before .before .before .path-past .result) (omega (arith, guide-known _ _ (c .before .before .before .before .before .before .before .pre))) (c .before .before .before .path-past .ensures))
+shared-slice-read-anchor-of c = omega (arith, guide-room _ _ (c .before .before .before .before .before .before .before .pre) (c .before .before .before .path-past .result) (omega (arith, guide-known _ _ (c .before .before .before .before .before .before .before .pre))) (c .before .before .before .path-past .ensures .0))
 
 anchor-of-requires : tie.Need-anchor-of-requires
-anchor-of-requires c κs = guide-anchor _ _ (c .before .before .before .before .before .before .before .pre) (c .before .before .before .path-past .result) (omega (arith, guide-known _ _ (c .before .before .before .before .before .before .before .pre))) (c .before .before .before .path-past .ensures)
+anchor-of-requires c κs = guide-anchor _ _ (c .before .before .before .before .before .before .before .pre) (c .before .before .before .path-past .result) (omega (arith, guide-known _ _ (c .before .before .before .before .before .before .before .pre))) (c .before .before .before .path-past .ensures .0)
 
 add-t12 : tie.Need-add-t12
-add-t12 c = omega (arith, guide-room _ _ (c .before .before .before .before .before .before .before .before .pre) (c .before .before .before .before .path-past .result) (omega (arith, guide-known _ _ (c .before .before .before .before .before .before .before .before .pre))) (c .before .before .before .before .path-past .ensures))
+add-t12 c = omega (arith, guide-room _ _ (c .before .before .before .before .before .before .before .before .pre) (c .before .before .before .before .path-past .result) (omega (arith, guide-known _ _ (c .before .before .before .before .before .before .before .before .pre))) (c .before .before .before .before .path-past .ensures .0))
 
 returns-2 : tie.Need-returns-2
-returns-2 c = (guide-some _ _ (c .before .before .before .before .before .before .before .before .pre) (c .before .before .before .before .path-past .result) (omega (arith, guide-known _ _ (c .before .before .before .before .before .before .before .before .pre))) (c .before .before .before .before .path-past .ensures) _ _ _ (c .before .before .before .word-at .ensures .0) refl (c .anchor-of .ensures), guide-path _ _ (c .before .before .before .before .before .before .before .before .pre) (omega (arith, guide-known _ _ (c .before .before .before .before .before .before .before .before .pre))))
+returns-2 c = (guide-some _ _ (c .before .before .before .before .before .before .before .before .pre) (c .before .before .before .before .path-past .result) (omega (arith, guide-known _ _ (c .before .before .before .before .before .before .before .before .pre))) (c .before .before .before .before .path-past .ensures .0) _ _ _ (c .before .before .before .word-at .ensures .0) refl (c .anchor-of .ensures), (guide-path _ _ (c .before .before .before .before .before .before .before .before .pre) (omega (arith, guide-known _ _ (c .before .before .before .before .before .before .before .before .pre))), guide-some-view _ _ (c .before .before .before .before .path-past .result) _ _ _ (omega (arith, guide-known _ _ (c .before .before .before .before .before .before .before .before .pre))) (c .before .before .before .before .path-past .ensures .1) (c .before .before .before .word-at .ensures .0) refl (c .anchor-of .ensures)))
 
 pub guide-at-spec : {M : Type 1} → statement M
 guide-at-spec =

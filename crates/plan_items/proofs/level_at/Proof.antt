@@ -1,5 +1,6 @@
 use native.Mathlib.Omega.{arith}
 use Rattle.plan_items.proofs.Levels.{counts-inside, level-seek, level-guide, level-residuals, level-folded, level-reads}
+use Rattle.plan_items.proofs.Views.{level-view}
 use Rattle.plan_items.proofs.level_at.Statement.{statement}
 use Rattle.plan_items.proofs.level_at.Tie as tie
 use Rattle.plan_items.proofs.level_at.Reads as reads
@@ -41,7 +42,7 @@ words-at-requires : tie.Need-words-at-requires
 words-at-requires c κs = level-folded _ _ (c .before .before .before .before .before .before .before .pre) _ (c .before .before .before .word-at3 .ensures .0) _ (c .before .before .seek-at .result .end) (c .before .before .seek-at .ensures .0) _ (c .before .guide-at .result .end) (c .before .guide-at .ensures .0) _ (c .residuals-at .result .end) (c .residuals-at .ensures .0)
 
 returns : tie.Need-returns
-returns c = (level-reads _ _ (c .before .before .before .before .before .before .before .before .pre) _ (c .before .before .before .before .word-at3 .ensures .0) _ (c .before .before .before .seek-at .result .end) (c .before .before .before .seek-at .ensures .0) _ (c .before .before .guide-at .result .end) (c .before .before .guide-at .ensures .0) _ (c .before .residuals-at .result .end) (c .before .residuals-at .ensures .0) _ _ _ (c .words-at .result .end) (c .before .before .before .before .before .before .word-at .ensures .0) (c .before .before .before .before .before .word-at2 .ensures .0) (c .words-at .ensures .0), record { seek = c .before .before .before .seek-at .ensures .1; guide = c .before .before .guide-at .ensures .1; residuals = c .before .residuals-at .ensures .1; folded = c .words-at .ensures .1; few = c .before .before .before .before .word-at3 .ensures .1 })
+returns c = (level-reads _ _ (c .before .before .before .before .before .before .before .before .pre) _ (c .before .before .before .before .word-at3 .ensures .0) _ (c .before .before .before .seek-at .result .end) (c .before .before .before .seek-at .ensures .0) _ (c .before .before .guide-at .result .end) (c .before .before .guide-at .ensures .0) _ (c .before .residuals-at .result .end) (c .before .residuals-at .ensures .0) _ _ _ (c .words-at .result .end) (c .before .before .before .before .before .before .word-at .ensures .0) (c .before .before .before .before .before .word-at2 .ensures .0) (c .words-at .ensures .0), (record { seek = c .before .before .before .seek-at .ensures .1 .0; guide = c .before .before .guide-at .ensures .1 .0; residuals = c .before .residuals-at .ensures .1 .0; folded = c .words-at .ensures .1 .0; few = c .before .before .before .before .word-at3 .ensures .1 }, level-view _ _ _ _ _ (c .before .before .before .seek-at .result) (c .before .before .guide-at .result) (c .before .residuals-at .result) (c .words-at .result) (c .before .before .before .before .before .before .word-at .ensures .0) (c .before .before .before .before .before .word-at2 .ensures .0) (c .before .before .before .before .word-at3 .ensures .0) (c .before .before .before .seek-at .ensures .1 .1) (c .before .before .guide-at .ensures .1 .1) (c .before .residuals-at .ensures .1 .1) (c .words-at .ensures .1 .1)))
 
 pub level-at-spec : {M : Type 1} → statement M
 level-at-spec =

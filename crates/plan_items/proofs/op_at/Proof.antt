@@ -1,6 +1,7 @@
 use native.Mathlib.Omega.{arith}
 use mathlib.Core.Path.{refl}
 use Rattle.plan_items.proofs.Leaves.{op-inside, op-known, bytes-text, prefix-text, op-bytes, op-prefix, op-address, op-path, op-register, op-fact-inside, op-fact, op-tag-inside, op-tag, op-fuzzy-room, op-fuzzy-anchor, op-fuzzy}
+use Rattle.plan_items.proofs.Views.{op-bytes-view, op-prefix-view, op-register-view, op-fact-view, op-tag-view, op-fuzzy-view}
 use borrow.Author.Needs.{needs}
 use Rattle.plan_items.proofs.op_at.Statement.{statement}
 use Rattle.plan_items.proofs.op_at.Tie as tie
@@ -74,22 +75,22 @@ add-t35 : tie.Need-add-t35
 add-t35 c = omega (arith, op-fuzzy-room _ _ (c .before .before .before .before .before .before .before .pre) (omega (arith, op-known _ _ (c .before .before .before .before .before .before .before .pre))))
 
 returns : tie.Need-returns
-returns c = (op-bytes _ _ (c .before .before .before .before .before .pre) (c .before .text-at .result) (omega arith) (c .before .text-at .ensures .0), c .before .text-at .ensures .1)
+returns c = (op-bytes _ _ (c .before .before .before .before .before .pre) (c .before .text-at .result) (omega arith) (c .before .text-at .ensures .0), (c .before .text-at .ensures .1 .0, op-bytes-view _ _ (c .before .text-at .result) (omega arith) (c .before .text-at .ensures .1 .1)))
 
 returns-2 : tie.Need-returns-2
-returns-2 c = (op-prefix _ _ (c .before .before .before .before .before .pre) (c .before .text-at2 .result) (omega arith) (c .before .text-at2 .ensures .0), c .before .text-at2 .ensures .1)
+returns-2 c = (op-prefix _ _ (c .before .before .before .before .before .pre) (c .before .text-at2 .result) (omega arith) (c .before .text-at2 .ensures .0), (c .before .text-at2 .ensures .1 .0, op-prefix-view _ _ (c .before .text-at2 .result) (omega arith) (c .before .text-at2 .ensures .1 .1)))
 
 returns-3 : tie.Need-returns-3
-returns-3 c = (op-register _ _ (c .before .before .before .before .before .pre) _ (c .path-past .result) (omega arith) (c .before .half-at .ensures) (c .path-past .ensures), op-path _ _ (c .before .before .before .before .before .pre) (omega arith))
+returns-3 c = (op-register _ _ (c .before .before .before .before .before .pre) _ (c .path-past .result) (omega arith) (c .before .half-at .ensures) (c .path-past .ensures .0), (op-path _ _ (c .before .before .before .before .before .pre) (omega arith), op-register-view _ _ _ (c .path-past .result) (omega arith) (c .before .half-at .ensures) (c .path-past .ensures .1)))
 
 returns-4 : tie.Need-returns-4
-returns-4 c = (op-fact _ _ (c .before .before .before .before .pre) _ (omega arith) (c .half-at2 .ensures), tt)
+returns-4 c = (op-fact _ _ (c .before .before .before .before .pre) _ (omega arith) (c .half-at2 .ensures), (tt, op-fact-view _ _ _ (omega arith) (c .half-at2 .ensures)))
 
 returns-5 : tie.Need-returns-5
-returns-5 c = (op-tag _ _ (c .before .before .before .before .pre) _ (omega arith) (c .long-at .ensures), tt)
+returns-5 c = (op-tag _ _ (c .before .before .before .before .pre) _ (omega arith) (c .long-at .ensures), (tt, op-tag-view _ _ _ (omega arith) (c .long-at .ensures)))
 
 returns-6 : tie.Need-returns-6
-returns-6 c = (op-fuzzy _ _ (c .before .before .before .before .before .before .before .pre) _ _ _ (omega (arith, op-known _ _ (c .before .before .before .before .before .before .before .pre))) (c .before .before .before .word-at .ensures .0) refl (c .anchor-of .ensures), tt)
+returns-6 c = (op-fuzzy _ _ (c .before .before .before .before .before .before .before .pre) _ _ _ (omega (arith, op-known _ _ (c .before .before .before .before .before .before .before .pre))) (c .before .before .before .word-at .ensures .0) refl (c .anchor-of .ensures), (tt, op-fuzzy-view _ _ _ _ _ (omega (arith, op-known _ _ (c .before .before .before .before .before .before .before .pre))) (c .before .before .before .word-at .ensures .0) refl (c .anchor-of .ensures)))
 
 pub op-at-spec : {M : Type 1} → statement M
 op-at-spec =

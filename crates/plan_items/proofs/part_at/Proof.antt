@@ -1,5 +1,6 @@
 use native.Mathlib.Omega.{arith}
 use Rattle.plan_items.proofs.Leaves.{part-inside, part-known, part-text, part-bytes, part-address, part-path, part-register, part-fact-inside, part-fact}
+use Rattle.plan_items.proofs.Views.{part-bytes-view, part-register-view, part-fact-view}
 use borrow.Author.Needs.{needs}
 use Rattle.plan_items.proofs.part_at.Statement.{statement}
 use Rattle.plan_items.proofs.part_at.Tie as tie
@@ -37,13 +38,13 @@ add-t19 : tie.Need-add-t19
 add-t19 c = omega (arith, part-fact-inside _ _ (c .before .before .before .before .pre) (omega (arith, part-known _ _ (c .before .before .before .before .pre))))
 
 returns : tie.Need-returns
-returns c = (part-bytes _ _ (c .before .before .before .before .before .pre) (c .before .text-at .result) (omega arith) (c .before .text-at .ensures .0), c .before .text-at .ensures .1)
+returns c = (part-bytes _ _ (c .before .before .before .before .before .pre) (c .before .text-at .result) (omega arith) (c .before .text-at .ensures .0), (c .before .text-at .ensures .1 .0, part-bytes-view _ _ (c .before .text-at .result) (omega arith) (c .before .text-at .ensures .1 .1)))
 
 returns-2 : tie.Need-returns-2
-returns-2 c = (part-register _ _ (c .before .before .before .before .before .pre) _ (c .path-past .result) (omega arith) (c .before .half-at .ensures) (c .path-past .ensures), part-path _ _ (c .before .before .before .before .before .pre) (omega arith))
+returns-2 c = (part-register _ _ (c .before .before .before .before .before .pre) _ (c .path-past .result) (omega arith) (c .before .half-at .ensures) (c .path-past .ensures .0), (part-path _ _ (c .before .before .before .before .before .pre) (omega arith), part-register-view _ _ _ (c .path-past .result) (omega arith) (c .before .half-at .ensures) (c .path-past .ensures .1)))
 
 returns-3 : tie.Need-returns-3
-returns-3 c = (part-fact _ _ (c .before .before .before .before .pre) _ (omega (arith, part-known _ _ (c .before .before .before .before .pre))) (c .half-at2 .ensures), tt)
+returns-3 c = (part-fact _ _ (c .before .before .before .before .pre) _ (omega (arith, part-known _ _ (c .before .before .before .before .pre))) (c .half-at2 .ensures), (tt, part-fact-view _ _ _ (omega (arith, part-known _ _ (c .before .before .before .before .pre))) (c .half-at2 .ensures)))
 
 pub part-at-spec : {M : Type 1} → statement M
 part-at-spec =

@@ -9,7 +9,9 @@ path-at-requires : tie.Need-path-at-requires
 path-at-requires c κs = (path-inside _ _ (c .before .pre), path-short _ _ (c .before .pre))
 
 returns : tie.Need-returns
-returns c = path-value _ _ (c .before .before .pre) (c .path-at .result) (c .path-at .ensures .0)
+returns c =
+    let v = path-value _ _ (c .before .before .pre) (c .path-at .result) (c .path-at .ensures .0) in
+    (v .0, (v .1, c .path-at .ensures .1))
 
 pub path-at-spec : {M : Type 1} → statement M
 path-at-spec = tie.close (tie.spec path-at-requires returns)

@@ -9,7 +9,7 @@ past-path-requires : tie.Need-past-path-requires
 past-path-requires c κs = path-inside _ _ (c .before .pre)
 
 returns : tie.Need-returns
-returns c = rw (c .past-path .ensures) (path-reads _ _ (c .before .before .pre))
+returns c = (rw (c .past-path .ensures) (path-reads _ _ (c .before .before .pre)), c .past-path .ensures)
 
 pub path-past-spec : {M : Type 1} → statement M
 path-past-spec = tie.close (tie.spec past-path-requires returns)

@@ -1,4 +1,5 @@
 use Rattle.plan_items.proofs.Levels.{prefix-text, prefix-reads}
+use Rattle.plan_items.proofs.Views.{prefix-view}
 use borrow.Author.Needs.{needs}
 use Rattle.plan_items.proofs.prefix_seek.Statement.{statement}
 use Rattle.plan_items.proofs.prefix_seek.Tie as tie
@@ -13,7 +14,7 @@ add-t6 : tie.Need-add-t6
 add-t6 c = search needs
 
 returns : tie.Need-returns
-returns c = (prefix-reads _ _ (c .before .before .before .pre) (c .before .text-at .result) (c .before .text-at .ensures .0), c .before .text-at .ensures .1)
+returns c = (prefix-reads _ _ (c .before .before .before .pre) (c .before .text-at .result) (c .before .text-at .ensures .0), (c .before .text-at .ensures .1 .0, prefix-view _ _ (c .before .text-at .result) (c .before .text-at .ensures .1 .1)))
 
 pub prefix-seek-spec : {M : Type 1} → statement M
 prefix-seek-spec = tie.close (tie.spec text-at-requires add-t6 returns)

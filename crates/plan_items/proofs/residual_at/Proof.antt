@@ -1,4 +1,5 @@
 use Rattle.plan_items.proofs.Leaves.{residual-path, residual-op, residual-reads}
+use Rattle.plan_items.proofs.Views.{residual-view}
 use Rattle.plan_items.proofs.residual_at.Statement.{statement}
 use Rattle.plan_items.proofs.residual_at.Tie as tie
 use Rattle.plan_items.proofs.residual_at.Reads as reads
@@ -10,10 +11,10 @@ path-past-requires : tie.Need-path-past-requires
 path-past-requires c κs = residual-path _ _ (c .before .pre)
 
 op-at-requires : tie.Need-op-at-requires
-op-at-requires c κs = residual-op _ _ (c .before .before .pre) (c .path-past .result) (c .path-past .ensures)
+op-at-requires c κs = residual-op _ _ (c .before .before .pre) (c .path-past .result) (c .path-past .ensures .0)
 
 returns : tie.Need-returns
-returns c = (residual-reads _ _ (c .before .before .before .pre) (c .before .path-past .result) (c .before .path-past .ensures) _ (c .op-at .result .end) (c .op-at .ensures .0), record { path = residual-path _ _ (c .before .before .before .pre); op = c .op-at .ensures .1 })
+returns c = (residual-reads _ _ (c .before .before .before .pre) (c .before .path-past .result) (c .before .path-past .ensures .0) _ (c .op-at .result .end) (c .op-at .ensures .0), (record { path = residual-path _ _ (c .before .before .before .pre); op = c .op-at .ensures .1 .0 }, residual-view _ _ (c .before .path-past .result) (c .op-at .result) (c .before .path-past .ensures .1) (c .op-at .ensures .1 .1)))
 
 pub residual-at-spec : {M : Type 1} → statement M
 residual-at-spec = tie.close (tie.spec path-past-requires op-at-requires returns)

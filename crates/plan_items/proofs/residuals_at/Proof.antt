@@ -1,5 +1,6 @@
 use native.Mathlib.Omega.{arith}
 use Rattle.plan_items.proofs.Levels.{counted-inside, counted-found, counted-reads}
+use Rattle.plan_items.proofs.Views.{residuals-view}
 use Rattle.plan_items.proofs.residuals_at.Statement.{statement}
 use Rattle.plan_items.proofs.residuals_at.Tie as tie
 use Rattle.plan_items.proofs.residuals_at.Reads as reads
@@ -17,7 +18,7 @@ residuals-past-requires : tie.Need-residuals-past-requires
 residuals-past-requires c κs = counted-found _ _ _ (c .before .before .pre) _ (c .word-at .ensures .0)
 
 returns : tie.Need-returns
-returns c = (counted-reads _ _ _ (c .before .before .before .pre) _ (c .residuals-past .result) (c .before .word-at .ensures .0) (c .residuals-past .ensures), record { found = counted-found _ _ _ (c .before .before .before .pre) _ (c .before .word-at .ensures .0); few = c .before .word-at .ensures .1 })
+returns c = (counted-reads _ _ _ (c .before .before .before .pre) _ (c .residuals-past .result) (c .before .word-at .ensures .0) (c .residuals-past .ensures .0), (record { found = counted-found _ _ _ (c .before .before .before .pre) _ (c .before .word-at .ensures .0); few = c .before .word-at .ensures .1 }, residuals-view _ _ _ (c .residuals-past .result) (c .before .word-at .ensures .0) (c .residuals-past .ensures .1)))
 
 pub residuals-at-spec : {M : Type 1} → statement M
 residuals-at-spec = tie.close (tie.spec word-at-requires add-at residuals-past-requires returns)

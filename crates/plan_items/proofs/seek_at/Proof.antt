@@ -1,5 +1,6 @@
 use native.Mathlib.Omega.{arith}
 use Rattle.plan_items.proofs.Levels.{seek-inside, seek-known, prefix-found, composite-found, composite-parts, composite-reads, range-found, bounded-found, seek-prefix, seek-composite, seek-range, seek-bounded}
+use Rattle.plan_items.proofs.Views.{seek-prefix-view, seek-composite-view, seek-range-view, seek-bounded-view}
 use Rattle.plan_items.proofs.seek_at.Statement.{statement}
 use Rattle.plan_items.proofs.seek_at.Tie as tie
 use Rattle.plan_items.proofs.seek_at.Reads as reads
@@ -28,16 +29,16 @@ bounded-seek-requires : tie.Need-bounded-seek-requires
 bounded-seek-requires c κs = bounded-found _ _ _ (c .before .before .before .pre) (omega (arith, seek-known _ _ _ (c .before .before .before .pre)))
 
 returns : tie.Need-returns
-returns c = (seek-prefix _ _ _ (c .before .before .before .before .pre) _ (c .prefix-seek .result .end) (omega arith) (c .prefix-seek .ensures .0), c .prefix-seek .ensures .1)
+returns c = (seek-prefix _ _ _ (c .before .before .before .before .pre) _ (c .prefix-seek .result .end) (omega arith) (c .prefix-seek .ensures .0), (c .prefix-seek .ensures .1 .0, seek-prefix-view _ _ _ (c .prefix-seek .result) (omega arith) (c .prefix-seek .ensures .1 .1)))
 
 returns-2 : tie.Need-returns-2
-returns-2 c = (seek-composite _ _ _ (c .before .before .before .before .pre) _ (c .parts-past .result) (omega arith) (composite-reads _ _ _ _ (c .parts-past .result) (c .parts-past .ensures)), composite-parts _ _ _ (composite-found _ _ _ (c .before .before .before .before .pre) (omega arith)))
+returns-2 c = (seek-composite _ _ _ (c .before .before .before .before .pre) _ (c .parts-past .result) (omega arith) (composite-reads _ _ _ _ (c .parts-past .result) (c .parts-past .ensures .0)), (composite-parts _ _ _ (composite-found _ _ _ (c .before .before .before .before .pre) (omega arith)), seek-composite-view _ _ _ (c .parts-past .result) (omega arith) (c .parts-past .ensures .1)))
 
 returns-3 : tie.Need-returns-3
-returns-3 c = (seek-range _ _ _ (c .before .before .before .before .pre) _ (c .range-seek .result .end) (omega arith) (c .range-seek .ensures .0), c .range-seek .ensures .1)
+returns-3 c = (seek-range _ _ _ (c .before .before .before .before .pre) _ (c .range-seek .result .end) (omega arith) (c .range-seek .ensures .0), (c .range-seek .ensures .1 .0, seek-range-view _ _ _ (c .range-seek .result) (omega arith) (c .range-seek .ensures .1 .1)))
 
 returns-4 : tie.Need-returns-4
-returns-4 c = (seek-bounded _ _ _ (c .before .before .before .before .pre) _ (c .bounded-seek .result .end) (omega (arith, seek-known _ _ _ (c .before .before .before .before .pre))) (c .bounded-seek .ensures .0), c .bounded-seek .ensures .1)
+returns-4 c = (seek-bounded _ _ _ (c .before .before .before .before .pre) _ (c .bounded-seek .result .end) (omega (arith, seek-known _ _ _ (c .before .before .before .before .pre))) (c .bounded-seek .ensures .0), (c .bounded-seek .ensures .1 .0, seek-bounded-view _ _ _ (c .bounded-seek .result) (omega (arith, seek-known _ _ _ (c .before .before .before .before .pre))) (c .bounded-seek .ensures .1 .1)))
 
 pub seek-at-spec : {M : Type 1} → statement M
 seek-at-spec =

@@ -27,7 +27,7 @@ level-at-requires : tie.Need-level-at-requires Inv-loop μ-loop
 level-at-requires c κs = going-next _ _ _ (c .before .loop .inv) (omega arith)
 
 level-keeps-requires : tie.Need-level-keeps-requires Inv-loop μ-loop
-level-keeps-requires c κs = c .level-at .ensures .1
+level-keeps-requires c κs = c .level-at .ensures .1 .0
 
 returns : tie.Need-returns Inv-loop μ-loop
 returns c = going-broken _ _ _ (c .before .before .before .before .loop .inv) (omega arith) _ (c .before .before .level-at .result .end) (c .before .before .level-at .ensures .0) (sym (c .before .level-keeps .ensures) ∙ not-true _ (c .if1 .taken))
