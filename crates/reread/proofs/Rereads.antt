@@ -14,13 +14,14 @@ use Rattle.rules.specs.Compile.{Outcome, returned, buffer, compiled}
 use Rattle.rules.specs.Demand1.{Byte}
 use Rattle.rules.specs.Reader as Reader
 use Rattle.rules.specs.Reader.{readBack}
+use Rattle.rules.proofs.Cases.{pick}
 use Rattle.rules.proofs.ReaderRules.{Shape, shape}
 use Rattle.bytes.specs.Bytes.{indexOf, slice}
 use Rattle.lines.specs.Lines.{line, unhex}
 use Rattle.lines.proofs.Fronts.{front, length-unhex}
 use Rattle.lines.proofs.Calls.{Said, said-planned, said-refused}
 use Rattle.tally.specs.Tallies.{same}
-use Rattle.tally.proofs.Counts.{pick, same-is, to-end}
+use Rattle.tally.proofs.Counts.{same-is, to-end}
 use Rattle.reread.specs.Plans.{outputOf, roomOf, comesTo, agreesAt, agrees}
 
 -- what the call answers is the outcome's line

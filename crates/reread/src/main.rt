@@ -15,7 +15,6 @@ use lines::put_line;
 use lines::unhex;
 use reader::sinalvento_read;
 use tally::Tally;
-use tally::print;
 use tally::skipped;
 
 const PLAN_LIMIT: usize = 16384;
@@ -137,5 +136,8 @@ fn main() {
     let mut text = [0u8; TEXT_ROOM];
     let n = io::read_full(libc::STDIN_FILENO, &mut text);
     let t = reread_all(&text[..n]);
-    print(t);
+    io::print_decimal(libc::STDOUT_FILENO, t.compared as u64);
+    io::write_all(libc::STDOUT_FILENO, b" compared, ");
+    io::print_decimal(libc::STDOUT_FILENO, t.different as u64);
+    io::write_all(libc::STDOUT_FILENO, b" different\n");
 }

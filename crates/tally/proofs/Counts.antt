@@ -10,7 +10,7 @@ use lib.Dec.{eqb}
 use lib.ListN.{length, take, drop, getD, length-drop}
 use lib.Seq.{take-all}
 use Rattle.rules.specs.Base.{both}
-use Rattle.rules.proofs.Cases.{by-test, ways, true≢false, eqb-eq, both-left, both-right}
+use Rattle.rules.proofs.Cases.{by-test, ways, pick, true≢false, eqb-eq, both-left, both-right}
 use Rattle.tally.specs.declared.Tally.{Tally}
 use Rattle.tally.specs.Tallies.{same, skipped, added, counted}
 
@@ -29,9 +29,6 @@ same-eq (x ∷ xs) (y ∷ ys) e = ap₂ (λ (z : ℕ) (zs : List ℕ). z ∷ zs)
 pub same-is : (a b : List ℕ) (r : Bool) → (r ≡ true → a ≡ b) → (a ≡ b → r ≡ true) → r ≡ same a b
 same-is a b true f g = sym (ap (same a) (sym (f refl)) ∙ same-self a)
 same-is a b false f g = ways (same a b) (false ≡ same a b) (λ q. absurd (true≢false (sym (g (same-eq a b q))))) (λ q. sym q)
-
-pub pick : {A : Type 0} (b c : Bool) (x y : A) → b ≡ c → _≡_ {A = A} (elim b [ true ↦ x | false ↦ y ]) (elim c [ true ↦ x | false ↦ y ])
-pick b c x y e = ap (λ (t : Bool). elim t [ true ↦ x | false ↦ y ]) e
 
 -- from a place to the end
 pub to-end : (l : List ℕ) (at : ℕ) → take (length l - at) (drop at l) ≡ drop at l

@@ -39,11 +39,3 @@ impl Tally {
         }
     }
 }
-
-// The line that a program over such a list prints.
-pub fn print(t: Tally) {
-    io::print_decimal(libc::STDOUT_FILENO, t.compared as u64);
-    io::write_all(libc::STDOUT_FILENO, b" compared, ");
-    io::print_decimal(libc::STDOUT_FILENO, t.different as u64);
-    io::write_all(libc::STDOUT_FILENO, b" different\n");
-}
