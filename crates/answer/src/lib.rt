@@ -7,16 +7,12 @@ ghost use Rattle.rules.specs.Limits.{planLimit, workLimit};
 ghost use Rattle.rules.specs.Compile.{outcome};
 ghost use Rattle.lines.specs.Lines.{line};
 use compile::sinalvento_compile;
-use lines::put_hex;
-use lines::put_refusal;
+use lines::put_line;
 
 // The buffers that the compile is lent: every plan fits, and the work area is as long as it has to be.
 const PLAN_LIMIT: usize = 16384;
 
 const WORK_LIMIT: usize = 65536;
-
-// The compile answers a refusal's number × this + the plan's length.
-const LENGTHS: u64 = 65536;
 
 // Room for the longest line: two digits for each byte of a plan.
 pub const LINE_ROOM: usize = 32768;
@@ -37,11 +33,5 @@ pub fn answer(file: &[u8], out: &mut [u8]) -> usize
     let mut plan = [0u8; PLAN_LIMIT];
     let mut work = [0u8; WORK_LIMIT];
     let a = sinalvento_compile(file, &mut plan, &mut work);
-    let number = a / LENGTHS;
-    if number == 0 {
-        let n = (a % LENGTHS) as usize;
-        put_hex(&plan[..n], out);
-        return n * 2;
-    }
-    put_refusal(number as u8, out)
+    put_line(a, &plan, out)
 }
