@@ -1,43 +1,22 @@
--- A pair compared and counted.
+-- A pair compared.
 use mathlib.Core.Bool.{Bool, true, false}
-use mathlib.Core.List.{List, [], _∷_}
-use mathlib.Core.Path.{_≡_, refl, sym, ap, ap₂, _∙_}
+use mathlib.Core.List.{List}
+use mathlib.Core.Path.{_≡_, sym, ap, ap₂, _∙_}
 use Prim.Native.Nat.{ℕ, _+_, _-_, _*_, _/_, _≤_, _<_}
 use native.Mathlib.Omega.{arith}
-use borrow.Author.Tests.{le-leb, lt-leb, eq-eqb}
-use lib.Dec.{leb, eqb}
-use native.Mathlib.Nat.{suc-ne-zero}
-use lib.ListN.{length, take, drop, getD, replicate, length-replicate, length-drop}
-use lib.Seq.{sets, take-all, take-length, length-take-le}
-use Rattle.rules.specs.Base.{both}
+use borrow.Author.Tests.{le-leb, lt-leb}
+use lib.Dec.{leb}
+use lib.ListN.{length, take, drop, replicate, length-replicate}
+use lib.Seq.{sets, take-length, length-take-le}
 use Rattle.rules.specs.Limits.{planLimit, workLimit}
 use Rattle.rules.specs.Compile.{outcome}
-use Rattle.rules.proofs.Cases.{by-test, ways, true≢false, eqb-eq, both-left, both-right, pick}
+use Rattle.rules.proofs.Cases.{pick}
 use Rattle.bytes.specs.Bytes.{indexOf, slice}
 use Rattle.lines.specs.Lines.{line, unhex}
 use Rattle.lines.proofs.Fronts.{front, length-unhex}
-use Rattle.replay.specs.declared.Tally.{Tally}
-use Rattle.replay.specs.Pairs.{same, agreesAt, agrees, skipped, counted}
-
-same-self : (xs : List ℕ) → same xs xs ≡ true
-unfolding same
-same-self [] = refl
-same-self (x ∷ xs) = ap₂ both (eq-eqb x x refl) (same-self xs)
-
-same-eq : (xs ys : List ℕ) → same xs ys ≡ true → xs ≡ ys
-unfolding same
-same-eq [] [] e = refl
-same-eq [] (y ∷ ys) e = absurd (true≢false (sym e))
-same-eq (x ∷ xs) [] e = absurd (true≢false (sym e))
-same-eq (x ∷ xs) (y ∷ ys) e = ap₂ (λ (z : ℕ) (zs : List ℕ). z ∷ zs) (eqb-eq x y (both-left (eqb x y) (same xs ys) e)) (same-eq xs ys (both-right (eqb x y) (same xs ys) e))
-
-same-is : (a b : List ℕ) (r : Bool) → (r ≡ true → a ≡ b) → (a ≡ b → r ≡ true) → r ≡ same a b
-same-is a b true f g = sym (ap (same a) (sym (f refl)) ∙ same-self a)
-same-is a b false f g = ways (same a b) (false ≡ same a b) (λ q. absurd (true≢false (sym (g (same-eq a b q))))) (λ q. sym q)
-
--- from a place to the end
-to-end : (l : List ℕ) (at : ℕ) → take (length l - at) (drop at l) ≡ drop at l
-to-end l at = take-all (length l - at) (drop at l) (omega (arith, length-drop at l))
+use Rattle.tally.specs.Tallies.{same}
+use Rattle.tally.proofs.Counts.{same-is, to-end}
+use Rattle.replay.specs.Pairs.{agreesAt, agrees}
 
 -- the first space
 pub at-space : (pair : List ℕ) (e : ℕ) → e ≡ 0 + indexOf 32 (slice 0 (length pair) pair) → agrees pair ≡ agreesAt e pair
@@ -81,40 +60,3 @@ line-length = length-replicate {A = ℕ} 32768 0
 
 pub file-room : (pair f : List ℕ) (e : ℕ) → e ≤ length pair → e ≤ 65538 → length f ≡ 32769 → length (take e pair) ≤ length f * 2
 file-room pair f e h l lf = omega (arith, length-take-le e pair h, lf)
-
--- a line that is passed over
-pub skipped-empty : (l : List ℕ) → length l ≡ 0 → true ≡ skipped l
-unfolding skipped
-skipped-empty [] e = refl
-skipped-empty (x ∷ l) e = absurd (suc-ne-zero (length l) e)
-
-pub skipped-first : (l : List ℕ) → (length l ≡ 0 → ⊥) → eqb (getD l 0 0) 35 ≡ skipped l
-unfolding skipped
-skipped-first [] h = absurd (h refl)
-skipped-first (x ∷ l) h = refl
-
--- a line counted
-module _ (l : List ℕ) (t : Tally) where
-  pub counted-skipped : skipped l ≡ true → t ≡ counted l t
-  unfolding counted
-  counted-skipped s = sym (pick (skipped l) true _ _ s)
-
-  counted-by : skipped l ≡ false → (b : Bool) → agrees l ≡ b → counted l t ≡ elim b [ true ↦ record { compared = t .compared + 1; different = t .different } | false ↦ record { compared = t .compared + 1; different = t .different + 1 } ]
-  unfolding counted
-  counted-by s b a = pick (skipped l) false _ _ s ∙ pick (agrees l) b _ _ a
-
-  pub counted-equal : skipped l ≡ false → agrees l ≡ true → record { compared = t .compared + 1; different = t .different } ≡ counted l t
-  counted-equal s a = sym (counted-by s true a)
-
-  pub counted-different : skipped l ≡ false → agrees l ≡ false → record { compared = t .compared + 1; different = t .different + 1 } ≡ counted l t
-  counted-different s a = sym (counted-by s false a)
-
-  -- a line adds at most one to each
-  counted-most : (counted l t .compared ≤ t .compared + 1) × (counted l t .different ≤ t .different + 1)
-  unfolding counted
-  counted-most =
-      by-test (λ (u : Tally). (u .compared ≤ t .compared + 1) × (u .different ≤ t .different + 1)) (skipped l) (λ q. (omega arith, omega arith))
-      (λ q. by-test (λ (u : Tally). (u .compared ≤ t .compared + 1) × (u .different ≤ t .different + 1)) (agrees l) (λ q. (omega arith, omega arith)) (λ q. (omega arith, omega arith)))
-
-  pub counted-within : (u : Tally) → u ≡ counted l t → (u .compared ≤ t .compared + 1) × (u .different ≤ t .different + 1)
-  counted-within u e = (omega (arith, counted-most .0, ap (λ (v : Tally). v .compared) e), omega (arith, counted-most .1, ap (λ (v : Tally). v .different) e))

@@ -2,24 +2,20 @@
 ghost use mathlib.Core.Path.{_≡_};
 ghost use Prim.Native.Nat.{_<_};
 ghost use Rattle.replay.specs.Pairs as Pairs;
-ghost use Rattle.replay.specs.Pairs.{countLimit, counted, tallied, split};
+ghost use Rattle.tally.specs.Tallies.{countLimit, counted, tallied, split, none};
 use answer::FILE_ROOM;
 use answer::LINE_ROOM;
 use answer::answer;
 use bytes::scan::find;
 use lines::unhex;
+use tally::Tally;
+use tally::skipped;
 
 // The longest file in hex that is compared: two digits for each byte of FILE_ROOM.
 const HEX_LIMIT: usize = 65538;
 
 // Room for the whole list.
 const TEXT_ROOM: usize = 524288;
-
-// How many answers were compared, and how many of them differ.
-struct Tally {
-    compared: usize,
-    different: usize,
-}
 
 // Whether the line for a pair's file is the pair's line.
 fn agrees(pair: &[u8]) -> bool
@@ -41,40 +37,20 @@ fn agrees(pair: &[u8]) -> bool
     check::same(&out[..m], &pair[at..])
 }
 
-// Whether a line is none to compare: empty, or a comment.
-fn skipped(line: &[u8]) -> bool
-    ensures { λ r. ⌜ r ≡ Pairs.skipped (now (line .entry)) ⌝ }
-{
-    if line.len() == 0 {
-        return true;
-    }
-    line[0] == b'#'
-}
-
 // The tally after one line more.
 fn count(line: &[u8], t: Tally) -> Tally
     requires { ⌜ (t .compared < countLimit) × (t .different < countLimit) ⌝ }
-    ensures { λ r. ⌜ r ≡ counted (now (line .entry)) t ⌝ }
+    ensures { λ r. ⌜ r ≡ counted Pairs.agrees (now (line .entry)) t ⌝ }
 {
     if skipped(line) {
         return t;
     }
-    let compared = t.compared + 1;
-    if agrees(line) {
-        return Tally {
-            compared,
-            different: t.different,
-        };
-    }
-    Tally {
-        compared,
-        different: t.different + 1,
-    }
+    t.with(agrees(line))
 }
 
 // The tally of all lines of a text.
 fn replay(text: &[u8]) -> Tally
-    ensures { λ r. ⌜ r ≡ tallied (split (now (text .entry))) (record { compared = 0; different = 0 }) ⌝ }
+    ensures { λ r. ⌜ r ≡ tallied Pairs.agrees (split (now (text .entry))) none ⌝ }
 {
     let mut t = Tally {
         compared: 0,
