@@ -1,5 +1,5 @@
--- The plan reader (request [1]) on the door table, by computing: each plan is read back to itself; cut short anywhere it is refused by 16, and by 15 where its last
--- byte has no room.
+-- The plan reader (request [1]) on the door table, by computing: each plan is read back to itself; cut short anywhere it is refused by
+-- 16, and by 15 where its last byte has no room.
 use mathlib.Core.List.{List, [], _∷_}
 use mathlib.Core.Path.{_≡_, refl}
 use Prim.Native.Nat.{ℕ, zero, suc, _-_}
@@ -45,7 +45,7 @@ openRows = tt
 
 pub doors-return : Each (λ (r : Row). Returns (r .answer)) doors
 unfolding openRows
-doors-return = more refl (more refl (more refl (more refl (more refl (more refl (more refl (more refl (more refl (more refl (more refl (more tt (done))))))))))))
+doors-return = more refl (more refl (more refl (more refl (more refl (more refl (more refl (more refl (more refl (more refl (more refl (more tt (more refl (more tt (done))))))))))))))
 
 pub doors-cut-short : Each (λ (r : Row). CutShort (r .answer)) (D1 ∷ D7 ∷ D8 ∷ D9 ∷ [])
 unfolding openRows

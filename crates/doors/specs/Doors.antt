@@ -1,5 +1,5 @@
--- "Door table": D1 to D10, each a whole file and the whole plan or the refusal that the written rules give. D1's bytes are document 01's
--- own.
+-- "Door table": D1 to D10, and request [3]'s two files, each a whole file and the whole plan or the refusal that the written rules give.
+-- D1's bytes are document 01's own.
 use mathlib.Core.List.{List, [], _∷_}
 use mathlib.Core.Path.{_≡_}
 use Prim.Native.String.{String}
@@ -143,8 +143,17 @@ D10-refused =
     "080101000b00 080101000c00 080101000d00 080101000e00 080101000f00 0000 0000 0000 0000 0000 0100 000010000000" ∷ [])
     (Outcome.refused 11)
 
+-- Request [3]: a file of no bytes is ten empty sections
+abbrev pub no-bytes : Row
+no-bytes = row [] (plan "0000 0000 0000 0000 0000")
+
+-- a single byte is refused by 3 as before
+abbrev pub one-byte : Row
+one-byte = row ("00" ∷ []) (Outcome.refused 3)
+
 abbrev pub doors : List Row
-doors = D1 ∷ D2 ∷ D3 ∷ D4 ∷ D5-scalar ∷ D5-record ∷ D6 ∷ D7 ∷ D8 ∷ D9 ∷ D10-passes ∷ D10-refused ∷ []
+doors =
+    D1 ∷ D2 ∷ D3 ∷ D4 ∷ D5-scalar ∷ D5-record ∷ D6 ∷ D7 ∷ D8 ∷ D9 ∷ D10-passes ∷ D10-refused ∷ no-bytes ∷ one-byte ∷ []
 
 -- names every definition of the rules, for a proof that computes
 unfoldable pub openRules : Unit {0}

@@ -22,7 +22,8 @@ use Rattle.file.specs.declared.Step.{Step}
 use Rattle.file.specs.declared.Step.the-variants.{Next, Refused}
 use Rattle.file.proofs.Readers.{lt-or-le, refused-got, refused-next, bind-inv, step-got, step-skim, fixed-u16, needs-fixed, needs-first, cut-short, alike-step}
 use Rattle.file.proofs.Suffix.{Suffix, end-end, ended, faulted, suffix-many, suffix-section, suffix-name, suffix-type, suffix-predicate, suffix-node, suffix-binding, suffix-hoisted, suffix-fetched, suffix-constraint, suffix-comparison, suffix-level}
-use Rattle.file.proofs.Sections.{apart, roomy, word-then, count-next, count-in, section-within, entries-on, sections-more, sections-fault, filled-none, filled-more, file-sections, alike-section}
+use Rattle.file.proofs.Sections.{apart, roomy, word-then, count-next, count-in, section-within, entries-on, sections-more, sections-fault, filled-none, filled-more, ten-sections, alike-section}
+use Rattle.file.proofs.Empty.{indexed-empty}
 
 -- a reading in two parts that succeeded, by position
 pub record Parts {A B : Type 0} (f : List ℕ) (r : Reader A) (k : A → Reader B) (p : ℕ) (b : B) (rest : List ℕ) : Type 0 where
@@ -261,28 +262,28 @@ unfolding end
 end-inv a b [] rest e = (cc, cc)
 end-inv a b (x ∷ l) rest e = absurd (refused-got e)
 
-module _ (f ix : List ℕ) (q : ℕ) (small : length f ≤ fileLimit) (long : length ix ≡ indexLength) (e : stepAt f Read.file 0 ≡ Next q) where
-  entry : (s t : ℕ) → s < 10 → t < length (entries f s (start f s)) → getD (indexOf f ix) (baseOf s + t) 0 ≡ getD (entries f s (start f s)) t 0
-  unfolding indexOf start
+module _ (f ix : List ℕ) (q : ℕ) (small : length f ≤ fileLimit) (long : length ix ≡ indexLength) (same : Read.file f ≡ Read.tenSections f) (e : stepAt f Read.tenSections 0 ≡ Next q) where
+  entry : (s t : ℕ) → s < 10 → t < length (entries f s (start f s)) → getD (filled f 10 0 0 ix) (baseOf s + t) 0 ≡ getD (entries f s (start f s)) t 0
+  unfolding start
   entry s t h g =
       let g′ : t < length (entries f (0 + s) (start f (0 + s))) = simp zero-add g in
-      simp zero-add at (filled-at f 10 0 q s t ix long (omega arith) (omega arith) (sym (file-sections f) ∙ e) h g′)
+      simp zero-add at (filled-at f 10 0 q s t ix long (omega arith) (omega arith) (sym (ten-sections f) ∙ e) h g′)
 
-  found : {A : Type 0} (s : ℕ) (r : Reader A) (xs ys : List A) → s < 10 → Suffix r → recordOf s ≡ skim r → xs ≡ ys → Typed f s r xs → Section f (indexOf f ix) s r ys
-  found s r xs ys h x g k y = subst (λ zs. Section f (indexOf f ix) s r zs) k (section-of f (indexOf f ix) s r xs x g (λ t l. entry s t h l) y)
+  found : {A : Type 0} (s : ℕ) (r : Reader A) (xs ys : List A) → s < 10 → Suffix r → recordOf s ≡ skim r → xs ≡ ys → Typed f s r xs → Section f (filled f 10 0 0 ix) s r ys
+  found s r xs ys h x g k y = subst (λ zs. Section f (filled f 10 0 0 ix) s r zs) k (section-of f (filled f 10 0 0 ix) s r xs x g (λ t l. entry s t h l) y)
 
-  made : (T : Tables) (rest : List ℕ) → readAt f Read.file 0 ≡ got T rest → {x0 : List (List ℕ)} {x1 : List Ty} {x2 : List Predicate} {x3 : List Node} {x4 : List Binding} {x5 : List Hoisted} {x6 : List Fetched} {x7 : List Constraint} {x8 : List Comparison} {x9 : List LevelEntry}
+  made : (T : Tables) (rest : List ℕ) → readAt f Read.tenSections 0 ≡ got T rest → {x0 : List (List ℕ)} {x1 : List Ty} {x2 : List Predicate} {x3 : List Node} {x4 : List Binding} {x5 : List Hoisted} {x6 : List Fetched} {x7 : List Constraint} {x8 : List Comparison} {x9 : List LevelEntry}
       → (_≡_ {A = Tables} (record { names = x0; types = x1; predicates = x2; nodes = x3; bindings = x4; hoisted = x5; fetched = x6; constraints = x7; comparisons = x8; levels = x9 }) T) × (rest ≡ [])
       → Typed f 0 name x0 → Typed f 1 type x1 → Typed f 2 predicate x2 → Typed f 3 node x3 → Typed f 4 binding x4 → Typed f 5 hoisted x5 → Typed f 6 fetched x6 → Typed f 7 constraint x7 → Typed f 8 comparison x8 → Typed f 9 level x9
-      → Indexed f (indexOf f ix)
-  unfolding recordOf readAt tablesOf indexOf
+      → Indexed f (filled f 10 0 0 ix)
+  unfolding recordOf readAt tablesOf
   made T rest z l t0 t1 t2 t3 t4 t5 t6 t7 t8 t9 =
-      let d : tablesOf f ≡ T = ap gotTables z in
+      let d : tablesOf f ≡ T = ap gotTables (same ∙ z) in
       let t = l .0 ∙ sym d in
       record {
         small = small;
         long = length-filled f 10 0 0 ix ∙ long;
-        accepted = z ∙ ap (λ (U : Tables). got U rest) (sym d) ∙ ap (got (tablesOf f)) (l .1);
+        accepted = same ∙ z ∙ ap (λ (U : Tables). got U rest) (sym d) ∙ ap (got (tablesOf f)) (l .1);
         names = found 0 name _ _ (lit< tt) suffix-name refl (ap (λ (U : Tables). U .names) t) t0;
         types = found 1 type _ _ (lit< tt) suffix-type refl (ap (λ (U : Tables). U .types) t) t1;
         predicates = found 2 predicate _ _ (lit< tt) suffix-predicate refl (ap (λ (U : Tables). U .predicates) t) t2;
@@ -301,11 +302,11 @@ module _ (f ix : List ℕ) (q : ℕ) (small : length f ≤ fileLimit) (long : le
       → ((xs : List A) → Typed f s r xs → start f (s + 1) ≤ length f → readAt f (k xs) (start f (s + 1)) ≡ got b rest → C) → C
   section-then s r k b rest x g h d c = let w = peel f s r k b rest x g h d in c (w .value) (w .typed) (w .within) (w .then)
 
-  pub indexed : Indexed f (indexOf f ix)
-  unfolding Read.file start limitOf recordOf readAt
-  indexed = go (step-next f Read.file 0 q e)
+  indexed-sections : Indexed f (filled f 10 0 0 ix)
+  unfolding Read.tenSections start limitOf recordOf readAt
+  indexed-sections = go (step-next f Read.tenSections 0 q e)
     where
-      go : (T : Tables) × (rest : List ℕ) × (readAt f Read.file 0 ≡ got T rest) → Indexed f (indexOf f ix)
+      go : (T : Tables) × (rest : List ℕ) × (readAt f Read.tenSections 0 ≡ got T rest) → Indexed f (filled f 10 0 0 ix)
       go (T, rest, z) =
           section-then 0 name _ T rest suffix-name refl zero-le z (λ x0 t0 h1 e1.
           section-then 1 type _ T rest suffix-type refl h1 e1 (λ x1 t1 h2 e2.
@@ -318,3 +319,9 @@ module _ (f ix : List ℕ) (q : ℕ) (small : length f ≤ fileLimit) (long : le
           section-then 8 comparison _ T rest suffix-comparison refl h8 e8 (λ x8 t8 h9 e9.
           section-then 9 level _ T rest suffix-level refl h9 e9 (λ x9 t9 h10 e10.
           made T rest z (end-inv _ T _ rest e10) t0 t1 t2 t3 t4 t5 t6 t7 t8 t9))))))))))
+
+-- whatever file was read to its end
+pub indexed : (f ix : List ℕ) (q : ℕ) → length f ≤ fileLimit → length ix ≡ indexLength → stepAt f Read.file 0 ≡ Next q → Indexed f (indexOf f ix)
+unfolding indexOf stepAt readAt Read.file
+indexed [] ix q small long e = indexed-empty ix long
+indexed (b ∷ bytes) ix q small long e = indexed-sections (b ∷ bytes) ix q small long refl e

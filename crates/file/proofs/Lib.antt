@@ -3,4 +3,5 @@ pub mod Suffix
 pub mod Leaves
 pub mod Names
 pub mod Sections
+pub mod Empty
 pub mod Accepted

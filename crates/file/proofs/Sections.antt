@@ -230,10 +230,10 @@ alike-end a b = record { ends = go }
     go [] = refl
     go (x ∷ l) = refl
 
--- the written rules' file is its ten sections
-pub file-sections : (f : List ℕ) → stepAt f Read.file 0 ≡ stepAt f (sections 10 0) 0
-unfolding Read.file sections sectionOf recordOf limitOf
-file-sections f =
+-- the written rules' ten sections, by number
+pub ten-sections : (f : List ℕ) → stepAt f Read.tenSections 0 ≡ stepAt f (sections 10 0) 0
+unfolding Read.tenSections sections sectionOf recordOf limitOf
+ten-sections f =
     alike-step f
     (alike-bind (alike-section _ name) (λ ns a.
     alike-bind (alike-section _ type) (λ ts b.

@@ -2,7 +2,7 @@
 use Prim.Native.Nat.{ℕ, zero, suc, _+_, _*_, _-_, max}
 use mathlib.Core.Bool.{true, false}
 use mathlib.Core.List.{List, [], _∷_}
-use lib.ListN.{length, getD, drop}
+use lib.ListN.{length, getD, set, drop}
 use lib.Dec.{leb}
 use lib.Seq.{sets}
 use Rattle.rules.specs.Limits.{nameLimit, typeLimit, predicateLimit, nodeLimit, bindingLimit, hoistedLimit, fetchedLimit, constraintLimit, comparisonLimit, levelLimit}
@@ -138,6 +138,12 @@ filled f (suc n) s p ix =
       | Refused x ↦ sets ix (baseOf s) (entries f s p)
     ]
 
--- the index after file f was read
+-- the index with n empty sections from section s on: each count is 0
+unfoldable pub emptied : ℕ → ℕ → List ℕ → List ℕ
+emptied zero s ix = ix
+emptied (suc n) s ix = emptied n (s + 1) (set ix (baseOf s) 0)
+
+-- the index after file f was read; one of no bytes has ten empty sections
 unfoldable pub indexOf : List ℕ → List ℕ → List ℕ
-indexOf f ix = filled f sectionCount 0 0 ix
+indexOf [] ix = emptied sectionCount 0 ix
+indexOf (b ∷ bytes) ix = filled (b ∷ bytes) sectionCount 0 0 ix

@@ -6,27 +6,12 @@ use mathlib.Core.List.{List, [], _∷_}
 use lib.Dec.{eqb}
 use lib.ListN.{length, getD}
 use Rattle.rules.specs.Limits.{fileLimit}
-use Rattle.rules.specs.File.{Tables, Binding}
+use Rattle.rules.specs.File.{Tables, Binding, noTables}
 use Rattle.rules.specs.Read.{Read, Reader, name, type, predicate, node, binding, hoisted, fetched, constraint, comparison, level}
 use Rattle.rules.specs.Read.Read.{got, refused}
 use Rattle.rules.specs.Read as Read
 use Rattle.file.specs.Sections as Sections
 use Rattle.file.specs.Steps.{readAt, baseOf, limitOf, indexLength}
-
-abbrev pub noTables : Tables
-noTables =
-    record {
-      names = [];
-      types = [];
-      predicates = [];
-      nodes = [];
-      bindings = [];
-      hoisted = [];
-      fetched = [];
-      constraints = [];
-      comparisons = [];
-      levels = [];
-    }
 
 abbrev pub gotTables : Read Tables → Tables
 gotTables (got T rest) = T

@@ -6,7 +6,7 @@ ghost use lib.Seq.{sets};
 ghost use Rattle.rules.specs.Limits.{fileLimit};
 ghost use Rattle.rules.specs.Read.{u8, many, several, char, name, type, node, slot, binding, fetched, comparison, fuzzyNode, path};
 ghost use Rattle.rules.specs.Read as Read;
-ghost use Rattle.file.specs.Steps.{wordLimit, word, greatestByte, stepAt, recordOf, sectionCount, limitOf, baseOf, countAt, starts, sectionOf, entries, indexLength, indexOf};
+ghost use Rattle.file.specs.Steps.{wordLimit, word, greatestByte, stepAt, recordOf, sectionCount, limitOf, baseOf, countAt, starts, sectionOf, entries, filled, emptied, indexLength, indexOf};
 ghost use Rattle.file.specs.Tables.{Indexed};
 
 // Where what was read ends, or the number of the first fault.
@@ -448,12 +448,11 @@ pub fn section(file: &[u8], index: &mut [u16], s: usize, p: usize) -> Step
     }
 }
 
-// Reads the whole file: the refusal of its first fault, or its end. On acceptance the index finds every record.
-pub fn read(file: &[u8], index: &mut [u16]) -> Step
+// Reads the ten sections front to back: the refusal of the first fault, or the file's end. Their counts and records go into the index.
+fn ten_sections(file: &[u8], index: &mut [u16]) -> Step
     requires { ⌜ (length (now file) ≤ fileLimit) × (length (now index) ≡ indexLength) ⌝ }
-    ensures reads { λ r. ⌜ r ≡ stepAt (now (file .entry)) Read.file 0 ⌝ }
-    ensures indexes { λ r. ⌜ now (index .exit) ≡ indexOf (now (file .entry)) (now (index .entry)) ⌝ }
-    ensures finds { λ r. ⌜ ((q : ℕ) → r ≡ Step.Next q → Indexed (now (file .entry)) (now (index .exit))) ⌝ }
+    ensures reads { λ r. ⌜ r ≡ stepAt (now (file .entry)) Read.tenSections 0 ⌝ }
+    ensures indexes { λ r. ⌜ now (index .exit) ≡ filled (now (file .entry)) sectionCount 0 0 (now (index .entry)) ⌝ }
 {
     let mut p = 0;
     let mut s = 0;
@@ -472,4 +471,32 @@ pub fn read(file: &[u8], index: &mut [u16]) -> Step
         return Step::Refused(7);
     }
     Step::Next(p)
+}
+
+// Writes the index of ten empty sections: each count is 0.
+fn no_records(index: &mut [u16])
+    requires { ⌜ length (now index) ≡ indexLength ⌝ }
+    ensures { λ _. ⌜ now (index .exit) ≡ emptied sectionCount 0 (now (index .entry)) ⌝ }
+{
+    let mut s = 0;
+    while s < SECTIONS {
+        let b = base(s);
+        index[b] = 0;
+        s += 1;
+    }
+}
+
+// Reads the whole file: the refusal of its first fault, or its end. On acceptance the index finds every record. A file of no bytes is
+// ten empty sections.
+pub fn read(file: &[u8], index: &mut [u16]) -> Step
+    requires { ⌜ (length (now file) ≤ fileLimit) × (length (now index) ≡ indexLength) ⌝ }
+    ensures reads { λ r. ⌜ r ≡ stepAt (now (file .entry)) Read.file 0 ⌝ }
+    ensures indexes { λ r. ⌜ now (index .exit) ≡ indexOf (now (file .entry)) (now (index .entry)) ⌝ }
+    ensures finds { λ r. ⌜ ((q : ℕ) → r ≡ Step.Next q → Indexed (now (file .entry)) (now (index .exit))) ⌝ }
+{
+    if file.len() == 0 {
+        no_records(index);
+        return Step::Next(0);
+    }
+    ten_sections(file, index)
 }

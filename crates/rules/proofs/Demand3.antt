@@ -11,7 +11,7 @@ use lib.Seq.{take-at, drop-append-seam}
 use Rattle.rules.specs.Base.{Each, done, more}
 use Rattle.rules.specs.Limits.{fileLimit, workLimit, planLimit}
 use Rattle.rules.specs.File.{Tables, Binding, LevelEntry}
-use Rattle.rules.specs.Read.{Read, got, refused, follow, _>>=_, end, file}
+use Rattle.rules.specs.Read.{Read, got, refused, follow, _>>=_, end, tenSections, file}
 use Rattle.rules.specs.Checks.{checks, fault}
 use Rattle.rules.specs.Events.{Lists}
 use Rattle.rules.specs.Walk.{walkLevel}
@@ -130,11 +130,16 @@ ends-bind : {A B : Type 0} (r : List ℕ → Read A) (f : A → List ℕ → Rea
 unfolding Ends _>>=_
 ends-bind r f h bytes b rest e = ends-follow (r bytes) f h b rest e
 
-ends-file : Ends file
-unfolding file
-ends-file =
+ends-sections : Ends tenSections
+unfolding tenSections
+ends-sections =
     ends-bind _ _ (λ ns. ends-bind _ _ (λ ts. ends-bind _ _ (λ ps. ends-bind _ _ (λ ms. ends-bind _ _ (λ bs.
     ends-bind _ _ (λ hs. ends-bind _ _ (λ fs. ends-bind _ _ (λ ks. ends-bind _ _ (λ cs. ends-bind _ _ (λ ls. ends-end _))))))))))
+
+ends-file : Ends file
+unfolding Ends file restOf
+ends-file [] T rest e = sym (ap restOf e)
+ends-file (b ∷ bytes) T rest e = ends-sections (b ∷ bytes) T rest e
 
 -- Demand 3 of the tables that an accepted file holds.
 tables-kept : (bytes : List ℕ) (T : Tables) → file bytes ≡ got T [] → fault checks T ≡ none → Demand3 bytes (planBytes (plan T))

@@ -14,7 +14,7 @@ use Rattle.rules.specs.Read.{Read, got, refused, Reader, many, several, 
 use Rattle.rules.specs.Demand1.{Byte}
 use Rattle.rules.proofs.Cases.{leb-le}
 use Rattle.rules.proofs.Each.{Any}
-use Rattle.rules.proofs.Readers.{Answer, gives, refuses, Reads, reads-pure, reads-refuse, reads-bind, reads-u8, reads-u16, reads-many, reads-several, reads-kind, reads-section, reads-end, reads-name, reads-predicate, reads-anchor, reads-fieldPattern, reads-binding, reads-hoisted, reads-fetched, reads-constraint, reads-comparison}
+use Rattle.rules.proofs.Readers.{Answer, gives, refuses, Reads, reads-pure, reads-refuse, reads-bind, reads-u8, reads-u16, reads-many, reads-several, reads-kind, reads-section, reads-end, reads-name, reads-predicate, reads-anchor, reads-fieldPattern, reads-binding, reads-hoisted, reads-fetched, reads-constraint, reads-comparison, reads-whole}
 
 -- fewer fields than a byte counts, discs of four bytes
 abbrev pub TypeNumbers : Ty → Type 0
@@ -148,9 +148,9 @@ level-bound : Reads Byte (λ l. l .address < 65536) Read.level
 unfolding Read.level
 level-bound = reads-bind reads-u16 λ p _. reads-bind reads-u16 λ n _. reads-bind u16-bound λ a h. reads-pure _ h
 
-file-bound : Reads Byte Bounded Read.file
-unfolding Read.file
-file-bound =
+sections-bound : Reads Byte Bounded Read.tenSections
+unfolding Read.tenSections
+sections-bound =
     reads-bind (reads-section Limits.nameLimit reads-name) λ ns _.
     reads-bind (section-bound Limits.typeLimit type-bound) λ ts types.
     reads-bind (reads-section Limits.predicateLimit reads-predicate) λ ps _.
@@ -162,6 +162,9 @@ file-bound =
     reads-bind (reads-section Limits.comparisonLimit reads-comparison) λ cs _.
     reads-bind (reads-section Limits.levelLimit level-bound) λ ls levels.
     reads-end _ (record { few-types = omega (arith, types .count); types = types .each; nodes = nodes; levels = levels })
+
+file-bound : Reads Byte Bounded Read.file
+file-bound = reads-whole (record { few-types = omega arith; types = done; nodes = done; levels = done }) sections-bound
 
 -- what was read, of an answer that says so
 readOr : {A : Type 0} → A → Read A → A

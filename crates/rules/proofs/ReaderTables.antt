@@ -15,7 +15,7 @@ use Rattle.rules.specs.Demand1.{Byte}
 use Rattle.rules.proofs.Cases.{by-test}
 use Rattle.rules.proofs.Each.{each-snoc}
 use Rattle.rules.proofs.RoundTrip.{OptionNumber}
-use Rattle.rules.proofs.Readers.{Answer, gives, refuses, Reads, reads-pure, reads-bind, reads-u8, reads-u16, reads-many, reads-several, reads-kind, reads-section, reads-end, reads-name, reads-anchor, reads-hoisted, reads-comparison}
+use Rattle.rules.proofs.Readers.{Answer, gives, refuses, Reads, reads-pure, reads-bind, reads-u8, reads-u16, reads-many, reads-several, reads-kind, reads-section, reads-end, reads-name, reads-anchor, reads-hoisted, reads-comparison, reads-whole}
 use Rattle.rules.proofs.Numbers.{Many, many-bound, section-bound, u16-bound, u32-bound, of-answer}
 
 -- a path's field and steps
@@ -200,9 +200,9 @@ level-within : Reads Byte EntryWithin Read.level
 unfolding Read.level
 level-within = reads-bind reads-u16 λ p _. reads-bind u16-bound λ n h. reads-bind u16-bound λ a g. reads-pure _ (record { node = h; address = g })
 
-file-within : Reads Byte TablesWithin Read.file
-unfolding Read.file
-file-within =
+sections-within : Reads Byte TablesWithin Read.tenSections
+unfolding Read.tenSections
+sections-within =
     reads-bind (reads-section Limits.nameLimit reads-name) λ ns _.
     reads-bind (reads-section Limits.typeLimit type-within) λ ts types.
     reads-bind (reads-section Limits.predicateLimit predicate-within) λ ps predicates.
@@ -224,6 +224,21 @@ file-within =
       comparisons = comparisons .count;
       levels = levels;
     })
+
+file-within : Reads Byte TablesWithin Read.file
+file-within =
+    reads-whole
+    (record {
+      types = done;
+      predicates = done;
+      nodes = done;
+      bindings = done;
+      fetched = done;
+      constraints = done;
+      comparisons = omega arith;
+      levels = done;
+    })
+    sections-within
 
 -- the tables of a file of bytes
 pub tables-within : (bytes : List ℕ) → Each Byte bytes → (T : Tables) (rest : List ℕ) → Read.file bytes ≡ got T rest → TablesWithin T

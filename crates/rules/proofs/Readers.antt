@@ -7,7 +7,7 @@ use native.Mathlib.Omega.{arith}
 use lib.Dec.{ltb, leb}
 use Rattle.rules.specs.Base.{Each, done, more}
 use Rattle.rules.specs.Limits
-use Rattle.rules.specs.File.{Tables, Node}
+use Rattle.rules.specs.File.{Tables, Node, noTables}
 use Rattle.rules.specs.Read
 use Rattle.rules.specs.Read.{Read, got, refused, Reader, follow, _>>=_, pure, refuse, u8, u16, u32, optional, many, several, kind, section, end}
 use Rattle.rules.proofs.Each.{Any, each-getD}
@@ -247,9 +247,18 @@ module _ {B : ℕ → Type 0} where
   unfolding Read.level
   reads-level = reads-bind reads-u16 λ p _. reads-bind reads-u16 λ n _. reads-bind reads-u16 λ a _. reads-pure _ tt
 
-  pub reads-file : Reads B (TablesOf B) Read.file
+  -- a file is its ten sections, or it has no bytes
+  pub reads-whole : {Q : Tables → Type 0} → Q noTables → Reads B Q Read.tenSections → Reads B Q Read.file
   unfolding Read.file
-  reads-file =
+  reads-whole {Q} none h = record { answer = go }
+    where
+      go : (bytes : List ℕ) → Each B bytes → Answer B Q (Read.file bytes)
+      go [] b = gives none done
+      go (x ∷ bytes) b = h .answer (x ∷ bytes) b
+
+  reads-ten : Reads B (TablesOf B) Read.tenSections
+  unfolding Read.tenSections
+  reads-ten =
       reads-bind (reads-section Limits.nameLimit reads-name) λ ns names.
       reads-bind (reads-section Limits.typeLimit reads-type) λ ts _.
       reads-bind (reads-section Limits.predicateLimit reads-predicate) λ ps _.
@@ -261,3 +270,6 @@ module _ {B : ℕ → Type 0} where
       reads-bind (reads-section Limits.comparisonLimit reads-comparison) λ cs _.
       reads-bind (reads-section Limits.levelLimit reads-level) λ ls _.
       reads-end _ (record { names = names; nodes = nodes })
+
+  pub reads-file : Reads B (TablesOf B) Read.file
+  reads-file = reads-whole (record { names = done; nodes = done }) reads-ten

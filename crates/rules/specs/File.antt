@@ -110,6 +110,22 @@ pub record Tables : Type 0 where
   pub comparisons : List Comparison
   pub levels : List LevelEntry
 
+-- ten empty sections
+abbrev pub noTables : Tables
+noTables =
+    record {
+      names = [];
+      types = [];
+      predicates = [];
+      nodes = [];
+      bindings = [];
+      hoisted = [];
+      fetched = [];
+      constraints = [];
+      comparisons = [];
+      levels = [];
+    }
+
 -- Entries by number. The last argument of `getD` is never met in an accepted file: refusal 8.
 unfoldable pub nameAt : Tables → ℕ → List ℕ
 nameAt T x = getD (T .names) x []

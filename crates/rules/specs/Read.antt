@@ -8,7 +8,7 @@ use lib.Dec.{ltb, leb, eqb}
 use Rattle.rules.specs.Limits.{nameLimit, typeLimit, predicateLimit, nodeLimit, bindingLimit, hoistedLimit, fetchedLimit}
 use Rattle.rules.specs.Limits.{constraintLimit, comparisonLimit, levelLimit}
 use Rattle.rules.specs.File.{Tables, FieldTy, Alternative, Ty, Predicate, Anchor, FieldPattern, Node, FieldPath, Slot, Binding}
-use Rattle.rules.specs.File.{Hoisted, Fetched, Constraint, CompareOp, Comparison, LevelEntry}
+use Rattle.rules.specs.File.{Hoisted, Fetched, Constraint, CompareOp, Comparison, LevelEntry, noTables}
 
 -- what was read and the bytes after it, or the number of the refusal
 pub data Read (A : Type 0) : Type 0 where
@@ -269,8 +269,8 @@ end a [] = got a []
 end a (b ∷ bytes) = refused 7
 
 -- "Ten sections in this order, each after its count (u16)."
-unfoldable pub file : Reader Tables
-file = do
+unfoldable pub tenSections : Reader Tables
+tenSections = do
   ns ← section nameLimit name
   ts ← section typeLimit type
   ps ← section predicateLimit predicate
@@ -295,8 +295,14 @@ file = do
         levels = ls;
       })
 
+-- Request [3]: "A file of length 0 now means ten empty sections".
+unfoldable pub file : Reader Tables
+file [] = got noTables []
+file (b ∷ bytes) = tenSections (b ∷ bytes)
+
 unfoldable pub openRead : Unit {0}
 unfolding follow _>>=_ pure refuse u8 u16 u32 optional many several kind section char name fieldTy alternative factTy recordTy unionTy type
     predicate anchor fieldPattern one two intNode bytesNode fuzzyNode recordNode node path rowSlot keySlot derivedSlot fieldSlot valueSlot
-    constSlot slot binding hoisted fetched constraint op comparison level end file
+    constSlot slot binding hoisted fetched constraint op comparison level end tenSections
+    file
 openRead = tt

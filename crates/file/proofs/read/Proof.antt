@@ -1,105 +1,51 @@
-use Rattle.file.proofs.Readers.{refused-next}
-use Rattle.file.proofs.Accepted.{indexed}
-use Rattle.file.specs.Tables.{Indexed}
 use denote.Ref.{now}
-use borrow.Author.Needs.{needs}
-use mathlib.Core.Path.{_≡_, refl, sym, _∙_, subst}
+use mathlib.Core.Path.{sym, _∙_, subst}
 use native.Mathlib.Omega.{arith}
-use Prim.Native.Nat.{_≤_, _-_}
-use lib.ListN.{length}
-use Rattle.rules.specs.Read as Read
-use Rattle.file.specs.Steps.{stepAt, sections, filled, indexOf}
-use Rattle.file.proofs.Sections.{section-within, sections-more, sections-fault, sections-over, sections-whole, filled-none, filled-more, filled-fault, file-sections}
+use Rattle.file.specs.Tables.{Indexed}
+use Rattle.file.proofs.Empty.{empty-reads, empty-indexes, other-reads, other-indexes}
+use Rattle.file.proofs.Accepted.{indexed}
+use borrow.Author.Needs.{needs}
 use Rattle.file.proofs.read.Statement.{statement}
 use Rattle.file.proofs.read.Tie as tie
 use Rattle.file.proofs.read.Reads as reads
 use Rattle.file.proofs.read.Lts as lts
-use Rattle.file.proofs.section.Reads as section-reads
+use Rattle.file.proofs.no_records.Reads as no-records-reads
+use Rattle.file.proofs.ten_sections.Reads as ten-sections-reads
 
-abbrev Inv-loop : tie.InvT-loop
-Inv-loop file index₀ p₀ s₀ index p s = (stepAt file Read.file 0 ≡ stepAt file (sections (10 - s) s) p) × (indexOf file index₀ ≡ filled file (10 - s) s p index) × (p ≤ length file) × (s ≤ 10) × (length index ≡ length index₀)
+no-records-requires : tie.Need-no-records-requires
+no-records-requires c κs = search needs
 
-abbrev μ-loop : tie.MeasureT-loop
-μ-loop file index₀ p₀ s₀ index p s = 10 - s
-
-loop-holds : tie.Need-loop-holds Inv-loop μ-loop
-unfolding indexOf
-loop-holds c = (file-sections _, refl, omega arith, omega arith, refl)
-
-section-requires : tie.Need-section-requires Inv-loop μ-loop
-section-requires c κs = search needs
-
-enum-known-q : tie.Need-enum-known-q Inv-loop μ-loop
-enum-known-q c = search needs
-
-add-s : tie.Need-add-s Inv-loop μ-loop
-add-s c = search needs
-
-loop-less : tie.Need-loop-less Inv-loop μ-loop
-loop-less c = search needs
-
-loop-again : tie.Need-loop-again Inv-loop μ-loop
-loop-again c =
-    let d = c .before .before .before .before .before in
-    let l = d .before .before .before in
-    let e = sym (d .section .ensures .0) ∙ c .before .q .given .1 in (
-      l .loop .inv .0 ∙ sections-more _ _ _ _ _ _ (omega arith) (omega arith) (omega arith) e,
-      l .loop .inv .1 ∙ filled-more _ _ _ _ _ _ _ _ (omega arith) e (d .section .ensures .1),
-      section-within _ _ (omega arith) _ _ (omega arith) e,
-      omega arith,
-      d .section .kept .1 .0 ∙ l .loop .inv .4,
-    )
-
-enum-known-x : tie.Need-enum-known-x Inv-loop μ-loop
-enum-known-x c = search needs
-
-same-length : tie.Need-same-length Inv-loop μ-loop
+same-length : tie.Need-same-length
 same-length c = search needs
 
-returns : tie.Need-returns Inv-loop μ-loop
+returns : tie.Need-returns
 returns c =
-    let d = c .before .before .before .before .before in
-    let l = d .before .before .before in
-    let e = sym (d .section .ensures .0) ∙ c .before .x .given .1 in (
-      sym (l .loop .inv .0 ∙ sections-fault _ _ _ _ _ (omega arith) e),
-      (sym (l .loop .inv .1 ∙ filled-fault _ _ _ _ _ _ (omega arith) e ∙ sym (d .section .ensures .1)), λ q g. absurd (refused-next g)),
-    )
+    let f = now (c .before .before .before .before .before .before .before .args .file) in
+    let e = empty-reads f (omega arith) in
+    let x = c .before .before .no-records .ensures ∙ empty-indexes f _ (omega arith) in
+    (e, (x, λ q g. subst (Indexed f) (sym x) (indexed f _ _ (search needs) (search needs) (sym e))))
 
-same-length-2 : tie.Need-same-length-2 Inv-loop μ-loop
+ten-sections-requires : tie.Need-ten-sections-requires
+ten-sections-requires c κs = search needs
+
+same-length-2 : tie.Need-same-length-2
 same-length-2 c = search needs
 
-returns-2 : tie.Need-returns-2 Inv-loop μ-loop
+returns-2 : tie.Need-returns-2
 returns-2 c =
-    let l = c .before .before in
-    (sym (l .loop .inv .0 ∙ sections-over _ _ _ _ (omega arith) (omega arith)), (sym (l .loop .inv .1 ∙ filled-none _ _ _ _ _ (omega arith)), λ q g. absurd (refused-next g)))
-
-same-length-3 : tie.Need-same-length-3 Inv-loop μ-loop
-same-length-3 c = search needs
-
-returns-3 : tie.Need-returns-3 Inv-loop μ-loop
-returns-3 c =
-    let l = c .before .before in
-    let a = l .before .before .before in
-    let e = l .loop .inv .0 ∙ sections-whole _ _ _ _ (omega arith) (omega arith) (omega arith) in
-    let x = sym (l .loop .inv .1 ∙ filled-none _ _ _ _ _ (omega arith)) in
-    (sym e, (x, λ q g. subst (Indexed (now (a .args .file))) (sym x) (indexed _ _ _ (search needs) (search needs) e)))
+    let f = now (c .before .before .before .before .before .before .before .args .file) in
+    let d = c .before .before .ten-sections .ensures in
+    let e = d .0 ∙ other-reads f (omega arith) in
+    let x = d .1 ∙ other-indexes f _ (omega arith) in
+    (e, (x, λ q g. subst (Indexed f) (sym x) (indexed f _ q (search needs) (search needs) (sym e ∙ g))))
 
 pub read-spec : {M : Type 1} → statement M
 read-spec =
     tie.close
     (tie.spec
-    Inv-loop
-    μ-loop
-    loop-holds
-    section-requires
-    enum-known-q
-    add-s
-    loop-less
-    loop-again
-    enum-known-x
+    no-records-requires
     same-length
     returns
+    ten-sections-requires
     same-length-2
-    returns-2
-    same-length-3
-    returns-3)
+    returns-2)
