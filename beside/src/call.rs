@@ -148,6 +148,33 @@ mod tests {
         });
     }
 
+    /// Files of 0 to 20 bytes, with plan buffers around the ten bytes of the
+    /// shortest plan and work areas around the shortest.
+    #[test]
+    fn short_files_beside_the_exported_function() {
+        if !HAS_BODIES {
+            return;
+        }
+        let mut rng = Rng::new(33, 0);
+        let mut accepted = 0;
+        for length in 0..=20 {
+            let random: Vec<u8> = (0..length).map(|_| rng.below(256) as u8).collect();
+            for file in [vec![0; length], random, write(&d1())[..length].to_vec()] {
+                for plan in [0, 9, 10, MAX_PLAN] {
+                    for work in [0, MIN_WORK - 1, MIN_WORK, MIN_WORK + 1] {
+                        let answer = oracle::compile(&file, plan, work);
+                        let lengths = Lengths { output: plan, work };
+                        let found = difference(sinalvento::call, &file, &answer, lengths, &mut rng);
+                        assert!(found.is_none(), "{file:02x?}\n{}", found.unwrap());
+                        accepted += usize::from(answer.is_ok());
+                    }
+                }
+            }
+        }
+        // The three files of no bytes and the ten counts of 0, each with two plan buffers and two work areas.
+        assert_eq!(accepted, 4 * 2 * 2);
+    }
+
     /// A compile of D1 that is right but for what `spoil` does.
     fn faults(answer: Answer, compile: Call) -> Vec<&'static str> {
         let found = difference(compile, &write(&d1()), &answer, ENOUGH, &mut Rng::new(1, 1));

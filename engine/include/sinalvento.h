@@ -76,7 +76,8 @@ enum sinalvento_refusal {
  * work area at `work`. Each pointer stands before its slice's length; a slice
  * of length 0 is not looked at. The plan buffer and the work area overlap
  * neither each other nor the file. What they hold before the call is of no
- * account.
+ * account. A file of length 0 means ten empty sections, as a new project has
+ * them; its plan is ten zero bytes.
  *
  * Returns refusal * 65,536 + plan length: refusal 0 on acceptance, length 0 on
  * refusal. Afterwards the work area is all zero, and so is the plan buffer past

@@ -109,7 +109,8 @@ pub const MAX_PLAN: usize = 16_384;
 /// The fewest bytes that a work area may have.
 pub const MIN_WORK: usize = 65_536;
 
-/// The plan of a rule file, in the buffer that holds it.
+/// The plan of a rule file, in the buffer that holds it. A file of no bytes is
+/// ten empty sections, and its plan ten zero bytes.
 ///
 /// Afterwards the work area is all zero, and so is the plan buffer past the
 /// plan, or whole after a refusal.

@@ -106,6 +106,21 @@ fn lent_memory_is_looked_at_in_order() {
     assert_eq!(outcome, Err(Refusal::WorkTooShort));
 }
 
+/// Ten empty sections, as ten counts of 0 are; a single byte is cut short.
+#[test]
+fn a_file_of_no_bytes() {
+    let mut buffers = Buffers::new();
+    let mut short = [0; 9];
+    for file in [&[][..], &[0; 20]] {
+        assert_eq!(compile(file, &mut buffers), Ok(&[0; 10][..]));
+        let outcome = compile_into(file, &mut short, &mut [0; MIN_WORK]);
+        assert_eq!(outcome, Err(Refusal::PlanTooLong));
+    }
+    for byte in 0..=255 {
+        assert_eq!(compile(&[byte], &mut buffers), Err(Refusal::Ends));
+    }
+}
+
 #[test]
 fn a_plan_buffer_that_is_too_short() {
     let length = files::d1_plan().len();

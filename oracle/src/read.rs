@@ -13,7 +13,11 @@ struct Reader<'a> {
     at: usize,
 }
 
+/// A file of no bytes is ten empty sections.
 pub fn read(bytes: &[u8]) -> Result<RuleFile, u8> {
+    if bytes.is_empty() {
+        return Ok(RuleFile::default());
+    }
     let mut reader = Reader { bytes, at: 0 };
     let file = RuleFile {
         names: reader.section(0, Reader::name)?,

@@ -56,7 +56,8 @@ mod with_bodies {
     fn plan_prints_one_line() {
         let empty = [0; 20];
         assert_eq!(text(&oracle(&["plan"], &empty)), "00000000000000000000\n");
-        assert_eq!(text(&oracle(&["plan"], &[])), "refused 3\n");
+        assert_eq!(text(&oracle(&["plan"], &[])), "00000000000000000000\n");
+        assert_eq!(text(&oracle(&["plan"], &[0])), "refused 3\n");
         assert_eq!(text(&oracle(&["plan"], &[0; 32_769])), "refused 1\n");
     }
 

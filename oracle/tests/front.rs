@@ -1,6 +1,6 @@
 //! Reading, the checks and the list's form: what needs no bodies.
 
-use oracle::file::{MAX_FILE, MIN_WORK};
+use oracle::file::{MAX_FILE, MIN_WORK, RuleFile};
 use oracle::read::read;
 use oracle::write::write;
 use oracle::{draw, fixed, front};
@@ -63,28 +63,43 @@ fn lent_memory_comes_first() {
     assert_eq!(front(&long, 0).map(|_| ()), Err(1));
     assert_eq!(front(&long[1..], MIN_WORK - 1).map(|_| ()), Err(2));
     assert_eq!(front(&long[1..], MIN_WORK).map(|_| ()), Err(4));
-    assert_eq!(front(&[], MIN_WORK).map(|_| ()), Err(3));
+    assert_eq!(front(&[], MIN_WORK - 1).map(|_| ()), Err(2));
 }
 
+/// But for the file of no bytes, which is written as ten counts of 0.
 #[test]
 fn what_is_read_is_written_again() {
     let mut whole = 0;
-    for file in draw::files(11, 4_000) {
+    for file in draw::files(11, 4_000).filter(|file| !file.is_empty()) {
         if let Ok(tables) = read(&file) {
             assert_eq!(write(&tables), file);
             whole += 1;
         }
     }
     assert!(whole > 3_000);
+    assert_eq!(read(&[]).map(|tables| write(&tables)), Ok(vec![0; 20]));
+}
+
+#[test]
+fn only_no_bytes_and_ten_counts_are_ten_empty_sections() {
+    for length in 0..=21 {
+        let expected = match length {
+            0 | 20 => Ok(RuleFile::default()),
+            21 => Err(7),
+            _ => Err(3),
+        };
+        assert_eq!(read(&vec![0; length]), expected, "{length}");
+    }
 }
 
 #[test]
 fn every_truncation_of_an_accepted_file_is_refused_by_3() {
     let accepted = draw::files(12, 400).filter(|file| front(file, MIN_WORK).is_ok());
     for file in accepted.filter(|file| file.len() < 300) {
-        for length in 0..file.len() {
+        for length in 1..file.len() {
             assert_eq!(front(&file[..length], MIN_WORK).map(|_| ()), Err(3));
         }
+        assert!(front(&[], MIN_WORK).is_ok());
     }
 }
 

@@ -1,7 +1,8 @@
 //! A rule file as data: the ten sections, in their order.
 //!
 //! [`RuleFile::read`] gives a file's sections or the place of the first fault;
-//! [`RuleFile::write`] gives the bytes back, whatever the numbers in it say.
+//! [`RuleFile::write`] gives the bytes back, whatever the numbers in it say. A
+//! file of no bytes is ten empty sections, which are written as ten counts of 0.
 
 mod read;
 mod section;
@@ -247,7 +248,8 @@ pub struct Level {
 }
 
 impl RuleFile {
-    /// Reads a file, front to back; the fault is the first one met.
+    /// Reads a file, front to back; the fault is the first one met. A file of no
+    /// bytes has no fault, and no records.
     ///
     /// A file that reads may still be refused: its numbers are not looked at.
     pub fn read(file: &[u8]) -> Result<Self, Fault> {

@@ -30,10 +30,16 @@ impl Located {
     }
 }
 
-/// Reads a file; 1 is told first.
+/// Reads a file; 1 is told first. One of no bytes is ten empty sections.
 pub(crate) fn located(file: &[u8]) -> Result<Located, Fault> {
     if file.len() > MAX_FILE {
         return Err(too_long(file.len()));
+    }
+    if file.is_empty() {
+        return Ok(Located {
+            rules: RuleFile::default(),
+            items: vec![],
+        });
     }
     let mut reader = Reader {
         file,

@@ -53,7 +53,7 @@ pub fn refused() -> Vec<(u8, Vec<u8>)> {
     let steps = format!("0100 0000 0000 10 {} 0000", "00000000".repeat(16));
     vec![
         (1, vec![0; sinalvento::MAX_FILE + 1]),
-        (3, vec![]),
+        (3, vec![0]),
         (4, unhex("0102")),
         (5, unhex("0000 0100 06")),
         (6, unhex("0100 01 80")),
