@@ -6,7 +6,7 @@ use native.Mathlib.Omega.{arith}
 use lib.ListN.{length}
 use Rattle.rules.specs.Constant.{escape, encodePrefix}
 use Rattle.views.specs.Views.{run, byteAt, SeenText}
-use Rattle.views.specs.declared.Text.{Text}
+use Rattle.views.specs.declared.TextView.{TextView}
 use Rattle.constant.specs.Sizes.{cap, wrapped}
 use Rattle.constant.specs.declared.Const.the-variants as Co
 use Rattle.constant.specs.declared.Size.{Size}
@@ -16,6 +16,6 @@ pub wrap-is : (n t k l r : ℕ) (s : Size) → s ≡ Si.Just l → r ≡ min cap
 wrap-is n t k l r s e q = ap (λ (j : ℕ). Co.Bytes n t j) q ∙ sym (ap (wrapped n t k) e)
 
 -- a name's prefix bytes
-pub prefix-length : (f x : List ℕ) (v : Text) (l : ℕ) → SeenText f x v → l ≡ length (escape (run (byteAt f) 1 (v .len) (v .at))) → 1 + l ≡ length (encodePrefix x)
+pub prefix-length : (f x : List ℕ) (v : TextView) (l : ℕ) → SeenText f x v → l ≡ length (escape (run (byteAt f) 1 (v .len) (v .at))) → 1 + l ≡ length (encodePrefix x)
 unfolding encodePrefix
 prefix-length f x v l s e = let q : l ≡ length (escape x) = e ∙ ap (λ (y : List ℕ). length (escape y)) (s .is) in omega arith

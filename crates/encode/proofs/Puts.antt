@@ -8,7 +8,7 @@ use native.Mathlib.Omega.{arith}
 use lib.ListN.{length, getD, set, length-append, length-set}
 use Rattle.rules.specs.Constant.{escape, flipSign, encodeInt, encodePrefix, encodeStr, encodeBytes}
 use Rattle.views.specs.Views.{run, byteAt, SeenText}
-use Rattle.views.specs.declared.Text.{Text}
+use Rattle.views.specs.declared.TextView.{TextView}
 use Rattle.views.proofs.Runs.{length-run}
 use Rattle.records.specs.Records.{put}
 use Rattle.records.proofs.Stores.{put-none, put-byte, put-append, next}
@@ -180,7 +180,7 @@ wrote-int f from at high end w w1 w2 w3 e1 eh e2 a =
     (ap (λ (x : ℕ). 2 ∷ x ∷ down (byteAt f) 7 from) eh ∙ int-is f from)
 
 -- 03 and the text; with 00; and 04, bytes and 00
-pub wrote-prefix : (f x : List ℕ) (v : Text) (at end : ℕ) (w w1 w2 : List ℕ) → SeenText f x v → w1 ≡ put w at (3 ∷ []) → Wrote (escape (run (byteAt f) 1 (v .len) (v .at))) (at + 1) w1 end w2 → Wrote (encodePrefix x) at w end w2
+pub wrote-prefix : (f x : List ℕ) (v : TextView) (at end : ℕ) (w w1 w2 : List ℕ) → SeenText f x v → w1 ≡ put w at (3 ∷ []) → Wrote (escape (run (byteAt f) 1 (v .len) (v .at))) (at + 1) w1 end w2 → Wrote (encodePrefix x) at w end w2
 unfolding encodePrefix
 wrote-prefix f x v at end w w1 w2 s e a =
     wrote-as ((3 ∷ []) ++ escape (run (byteAt f) 1 (v .len) (v .at))) (encodePrefix x) at end w w2 (wrote-then (wrote-one 3 at (at + 1) w w1 refl e) a)

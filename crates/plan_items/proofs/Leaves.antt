@@ -21,7 +21,7 @@ use Rattle.file.proofs.Sections.{word-then}
 use Rattle.paths.specs.Paths.{pathOf, Holds}
 use Rattle.paths.specs.declared.FieldPath.{FieldPath}
 use Rattle.views.specs.Views.{run, long, byteAt, pathAt, pastPath, textOf, anchorAt, anchorOf, PathInside}
-use Rattle.views.specs.declared.Text.{Text}
+use Rattle.views.specs.declared.TextView.{TextView}
 use Rattle.views.specs.declared.Anchor.{Anchor}
 use Rattle.views.proofs.Runs.{length-run, needs-room, long-in, one-in, finds-byte, finds-long, many-run}
 use Rattle.plan_form.specs.Places.{Found}
@@ -166,7 +166,7 @@ module _ (f : List ℕ) (p : ℕ) (x : Found f Reader.part p) where
   unfolding Reader.part Reader.bytesPart
   part-text e = found-first f Reader.text _ (p + 1) (kind-then f partReaders p x 0 e)
 
-  pub part-bytes : (t : Text) → getD f p 0 ≡ 0 → readAt f Reader.text (p + 1) ≡ got (textOf f t) (drop (t .at + t .len) f) → readAt f Reader.part p ≡ got (SeekKeyPart.Bytes (textOf f t)) (drop (t .at + t .len) f)
+  pub part-bytes : (t : TextView) → getD f p 0 ≡ 0 → readAt f Reader.text (p + 1) ≡ got (textOf f t) (drop (t .at + t .len) f) → readAt f Reader.part p ≡ got (SeekKeyPart.Bytes (textOf f t)) (drop (t .at + t .len) f)
   unfolding Reader.part Reader.bytesPart readAt pure
   part-bytes t e g = kind-reads f partReaders p x 0 e _ (t .at + t .len) (then-got f Reader.text _ (p + 1) (textOf f t) (t .at + t .len) g)
 
@@ -215,11 +215,11 @@ module _ (f : List ℕ) (p : ℕ) (x : Found f Reader.edge p) where
   unfolding Reader.edge Reader.edgeThat
   inclusive-text e = found-first f Reader.text _ (p + 1) (kind-then f edgeReaders p x 2 e)
 
-  pub edge-exclusive : (t : Text) → getD f p 0 ≡ 1 → readAt f Reader.text (p + 1) ≡ got (textOf f t) (drop (t .at + t .len) f) → readAt f Reader.edge p ≡ got (some (record { value = textOf f t; inclusive = false })) (drop (t .at + t .len) f)
+  pub edge-exclusive : (t : TextView) → getD f p 0 ≡ 1 → readAt f Reader.text (p + 1) ≡ got (textOf f t) (drop (t .at + t .len) f) → readAt f Reader.edge p ≡ got (some (record { value = textOf f t; inclusive = false })) (drop (t .at + t .len) f)
   unfolding Reader.edge Reader.edgeThat readAt pure
   edge-exclusive t e g = kind-reads f edgeReaders p x 1 e _ (t .at + t .len) (then-got f Reader.text _ (p + 1) (textOf f t) (t .at + t .len) g)
 
-  pub edge-inclusive : (t : Text) → getD f p 0 ≡ 2 → readAt f Reader.text (p + 1) ≡ got (textOf f t) (drop (t .at + t .len) f) → readAt f Reader.edge p ≡ got (some (record { value = textOf f t; inclusive = true })) (drop (t .at + t .len) f)
+  pub edge-inclusive : (t : TextView) → getD f p 0 ≡ 2 → readAt f Reader.text (p + 1) ≡ got (textOf f t) (drop (t .at + t .len) f) → readAt f Reader.edge p ≡ got (some (record { value = textOf f t; inclusive = true })) (drop (t .at + t .len) f)
   unfolding Reader.edge Reader.edgeThat readAt pure
   edge-inclusive t e g = kind-reads f edgeReaders p x 2 e _ (t .at + t .len) (then-got f Reader.text _ (p + 1) (textOf f t) (t .at + t .len) g)
 
@@ -285,11 +285,11 @@ module _ (f : List ℕ) (p : ℕ) (x : Found f Reader.op p) where
   unfolding Reader.op Reader.prefixOp
   prefix-text e = found-first f Reader.text _ (p + 1) (kind-then f opReaders p x 1 e)
 
-  pub op-bytes : (t : Text) → getD f p 0 ≡ 0 → readAt f Reader.text (p + 1) ≡ got (textOf f t) (drop (t .at + t .len) f) → readAt f Reader.op p ≡ got (Narrowing.Bytes (textOf f t)) (drop (t .at + t .len) f)
+  pub op-bytes : (t : TextView) → getD f p 0 ≡ 0 → readAt f Reader.text (p + 1) ≡ got (textOf f t) (drop (t .at + t .len) f) → readAt f Reader.op p ≡ got (Narrowing.Bytes (textOf f t)) (drop (t .at + t .len) f)
   unfolding Reader.op Reader.bytesOp readAt pure
   op-bytes t e g = kind-reads f opReaders p x 0 e _ (t .at + t .len) (then-got f Reader.text _ (p + 1) (textOf f t) (t .at + t .len) g)
 
-  pub op-prefix : (t : Text) → getD f p 0 ≡ 1 → readAt f Reader.text (p + 1) ≡ got (textOf f t) (drop (t .at + t .len) f) → readAt f Reader.op p ≡ got (Narrowing.Prefix (textOf f t)) (drop (t .at + t .len) f)
+  pub op-prefix : (t : TextView) → getD f p 0 ≡ 1 → readAt f Reader.text (p + 1) ≡ got (textOf f t) (drop (t .at + t .len) f) → readAt f Reader.op p ≡ got (Narrowing.Prefix (textOf f t)) (drop (t .at + t .len) f)
   unfolding Reader.op Reader.prefixOp readAt pure
   op-prefix t e g = kind-reads f opReaders p x 1 e _ (t .at + t .len) (then-got f Reader.text _ (p + 1) (textOf f t) (t .at + t .len) g)
 

@@ -14,7 +14,7 @@ use Rattle.file.specs.Steps.{word, readAt}
 use Rattle.file.proofs.Readers.{then-got, fixed-many, fixed-u16}
 use Rattle.file.proofs.Sections.{word-in, word-then}
 use Rattle.views.specs.Views.{pathAt, textOf}
-use Rattle.views.specs.declared.Text.{Text}
+use Rattle.views.specs.declared.TextView.{TextView}
 use Rattle.views.proofs.Runs.{Finds, many-run}
 use Rattle.plan_form.specs.Places.{Found}
 use Rattle.plan_items.specs.Items.{itemsAt}
@@ -26,7 +26,7 @@ module _ (f : List ℕ) (p : ℕ) (x : Found f Reader.prefixSeek p) where
   unfolding Reader.prefixSeek
   prefix-text = found-first f Reader.text _ p x
 
-  pub prefix-reads : (t : Text) → readAt f Reader.text p ≡ got (textOf f t) (drop (t .at + t .len) f) → readAt f Reader.prefixSeek p ≡ got (SeekKey.Prefix (textOf f t)) (drop (t .at + t .len) f)
+  pub prefix-reads : (t : TextView) → readAt f Reader.text p ≡ got (textOf f t) (drop (t .at + t .len) f) → readAt f Reader.prefixSeek p ≡ got (SeekKey.Prefix (textOf f t)) (drop (t .at + t .len) f)
   unfolding Reader.prefixSeek readAt pure
   prefix-reads t g = then-got f Reader.text _ p (textOf f t) (t .at + t .len) g
 

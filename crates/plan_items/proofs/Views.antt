@@ -13,7 +13,7 @@ use Rattle.views.specs.Views.{byteAt, long, pastPath, anchorAt, predicateMaybe,
 use Rattle.views.specs.declared.Anchor.{Anchor}
 use Rattle.views.specs.declared.MaybePredicate.{MaybePredicate}
 use Rattle.views.specs.declared.SlotView.the-variants as Sv
-use Rattle.views.specs.declared.Text.{Text}
+use Rattle.views.specs.declared.TextView.{TextView}
 use Rattle.plan_form.specs.Pieces.{itemOf}
 use Rattle.plan_form.proofs.Lists.{alike-binding, alike-select, alike-counted}
 use Rattle.plan_items.specs.Items.{listView, pastOf}
@@ -43,14 +43,14 @@ use Rattle.plan_items.specs.declared.DiagnosticView.{DiagnosticView}
 use Rattle.plan_items.specs.declared.PlanView.{PlanView}
 
 -- a text, and an item that ends with it
-pub text-view : (f : List ℕ) (p n : ℕ) → n ≡ word f p → _≡_ {A = Text} (record { at = p + 2; len = n }) (textView f p)
+pub text-view : (f : List ℕ) (p n : ℕ) → n ≡ word f p → _≡_ {A = TextView} (record { at = p + 2; len = n }) (textView f p)
 unfolding textView
-text-view f p n e = ap {B = Text} (λ (j : ℕ). record { at = p + 2; len = j }) e
+text-view f p n e = ap {B = TextView} (λ (j : ℕ). record { at = p + 2; len = j }) e
 
-text-item : {A : Type 0} (f : List ℕ) (q : ℕ) (make : Text → ℕ → A) (t : Text) → t ≡ textView f q
+text-item : {A : Type 0} (f : List ℕ) (q : ℕ) (make : TextView → ℕ → A) (t : TextView) → t ≡ textView f q
     → make t (t .at + t .len) ≡ make (textView f q) (pastText f q)
 unfolding textView
-text-item f q make t h = ap (λ (u : Text). make u (u .at + u .len)) h
+text-item f q make t h = ap (λ (u : TextView). make u (u .at + u .len)) h
 
 -- the item of kind n
 chosen : {A : Type 0} (f : List ℕ) (p n : ℕ) → getD f p 0 ≡ n → (xs : List A) (d : A) → getD xs n d ≡ getD xs (byteAt f p) d
@@ -59,11 +59,11 @@ chosen f p n e xs d = ap (λ (k : ℕ). getD xs k d) (sym e)
 
 module _ (f : List ℕ) (p : ℕ) where
   -- a part
-  pub part-bytes-view : (t : Text) → getD f p 0 ≡ 0 → t ≡ textView f (p + 1)
+  pub part-bytes-view : (t : TextView) → getD f p 0 ≡ 0 → t ≡ textView f (p + 1)
       → _≡_ {A = PartItem} (record { part = Pv.Bytes t; end = t .at + t .len }) (partItem f p)
   unfolding partItem
   part-bytes-view t e h =
-      text-item {A = PartItem} f (p + 1) (λ (u : Text) (o : ℕ). record { part = Pv.Bytes u; end = o }) t h
+      text-item {A = PartItem} f (p + 1) (λ (u : TextView) (o : ℕ). record { part = Pv.Bytes u; end = o }) t h
       ∙ chosen f p 0 e (partItems f (p + 1)) noPart
 
   pub part-register-view : (a o : ℕ) → getD f p 0 ≡ 1 → a ≡ word f (p + 1) → o ≡ pastPath f (p + 1 + 2)
@@ -81,18 +81,18 @@ module _ (f : List ℕ) (p : ℕ) where
   unfolding edgeItem
   edge-none-view e = chosen f p 0 e (edgeItems f (p + 1)) noEdge
 
-  pub exclusive-view : (t : Text) → getD f p 0 ≡ 1 → t ≡ textView f (p + 1)
+  pub exclusive-view : (t : TextView) → getD f p 0 ≡ 1 → t ≡ textView f (p + 1)
       → _≡_ {A = EdgeItem} (record { edge = Ev.Exclusive t; end = t .at + t .len }) (edgeItem f p)
   unfolding edgeItem
   exclusive-view t e h =
-      text-item {A = EdgeItem} f (p + 1) (λ (u : Text) (o : ℕ). record { edge = Ev.Exclusive u; end = o }) t h
+      text-item {A = EdgeItem} f (p + 1) (λ (u : TextView) (o : ℕ). record { edge = Ev.Exclusive u; end = o }) t h
       ∙ chosen f p 1 e (edgeItems f (p + 1)) noEdge
 
-  pub inclusive-view : (t : Text) → getD f p 0 ≡ 2 → t ≡ textView f (p + 1)
+  pub inclusive-view : (t : TextView) → getD f p 0 ≡ 2 → t ≡ textView f (p + 1)
       → _≡_ {A = EdgeItem} (record { edge = Ev.Inclusive t; end = t .at + t .len }) (edgeItem f p)
   unfolding edgeItem
   inclusive-view t e h =
-      text-item {A = EdgeItem} f (p + 1) (λ (u : Text) (o : ℕ). record { edge = Ev.Inclusive u; end = o }) t h
+      text-item {A = EdgeItem} f (p + 1) (λ (u : TextView) (o : ℕ). record { edge = Ev.Inclusive u; end = o }) t h
       ∙ chosen f p 2 e (edgeItems f (p + 1)) noEdge
 
   -- a guide
@@ -107,18 +107,18 @@ module _ (f : List ℕ) (p : ℕ) where
   guide-some-view q n d a e g u v w = rw (u, v, w) (ap (guideThat f (p + 1)) g ∙ chosen f p 1 e (guideItems f (p + 1)) noGuide)
 
   -- an op
-  pub op-bytes-view : (t : Text) → getD f p 0 ≡ 0 → t ≡ textView f (p + 1)
+  pub op-bytes-view : (t : TextView) → getD f p 0 ≡ 0 → t ≡ textView f (p + 1)
       → _≡_ {A = NarrowingItem} (record { narrowing = Nv.Bytes t; end = t .at + t .len }) (narrowingItem f p)
   unfolding narrowingItem
   op-bytes-view t e h =
-      text-item {A = NarrowingItem} f (p + 1) (λ (u : Text) (o : ℕ). record { narrowing = Nv.Bytes u; end = o }) t h
+      text-item {A = NarrowingItem} f (p + 1) (λ (u : TextView) (o : ℕ). record { narrowing = Nv.Bytes u; end = o }) t h
       ∙ chosen f p 0 e (narrowingItems f (p + 1)) noNarrowing
 
-  pub op-prefix-view : (t : Text) → getD f p 0 ≡ 1 → t ≡ textView f (p + 1)
+  pub op-prefix-view : (t : TextView) → getD f p 0 ≡ 1 → t ≡ textView f (p + 1)
       → _≡_ {A = NarrowingItem} (record { narrowing = Nv.Prefix t; end = t .at + t .len }) (narrowingItem f p)
   unfolding narrowingItem
   op-prefix-view t e h =
-      text-item {A = NarrowingItem} f (p + 1) (λ (u : Text) (o : ℕ). record { narrowing = Nv.Prefix u; end = o }) t h
+      text-item {A = NarrowingItem} f (p + 1) (λ (u : TextView) (o : ℕ). record { narrowing = Nv.Prefix u; end = o }) t h
       ∙ chosen f p 1 e (narrowingItems f (p + 1)) noNarrowing
 
   pub op-register-view : (a o : ℕ) → getD f p 0 ≡ 2 → a ≡ word f (p + 1) → o ≡ pastPath f (p + 1 + 2)
@@ -180,18 +180,18 @@ module _ (f : List ℕ) (m q : ℕ) where
   residuals-none h = pasts-none (λ (o : ℕ). residualView f o .end) m q h
 
 -- a seek
-pub prefix-view : (f : List ℕ) (p : ℕ) (t : Text) → t ≡ textView f p
+pub prefix-view : (f : List ℕ) (p : ℕ) (t : TextView) → t ≡ textView f p
     → _≡_ {A = SeekItem} (record { seek = Kv.Prefix t; end = t .at + t .len }) (prefixItem f p)
 unfolding prefixItem
-prefix-view f p t h = text-item {A = SeekItem} f p (λ (u : Text) (o : ℕ). record { seek = Kv.Prefix u; end = o }) t h
+prefix-view f p t h = text-item {A = SeekItem} f p (λ (u : TextView) (o : ℕ). record { seek = Kv.Prefix u; end = o }) t h
 
 module _ (f : List ℕ) (n p q : ℕ) (g : q ≡ partsPast f n p) where
-  pub range-view : (t : Text) (e : ℕ) → t ≡ textView f q → e ≡ pastPath f (t .at + t .len)
+  pub range-view : (t : TextView) (e : ℕ) → t ≡ textView f q → e ≡ pastPath f (t .at + t .len)
       → _≡_ {A = SeekItem} (record { seek = Kv.PrefixRange p t (t .at + t .len); end = e }) (rangeItem f n p)
   unfolding rangeItem textView
   range-view t e h k =
       ap {B = SeekItem} (λ (j : ℕ). record { seek = Kv.PrefixRange p t (t .at + t .len); end = j }) k
-      ∙ ap {B = SeekItem} (λ (u : Text). record { seek = Kv.PrefixRange p u (u .at + u .len); end = pastPath f (u .at + u .len) })
+      ∙ ap {B = SeekItem} (λ (u : TextView). record { seek = Kv.PrefixRange p u (u .at + u .len); end = pastPath f (u .at + u .len) })
       (h ∙ ap (textView f) g)
 
   abbrev fromLow : EdgeItem → SeekItem

@@ -17,7 +17,7 @@ use Rattle.file.specs.declared.Step.the-variants.{Next, Refused}
 use Rattle.views.specs.Views.{pathAt, textOf, anchorOf, slotViewed}
 use Rattle.views.specs.declared.SlotView.{SlotView}
 use Rattle.views.specs.declared.SlotView.the-variants as Sv
-use Rattle.views.specs.declared.Text.{Text}
+use Rattle.views.specs.declared.TextView.{TextView}
 use Rattle.plan_form.specs.Places.{Found}
 use Rattle.plan_items.specs.declared.PartView.{PartView}
 use Rattle.plan_items.specs.declared.PartView.the-variants as Pv
@@ -132,7 +132,7 @@ planViewed f v =
     }
 
 -- What an item by value points at stands in the plan.
-abbrev pub TextInside : List ℕ → Text → Type 0
+abbrev pub TextInside : List ℕ → TextView → Type 0
 TextInside f text = text .at + text .len ≤ length f
 
 abbrev pub PartInside : List ℕ → PartView → Type 0

@@ -9,7 +9,7 @@ use Rattle.file.specs.Steps.{word, stepAt}
 use Rattle.paths.specs.declared.Address.{Address}
 use Rattle.views.specs.Views.{byteAt, long, pastPath, anchorAt, slotView}
 use Rattle.views.specs.declared.SlotView.the-variants as Sv
-use Rattle.views.specs.declared.Text.{Text}
+use Rattle.views.specs.declared.TextView.{TextView}
 use Rattle.plan_items.specs.Items.{listView, pastOf}
 use Rattle.plan_items.specs.declared.PartView.the-variants as Pv
 use Rattle.plan_items.specs.declared.PartItem.{PartItem}
@@ -31,7 +31,7 @@ use Rattle.plan_items.specs.declared.DiagnosticView.{DiagnosticView}
 use Rattle.plan_items.specs.declared.PlanView.{PlanView}
 
 -- a text: two bytes with its length, then its bytes; and where it ends
-unfoldable pub textView : List ℕ → ℕ → Text
+unfoldable pub textView : List ℕ → ℕ → TextView
 textView f p = record { at = p + 2; len = word f p }
 
 abbrev pub pastText : List ℕ → ℕ → ℕ

@@ -32,7 +32,7 @@ use plan_form::list_end;
 use plan_form::words_end;
 use views::Anchor;
 use views::SlotView;
-use views::Text;
+use views::TextView;
 use views::anchor_of;
 use views::half_at;
 use views::long_at;
@@ -41,7 +41,7 @@ use views::past_path;
 
 // A part of a seek. RegisterField has the position of its path.
 pub enum PartView {
-    Bytes(Text),
+    Bytes(TextView),
     RegisterField(Address, usize),
     RegisterFactId(Address),
 }
@@ -55,8 +55,8 @@ pub struct PartItem {
 // An edge of a Bounded seek.
 pub enum EdgeView {
     Nothing,
-    Exclusive(Text),
-    Inclusive(Text),
+    Exclusive(TextView),
+    Inclusive(TextView),
 }
 
 // An edge, and where it ends.
@@ -79,8 +79,8 @@ pub struct GuideItem {
 
 // What a residual asks of the bytes at its path; RegisterField has the position of the register's path.
 pub enum NarrowingView {
-    Bytes(Text),
-    Prefix(Text),
+    Bytes(TextView),
+    Prefix(TextView),
     RegisterField(Address, usize),
     FactId(Address),
     Tag(u32),
@@ -102,9 +102,9 @@ pub struct ResidualView {
 
 // A level's seek. All but Prefix have the position of the first part; a PrefixRange has its text and the position of its path.
 pub enum SeekView {
-    Prefix(Text),
+    Prefix(TextView),
     Composite(usize),
-    PrefixRange(usize, Text, usize),
+    PrefixRange(usize, TextView, usize),
     Bounded(usize, EdgeView, EdgeView),
 }
 
@@ -171,7 +171,7 @@ pub struct PlanView {
 }
 
 // The text at p: a count, then as many bytes.
-pub fn text_at(plan: &[u8], p: usize) -> Text
+pub fn text_at(plan: &[u8], p: usize) -> TextView
     requires { ⌜ Found (now plan) Reader.text p ⌝ }
     ensures reads { λ r. ⌜ (
         let bytes = now (plan .entry) in
@@ -180,7 +180,7 @@ pub fn text_at(plan: &[u8], p: usize) -> Text
     ensures inside { λ r. ⌜ TextInside (now (plan .entry)) r ⌝ }
     ensures view { λ r. ⌜ r ≡ textView (now (plan .entry)) p ⌝ }
 {
-    Text {
+    TextView {
         at: p + 2,
         len: word_at(plan, p),
     }

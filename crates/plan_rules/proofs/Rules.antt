@@ -20,7 +20,7 @@ use Rattle.rules.specs.Reader as Reader
 use Rattle.rules.specs.Reader.{closersAmongParts, narrowingsSum, edgesFolded, seekKeeps, levelRules}
 use Rattle.file.specs.Steps.{word, readAt}
 use Rattle.views.specs.Views.{pathAt, textOf}
-use Rattle.views.specs.declared.Text.{Text}
+use Rattle.views.specs.declared.TextView.{TextView}
 use Rattle.views.proofs.Runs.{value-of}
 use Rattle.plan_form.specs.Places.{planOf, Opened, Found}
 use Rattle.views.specs.declared.Anchor.{Anchor}
@@ -140,7 +140,7 @@ module _ (f : List ℕ) (v : LevelView) (x : LevelInside f v) where
   abbrev Kept : SeekView → Bool
   Kept s = seekKeeps (seekOf f (v .parts) s) (guideOf f (v .guide))
 
-  pub prefix-keeps : (t : Text) → v .seek ≡ Kv.Prefix t → true ≡ Kept (v .seek)
+  pub prefix-keeps : (t : TextView) → v .seek ≡ Kv.Prefix t → true ≡ Kept (v .seek)
   unfolding seekKeeps
   prefix-keeps t e = ap Kept (sym e)
 
@@ -150,13 +150,13 @@ module _ (f : List ℕ) (v : LevelView) (x : LevelInside f v) where
   pub composite-keeps : (parts : ℕ) (r : Bool) → v .seek ≡ Kv.Composite parts → ((g : Option Guide) → r ≡ seekKeeps (SeekKey.Composite (itemsAt f Reader.part (v .parts) parts)) g) → r ≡ Kept (v .seek)
   composite-keeps parts r e k = k (guideOf f (v .guide)) ∙ ap Kept (sym e)
 
-  range-inside : (parts : ℕ) (t : Text) (path : ℕ) → v .seek ≡ Kv.PrefixRange parts t path → SeekInside f (v .parts) (Kv.PrefixRange parts t path)
+  range-inside : (parts : ℕ) (t : TextView) (path : ℕ) → v .seek ≡ Kv.PrefixRange parts t path → SeekInside f (v .parts) (Kv.PrefixRange parts t path)
   range-inside parts t path e = subst (SeekInside f (v .parts)) e (x .seek)
 
-  pub range-path : (parts : ℕ) (t : Text) (path : ℕ) → v .seek ≡ Kv.PrefixRange parts t path → Found f Reader.path path
+  pub range-path : (parts : ℕ) (t : TextView) (path : ℕ) → v .seek ≡ Kv.PrefixRange parts t path → Found f Reader.path path
   range-path parts t path e = range-inside parts t path e .2
 
-  pub range-keeps : (parts : ℕ) (t : Text) (path : ℕ) (r : Bool) → v .seek ≡ Kv.PrefixRange parts t path
+  pub range-keeps : (parts : ℕ) (t : TextView) (path : ℕ) (r : Bool) → v .seek ≡ Kv.PrefixRange parts t path
       → ((ps : List SeekKeyPart) (prefix : List ℕ) → r ≡ seekKeeps (SeekKey.PrefixRange ps (record { path = pathAt f path; prefix = prefix })) (guideOf f (v .guide))) → r ≡ Kept (v .seek)
   range-keeps parts t path r e k = k (itemsAt f Reader.part (v .parts) parts) (textOf f t) ∙ ap Kept (sym e)
 

@@ -19,7 +19,7 @@ use Rattle.file.proofs.Readers.{lt-or-le, refused-got, bind-inv, then-got, then
 use Rattle.file.proofs.Leaves.{char-cut, char-bad, char-good, typeReaders, fixed-fieldTy, fixed-alternative, fixed-predicate, fixed-hoisted, fixed-constraint, fixed-level}
 use Rattle.file.proofs.Sections.{word-then}
 use Rattle.views.specs.Views.{sizeOf, startAt, run, byteAt, orNone, opKind, textView, typeViews, typeView, predicateMaybe, predicateOption, SeenType, SeenText, hoistedAt, constraintAt, comparisonAt, levelEntryAt}
-use Rattle.views.specs.declared.Text.{Text}
+use Rattle.views.specs.declared.TextView.{TextView}
 use Rattle.views.specs.declared.TypeView.{TypeView}
 use Rattle.views.specs.declared.TypeView.the-variants as Tv
 use Rattle.views.specs.declared.MaybePredicate.{MaybePredicate}
@@ -262,6 +262,6 @@ predicate-option n = by (eqb n 65535)
     by false = refl
 
 -- the view of a name
-pub text-shown : (f : List ℕ) (p q n : ℕ) → p ≡ q → n ≡ getD f p 0 → _≡_ {A = Text} (record { at = p + 1; len = n }) (textView f q)
+pub text-shown : (f : List ℕ) (p q n : ℕ) → p ≡ q → n ≡ getD f p 0 → _≡_ {A = TextView} (record { at = p + 1; len = n }) (textView f q)
 unfolding textView byteAt
 text-shown f p q n e k = ap (λ (j : ℕ). record { at = p + 1; len = j }) k ∙ ap (textView f) e

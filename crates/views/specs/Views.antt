@@ -28,7 +28,7 @@ use Rattle.views.specs.declared.FieldTy.{FieldTy}
 use Rattle.views.specs.declared.Alternative.{Alternative}
 use Rattle.views.specs.declared.FieldPattern.{FieldPattern}
 use Rattle.views.specs.declared.Predicate.{Predicate}
-use Rattle.views.specs.declared.Text.{Text}
+use Rattle.views.specs.declared.TextView.{TextView}
 use Rattle.views.specs.declared.BindingView.{BindingView}
 use Rattle.views.specs.declared.Hoisted.{Hoisted}
 use Rattle.views.specs.declared.FetchedView.{FetchedView}
@@ -106,7 +106,7 @@ unfoldable pub predicateMaybe : ℕ → MaybePredicate
 predicateMaybe n = elim (eqb n 65535) [ true ↦ Mp.Nothing | false ↦ Mp.Just (record { 0 = n }) ]
 
 -- the view of a name whose record starts at p
-unfoldable pub textView : List ℕ → ℕ → Text
+unfoldable pub textView : List ℕ → ℕ → TextView
 textView f p = record { at = p + 1; len = byteAt f p }
 
 -- the view of a type whose record starts at p, by its kind
@@ -213,7 +213,7 @@ opOf Op.Le = File.CompareOp.Le
 opOf Op.Gt = File.CompareOp.Gt
 opOf Op.Ge = File.CompareOp.Ge
 
-abbrev pub textOf : List ℕ → Text → List ℕ
+abbrev pub textOf : List ℕ → TextView → List ℕ
 textOf f v = run (byteAt f) 1 (v .len) (v .at)
 
 abbrev pub hoistedOf : Hoisted → File.Hoisted
@@ -325,7 +325,7 @@ pub record SeenFetched (f : List ℕ) (e : File.Fetched) (v : FetchedView) : Typ
   pub is : fetchedOf f v ≡ e
   pub inside : PathInside f (v .path)
 
-pub record SeenText (f : List ℕ) (x : List ℕ) (v : Text) : Type 0 where
+pub record SeenText (f : List ℕ) (x : List ℕ) (v : TextView) : Type 0 where
   pub is : textOf f v ≡ x
   pub inside : v .at + v .len ≤ length f
 

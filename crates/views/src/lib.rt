@@ -97,7 +97,7 @@ pub struct FieldPattern {
 }
 
 // A name's text: its position and its length.
-pub struct Text {
+pub struct TextView {
     pub at: usize,
     pub len: usize,
 }
@@ -253,14 +253,14 @@ pub fn field_pattern_at(file: &[u8], at: usize, k: usize) -> FieldPattern
 }
 
 // Where the text of name x stands, and its length.
-pub fn name_at(file: &[u8], index: &[u16], x: usize) -> Text
+pub fn name_at(file: &[u8], index: &[u16], x: usize) -> TextView
     requires { ⌜ Indexed (now file) (now index) ⌝ }
     requires { ⌜ x < length (tablesOf (now file) .names) ⌝ }
     ensures shows { λ r. ⌜ SeenText (now (file .entry)) (nameAt (tablesOf (now (file .entry))) x) r ⌝ }
     ensures view { λ r. ⌜ r ≡ textView (now (file .entry)) (startAt (now (index .entry)) Sections.names x) ⌝ }
 {
     let p = start_of(index, NAMES, x);
-    Text {
+    TextView {
         at: p + 1,
         len: wide(file[p]),
     }
