@@ -16,10 +16,10 @@ use Rattle.rules.specs.File.{Tables, Ty, Node, typeAt, nodeAt, childTypes, chil
 use Rattle.rules.specs.Checks.{childrenLower}
 use Rattle.file.proofs.Readers.{lt-or-le}
 use Rattle.file.proofs.Accepted.{sets-in}
-use Rattle.views.specs.Views.{run}
-use Rattle.record_checks.specs.RecordChecks.{typesLower, nodesLower}
+use Rattle.views.specs.Views.{sizeOf}
+use Rattle.record_checks.specs.RecordChecks.{recordLower, sectionLower}
 use Rattle.record_checks.proofs.Every.{if-both, both-inv, every-at}
-use Rattle.record_checks.proofs.Seen.{types-lower-every, nodes-lower-every}
+use Rattle.record_checks.proofs.Seen.{lower-every}
 
 module _ {A B : Type 0} (f : List B → A → B) (d : B) (a : A) where
   bottom-length : (l : List A) (done : List B) → length (bottomUp f done l) ≡ length done + length l
@@ -147,18 +147,17 @@ module _ (T : Tables) where
   unfolding constants nodeAt
   constants-entry n h = bottom-entry constantOf false Node.Error (T .nodes) n h
 
-  -- 9 at one type, at one node
+  -- 9 at one record, at one type, at one node
+  record-lower : (s t : ℕ) → sectionLower T s ≡ true → t < sizeOf T s → recordLower T s t ≡ true
+  record-lower s t e h = ap (recordLower T s) (sym (zero-add t)) ∙ every-at (recordLower T s) (sizeOf T s) 0 t (sym (lower-every T s) ∙ e) h
+
   pub type-lower : childrenLower T ≡ true → (t : ℕ) → t < length (T .types) → all (λ c. ltb c t) (childTypes (typeAt T t)) ≡ true
-  unfolding childrenLower typesLower nodesLower
-  type-lower e t h =
-      let q : ℕ → Bool = λ k. all (λ c. ltb c k) (childTypes (typeAt T k)) in
-      ap q (sym (zero-add t)) ∙ every-at q (length (T .types)) 0 t (sym (types-lower-every T) ∙ both-inv (typesLower T) (nodesLower T) e .0) h
+  unfolding childrenLower sectionLower recordLower
+  type-lower e t h = record-lower 1 t (both-inv (sectionLower T 1) (sectionLower T 3) e .0) h
 
   pub node-lower : childrenLower T ≡ true → (n : ℕ) → n < length (T .nodes) → all (λ c. ltb c n) (childNodes (nodeAt T n)) ≡ true
-  unfolding childrenLower typesLower nodesLower
-  node-lower e n h =
-      let q : ℕ → Bool = λ k. all (λ c. ltb c k) (childNodes (nodeAt T k)) in
-      ap q (sym (zero-add n)) ∙ every-at q (length (T .nodes)) 0 n (sym (nodes-lower-every T) ∙ both-inv (typesLower T) (nodesLower T) e .1) h
+  unfolding childrenLower sectionLower recordLower
+  node-lower e n h = record-lower 3 n (both-inv (sectionLower T 1) (sectionLower T 3) e .1) h
 
   -- no type is deeper than its number allows
   deepest-bound : (ds cs : List ℕ) (b : ℕ) → ((c : ℕ) → getD ds c 0 ≤ b) → deepest ds cs ≤ b

@@ -25,7 +25,7 @@ use Rattle.paths.specs.declared.Address.{Address}
 use Rattle.views.specs.declared.BindingView.{BindingView}
 use Rattle.views.specs.declared.MaybeType.{MaybeType}
 use Rattle.views.specs.declared.Predicate.{Predicate}
-use Rattle.record_checks.specs.RecordChecks.{Words, pairsIn, recordIn, sectionIn, typesLower, nodesLower}
+use Rattle.record_checks.specs.RecordChecks.{Words, pairsIn, recordIn, sectionIn, recordLower, sectionLower}
 use Rattle.record_checks.proofs.Every.{every, allFrom-every, all-every, pairs-law, run-map}
 
 -- any function of the entry, by the view
@@ -126,19 +126,18 @@ numbers-every T =
     (sym (both-unit (sectionIn T 9)))
 
 -- 9
-module _ (T : Tables) where
-  pub types-lower-every : typesLower T ≡ every (λ t. all (λ c. ltb c t) (childTypes (typeAt T t))) (length (T .types)) 0
-  unfolding typesLower typeAt
-  types-lower-every = allFrom-every _ _ Ty.Int (T .types) (λ k g. refl)
+pub lower-every : (T : Tables) (s : ℕ) → sectionLower T s ≡ every (recordLower T s) (sizeOf T s) 0
+unfolding sectionLower recordLower typeAt nodeAt
+lower-every T zero = always (recordLower T 0) (λ t. refl) (sizeOf T 0) 0
+lower-every T (suc zero) = allFrom-every _ (recordLower T 1) Ty.Int (T .types) (λ k g. refl)
+lower-every T (suc (suc zero)) = always (recordLower T 2) (λ t. refl) (sizeOf T 2) 0
+lower-every T (suc (suc (suc zero))) = allFrom-every _ (recordLower T 3) Node.Error (T .nodes) (λ k g. refl)
+lower-every T (suc (suc (suc (suc s)))) = let k : ℕ = suc (suc (suc (suc s))) in always (recordLower T k) (λ t. refl) (sizeOf T k) 0
 
-  pub nodes-lower-every : nodesLower T ≡ every (λ t. all (λ c. ltb c t) (childNodes (nodeAt T t))) (length (T .nodes)) 0
-  unfolding nodesLower nodeAt
-  nodes-lower-every = allFrom-every _ _ Node.Error (T .nodes) (λ k g. refl)
-
-  -- 10
-  pub types-distinct-every : typesDistinct T ≡ every (λ t. typeDistinct (typeAt T t)) (length (T .types)) 0
-  unfolding typesDistinct typeAt
-  types-distinct-every = all-every typeDistinct _ Ty.Int (T .types) (λ k g. refl)
+-- 10
+pub types-distinct-every : (T : Tables) → typesDistinct T ≡ every (λ t. typeDistinct (typeAt T t)) (length (T .types)) 0
+unfolding typesDistinct typeAt
+types-distinct-every T = all-every typeDistinct _ Ty.Int (T .types) (λ k g. refl)
 
 module _ (f : List ℕ) (n at : ℕ) where
   pub record-children : run (word f) 4 n (at + 2) ≡ childTypes (Ty.Record (run (fieldAt f) 4 n at))
@@ -184,6 +183,9 @@ module _ (T : Tables) (s t k : ℕ) (e : s ≡ k) where
   pub record-is : recordIn T k t ≡ recordIn T s t
   record-is = ap (λ (j : ℕ). recordIn T j t) (sym e)
 
+  pub lower-is : recordLower T k t ≡ recordLower T s t
+  lower-is = ap (λ (j : ℕ). recordLower T j t) (sym e)
+
   pub size-is : t < sizeOf T s → t < sizeOf T k
   size-is h = subst (λ (j : ℕ). t < sizeOf T j) e h
 
@@ -200,6 +202,14 @@ record-rest T (suc (suc (suc (suc (suc (suc (suc zero))))))) t h n1 n2 n3 n4 n5 
 record-rest T (suc (suc (suc (suc (suc (suc (suc (suc zero)))))))) t h n1 n2 n3 n4 n5 n7 n8 n9 = absurd (n8 refl)
 record-rest T (suc (suc (suc (suc (suc (suc (suc (suc (suc zero))))))))) t h n1 n2 n3 n4 n5 n7 n8 n9 = absurd (n9 refl)
 record-rest T (suc (suc (suc (suc (suc (suc (suc (suc (suc (suc s)))))))))) t h n1 n2 n3 n4 n5 n7 n8 n9 = absurd (omega arith)
+
+pub lower-rest : (T : Tables) (s t : ℕ) → (s ≡ 1 → ⊥) → (s ≡ 3 → ⊥) → true ≡ recordLower T s t
+unfolding recordLower
+lower-rest T zero t n1 n3 = refl
+lower-rest T (suc zero) t n1 n3 = absurd (n1 refl)
+lower-rest T (suc (suc zero)) t n1 n3 = refl
+lower-rest T (suc (suc (suc zero))) t n1 n3 = absurd (n3 refl)
+lower-rest T (suc (suc (suc (suc s)))) t n1 n3 = refl
 
 -- a loop over n numbers begins
 pub every-start : (q : ℕ → Bool) (n m : ℕ) → m ≡ n → every q n 0 ≡ every q (m - 0) 0

@@ -73,9 +73,25 @@ sectionIn T s =
     s
     true
 
--- 9, for the types and for the nodes
-unfoldable pub typesLower : Tables → Bool
-typesLower T = allFrom 0 (λ t ty. all (λ c. ltb c t) (childTypes ty)) (T .types)
+-- 9: record t of section s, and all of section s; only types and nodes have children
+unfoldable pub recordLower : Tables → ℕ → ℕ → Bool
+recordLower T s t =
+    getD
+    (true ∷
+    all (λ c. ltb c t) (childTypes (typeAt T t)) ∷
+    true ∷
+    all (λ c. ltb c t) (childNodes (nodeAt T t)) ∷
+    [])
+    s
+    true
 
-unfoldable pub nodesLower : Tables → Bool
-nodesLower T = allFrom 0 (λ n node. all (λ c. ltb c n) (childNodes node)) (T .nodes)
+unfoldable pub sectionLower : Tables → ℕ → Bool
+sectionLower T s =
+    getD
+    (true ∷
+    allFrom 0 (λ t ty. all (λ c. ltb c t) (childTypes ty)) (T .types) ∷
+    true ∷
+    allFrom 0 (λ n node. all (λ c. ltb c n) (childNodes node)) (T .nodes) ∷
+    [])
+    s
+    true

@@ -9,7 +9,7 @@ ghost use Rattle.rules.specs.Checks.{typeIn, predicateIn, nodeIn, bindingIn, ho
 ghost use Rattle.file.specs.Steps.{word, sectionCount};
 ghost use Rattle.file.specs.Tables.{Indexed, tablesOf};
 ghost use Rattle.views.specs.Views.{sizeOf, run, bindingAt, hoistedAt, constraintAt, comparisonAt, levelEntryAt};
-ghost use Rattle.record_checks.specs.RecordChecks.{Words, pairsIn, numberAt, among, rising, recordIn, sectionIn, typesLower, nodesLower};
+ghost use Rattle.record_checks.specs.RecordChecks.{Words, pairsIn, numberAt, among, rising, recordIn, sectionIn, recordLower, sectionLower};
 use file::BINDINGS;
 use file::COMPARISONS;
 use file::CONSTRAINTS;
@@ -335,22 +335,6 @@ fn type_lower(file: &[u8], index: &[u16], t: usize) -> bool
     }
 }
 
-// 9: the children of all types.
-fn types_lower(file: &[u8], index: &[u16]) -> bool
-    requires { ⌜ Indexed (now file) (now index) ⌝ }
-    ensures { λ r. ⌜ r ≡ typesLower (tablesOf (now (file .entry))) ⌝ }
-{
-    let n = count_of(file, index, TYPES);
-    let mut t = 0;
-    while t < n {
-        if !type_lower(file, index, t) {
-            return false;
-        }
-        t += 1;
-    }
-    true
-}
-
 // 9: the children of node n.
 fn node_lower(file: &[u8], index: &[u16], n: usize) -> bool
     requires { ⌜ Indexed (now file) (now index) ⌝ }
@@ -378,15 +362,29 @@ fn node_lower(file: &[u8], index: &[u16], n: usize) -> bool
     }
 }
 
-// 9: the children of all nodes.
-fn nodes_lower(file: &[u8], index: &[u16]) -> bool
+// 9: the children of record t of section s. Only types and nodes have any.
+fn record_lower(file: &[u8], index: &[u16], s: usize, t: usize) -> bool
     requires { ⌜ Indexed (now file) (now index) ⌝ }
-    ensures { λ r. ⌜ r ≡ nodesLower (tablesOf (now (file .entry))) ⌝ }
+    requires { ⌜ t < sizeOf (tablesOf (now file)) s ⌝ }
+    ensures { λ r. ⌜ r ≡ recordLower (tablesOf (now (file .entry))) s t ⌝ }
 {
-    let n = count_of(file, index, NODES);
+    match s {
+        TYPES => type_lower(file, index, t),
+        NODES => node_lower(file, index, t),
+        _ => true,
+    }
+}
+
+// 9: the children of all records of section s.
+fn records_lower(file: &[u8], index: &[u16], s: usize) -> bool
+    requires { ⌜ Indexed (now file) (now index) ⌝ }
+    requires { ⌜ s < sectionCount ⌝ }
+    ensures { λ r. ⌜ r ≡ sectionLower (tablesOf (now (file .entry))) s ⌝ }
+{
+    let n = count_of(file, index, s);
     let mut t = 0;
     while t < n {
-        if !node_lower(file, index, t) {
+        if !record_lower(file, index, s, t) {
             return false;
         }
         t += 1;
@@ -399,10 +397,10 @@ pub fn children_lower(file: &[u8], index: &[u16]) -> bool
     requires { ⌜ Indexed (now file) (now index) ⌝ }
     ensures { λ r. ⌜ r ≡ childrenLower (tablesOf (now (file .entry))) ⌝ }
 {
-    if !types_lower(file, index) {
+    if !records_lower(file, index, TYPES) {
         return false;
     }
-    nodes_lower(file, index)
+    records_lower(file, index, NODES)
 }
 
 // The number at p: four bytes if it is long, as a disc is, else two, as a name is.
