@@ -3,11 +3,11 @@ ghost use mathlib.Core.Path.{_≡_};
 ghost use Prim.Native.Nat.{_<_};
 ghost use Rattle.replay.specs.Pairs as Pairs;
 ghost use Rattle.tally.specs.Tallies.{countLimit, counted, tallied, split, none};
-use answer::FILE_ROOM;
-use answer::LINE_ROOM;
-use answer::answer;
 use bytes::scan::find;
 use lines::unhex;
+use plan_line::FILE_ROOM;
+use plan_line::LINE_ROOM;
+use plan_line::answer;
 use tally::Tally;
 use tally::skipped;
 

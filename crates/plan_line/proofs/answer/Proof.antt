@@ -1,8 +1,8 @@
 use Rattle.lines.proofs.Calls.{printable, written}
-use Rattle.answer.proofs.Answered.{said, plan-length, work-length}
+use Rattle.plan_line.proofs.Answered.{said, plan-length, work-length}
 use borrow.Author.Needs.{needs}
-use Rattle.answer.proofs.answer.Statement.{statement}
-use Rattle.answer.proofs.answer.Tie as tie
+use Rattle.plan_line.proofs.answer.Statement.{statement}
+use Rattle.plan_line.proofs.answer.Tie as tie
 
 slice-aggregate-sinalvento-compile : tie.Need-slice-aggregate-sinalvento-compile
 slice-aggregate-sinalvento-compile c = search needs
