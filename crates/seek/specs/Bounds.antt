@@ -1,10 +1,16 @@
 -- What one comparison does to a level's edges.
+use mathlib.Core.Bool.{Bool, true, false}
 use mathlib.Core.Option.{none, some}
 use Prim.Native.Nat.{ℕ}
 use Rattle.rules.specs.Base.{_whenSome_}
 use Rattle.rules.specs.File.{Tables, CompareOp, Comparison}
 use Rattle.rules.specs.Constant.{constant, bytesOnly}
 use Rattle.rules.specs.Placement.{Edges, takeEdge, sided}
+
+-- of two, the first for the upper sense, the second for the lower
+abbrev pub ofSense : {A : Type 0} → Bool → A → A → A
+ofSense true hi lo = hi
+ofSense false hi lo = lo
 
 -- an edge at node n's constant, if that is bytes
 unfoldable pub edgeBy : Tables → ℕ → CompareOp → ℕ → ℕ → Edges → Edges

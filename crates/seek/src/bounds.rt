@@ -10,7 +10,7 @@ ghost use Rattle.state.specs.Ops as Ops;
 ghost use Rattle.file.specs.Tables.{tablesOf};
 ghost use Rattle.views.specs.Views.{opOf, comparisonAt};
 ghost use Rattle.accepted_file.specs.AcceptedFile.{AcceptedFile};
-ghost use Rattle.seek.specs.Bounds.{edgeBy, foldOne};
+ghost use Rattle.seek.specs.Bounds.{ofSense, edgeBy, foldOne};
 ghost use Rattle.seek.specs.Seek.{foldedThen, constantBytes, stateOf};
 use crate::Edge;
 use crate::Folded;
@@ -47,6 +47,13 @@ fn flipped(op: CompareOp) -> CompareOp
     }
 }
 
+// Of two edges, the first for the upper sense, the second for the lower.
+fn of_sense(upper: bool, hi: Edge, lo: Edge) -> Edge
+    ensures { λ r. ⌜ r ≡ ofSense upper hi lo ⌝ }
+{
+    if upper { hi } else { lo }
+}
+
 impl Folded {
     // One index more, after the other edge's if that is set.
     fn then(self, other: bool, index: u16) -> Folded
@@ -66,55 +73,35 @@ impl Folded {
 }
 
 impl SeekBuilder {
-    // The first edge of each sense is taken, with its comparison's index.
-    fn take_hi(self, index: u16, inclusive: bool, node: u16, ty: u16) -> SeekBuilder
+    // The first edge of each sense, upper or lower, is taken, with its comparison's index.
+    fn take(self, upper: bool, index: u16, inclusive: bool, node: u16, ty: u16) -> SeekBuilder
         ensures { λ r. ⌜ ((T : Tables) (e : Ends) (w p : List ℕ) →
             let before = stateOf T self e w p in
             let after = stateOf T r e w p in
-            after ≡ Ops.relevel (λ l. Ops.withEdges (takeHi index (edge (constantBytes T node ty) inclusive) (l .edges)) l) before
+            let taken = edge (constantBytes T node ty) inclusive in
+            after ≡ Ops.relevel (λ l. Ops.withEdges (ofSense upper takeHi takeLo index taken (l .edges)) l) before
             ) ⌝ }
     {
         let hi = self.hi;
-        if hi.set {
+        let lo = self.lo;
+        let own = of_sense(upper, hi, lo);
+        if own.set {
             return self;
         }
-        let lo = self.lo;
-        let f = self.folded;
-        let mut l = self;
+        let other = of_sense(upper, lo, hi);
         let edge = Edge {
             set: true,
             inclusive,
             node,
             ty,
         };
-        let folded = f.then(lo.set, index);
-        l.hi = edge;
-        l.folded = folded;
-        l
-    }
-
-    fn take_lo(self, index: u16, inclusive: bool, node: u16, ty: u16) -> SeekBuilder
-        ensures { λ r. ⌜ ((T : Tables) (e : Ends) (w p : List ℕ) →
-            let before = stateOf T self e w p in
-            let after = stateOf T r e w p in
-            after ≡ Ops.relevel (λ l. Ops.withEdges (takeLo index (edge (constantBytes T node ty) inclusive) (l .edges)) l) before
-            ) ⌝ }
-    {
-        let lo = self.lo;
-        if lo.set {
-            return self;
-        }
-        let hi = self.hi;
         let f = self.folded;
+        let folded = f.then(other.set, index);
+        let high = of_sense(upper, edge, hi);
+        let low = of_sense(upper, lo, edge);
         let mut l = self;
-        let edge = Edge {
-            set: true,
-            inclusive,
-            node,
-            ty,
-        };
-        let folded = f.then(hi.set, index);
-        l.lo = edge;
+        l.hi = high;
+        l.lo = low;
         l.folded = folded;
         l
     }
@@ -128,10 +115,10 @@ impl SeekBuilder {
             ) ⌝ }
     {
         match op {
-            CompareOp::Lt => self.take_hi(index, false, node, ty),
-            CompareOp::Le => self.take_hi(index, true, node, ty),
-            CompareOp::Gt => self.take_lo(index, false, node, ty),
-            CompareOp::Ge => self.take_lo(index, true, node, ty),
+            CompareOp::Lt => self.take(true, index, false, node, ty),
+            CompareOp::Le => self.take(true, index, true, node, ty),
+            CompareOp::Gt => self.take(false, index, false, node, ty),
+            CompareOp::Ge => self.take(false, index, true, node, ty),
         }
     }
 
