@@ -28,3 +28,8 @@ unfolding unhex
 length-unhex [] = refl
 length-unhex (h ∷ []) = refl
 length-unhex (h ∷ l ∷ ds) = omega (arith, length-unhex ds)
+
+-- hex read back at the front of a buffer
+pub read-back : (text f f′ : List ℕ) → length text ≤ length f * 2 → f′ ≡ sets f 0 (unhex text) → take (length text / 2) f′ ≡ unhex text
+read-back text f f′ h q =
+    ap (take (length text / 2)) q ∙ front f (unhex text) (length text / 2) (sym (length-unhex text)) (omega (arith, length-unhex text))

@@ -19,7 +19,7 @@ fn digit(n: u8) -> u8
 }
 
 // A plan as program `plan` prints it: two digits for each byte.
-pub fn put_hex(bytes: &[u8], out: &mut [u8])
+fn put_hex(bytes: &[u8], out: &mut [u8])
     requires { ⌜ length (now bytes) * 2 ≤ length (now out) ⌝ }
     ensures { λ _. ⌜ now (out .exit) ≡ sets (now (out .entry)) 0 (Lines.hex (now (bytes .entry))) ⌝ }
 {
@@ -33,7 +33,7 @@ pub fn put_hex(bytes: &[u8], out: &mut [u8])
 }
 
 // A refusal as program `plan` prints it: `refused ` and the number. Gives how many bytes that is.
-pub fn put_refusal(n: u8, out: &mut [u8]) -> usize
+fn put_refusal(n: u8, out: &mut [u8]) -> usize
     requires { ⌜ (n < 100) × (10 ≤ length (now out)) ⌝ }
     ensures gives { λ r. ⌜ r ≡ length (Lines.refusal n) ⌝ }
     ensures leaves { λ _. ⌜ now (out .exit) ≡ sets (now (out .entry)) 0 (Lines.refusal n) ⌝ }

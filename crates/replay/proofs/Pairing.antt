@@ -13,7 +13,7 @@ use Rattle.rules.specs.Compile.{outcome}
 use Rattle.rules.proofs.Cases.{pick}
 use Rattle.bytes.specs.Bytes.{indexOf, slice}
 use Rattle.lines.specs.Lines.{line, unhex}
-use Rattle.lines.proofs.Fronts.{front, length-unhex}
+use Rattle.lines.proofs.Fronts.{front, read-back}
 use Rattle.tally.specs.Tallies.{same}
 use Rattle.tally.proofs.Counts.{same-is, to-end}
 use Rattle.replay.specs.Pairs.{agreesAt, agrees}
@@ -39,16 +39,13 @@ module _ (pair : List ℕ) (e : ℕ) where
   agrees-here h l = agrees-room h ∙ pick (leb e 65538) true _ _ (le-leb e 65538 l)
 
   module _ (h : e + 3 ≤ length pair) (l : e ≤ 65538) where
-    pub read-back : (f f′ : List ℕ) → length f ≡ 32769 → f′ ≡ sets f 0 (unhex (take e pair)) → take (e / 2) f′ ≡ unhex (take e pair)
-    read-back f f′ lf q =
-        let n : length (unhex (take e pair)) ≡ e / 2 = length-unhex (take e pair) ∙ ap (λ (k : ℕ). k / 2) (length-take-le e pair (omega arith)) in
-        ap (take (e / 2)) q ∙ front f (unhex (take e pair)) (e / 2) (sym n) (omega (arith, n, lf))
-
     pub compared : (f f′ o o′ : List ℕ) (m : ℕ) (b : Bool) → length f ≡ 32769 → f′ ≡ sets f 0 (unhex (take e pair)) → length o ≡ 32768 → m ≡ length (line (outcome (take (e / 2) f′) planLimit workLimit)) → o′ ≡ sets o 0 (line (outcome (take (e / 2) f′) planLimit workLimit)) → m ≤ 32768 → (b ≡ true → take m o′ ≡ take (length pair - (e + 3)) (drop (e + 3) pair)) → (take m o′ ≡ take (length pair - (e + 3)) (drop (e + 3) pair) → b ≡ true) → b ≡ agreesAt e pair
     compared f f′ o o′ m b lf q lo r s k to from =
+        let n : length (take e pair) ≡ e = length-take-le e pair (omega arith) in
+        let file : take (e / 2) f′ ≡ unhex (take e pair) = ap (λ (i : ℕ). take (i / 2) f′) (sym n) ∙ read-back (take e pair) f f′ (omega (arith, n, lf)) q in
         same-is (take m o′) (take (length pair - (e + 3)) (drop (e + 3) pair)) b to from
         ∙ ap (λ (x : List ℕ). same x (take (length pair - (e + 3)) (drop (e + 3) pair))) (ap (take m) s ∙ front o (line (outcome (take (e / 2) f′) planLimit workLimit)) m r (omega (arith, r, lo)))
-        ∙ ap₂ (λ (x y : List ℕ). same (line (outcome x planLimit workLimit)) y) (read-back f f′ lf q) (to-end pair (e + 3))
+        ∙ ap₂ (λ (x y : List ℕ). same (line (outcome x planLimit workLimit)) y) file (to-end pair (e + 3))
         ∙ sym (agrees-here h l)
 
 -- the buffers as they are lent

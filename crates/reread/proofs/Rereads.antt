@@ -18,7 +18,7 @@ use Rattle.rules.proofs.Cases.{pick}
 use Rattle.rules.proofs.ReaderRules.{Shape, shape}
 use Rattle.bytes.specs.Bytes.{indexOf, slice}
 use Rattle.lines.specs.Lines.{line, unhex}
-use Rattle.lines.proofs.Fronts.{front, length-unhex}
+use Rattle.lines.proofs.Fronts.{front, length-unhex, read-back}
 use Rattle.lines.proofs.Calls.{Said, said-planned, said-refused}
 use Rattle.tally.specs.Tallies.{same}
 use Rattle.tally.proofs.Counts.{same-is, to-end}
@@ -49,11 +49,6 @@ module _ (plan said : List ℕ) (room : ℕ) where
   pub comes-here : room ≤ planLimit → comesTo plan room said ≡ same (line (Reader.outcome plan room)) said
   unfolding comesTo
   comes-here h = pick (leb room planLimit) true _ _ (le-leb room planLimit h)
-
--- hex read back at the front of a buffer
-pub read-back : (hex f f′ : List ℕ) → length hex ≤ length f * 2 → f′ ≡ sets f 0 (unhex hex) → take (length hex / 2) f′ ≡ unhex hex
-read-back hex f f′ h q =
-    ap (take (length hex / 2)) q ∙ front f (unhex hex) (length hex / 2) (sym (length-unhex hex)) (omega (arith, length-unhex hex))
 
 module _ (hex said : List ℕ) (room : ℕ) (h : room ≤ planLimit) (l : length hex ≤ 32770) where
   pub compared : (f f′ t t′ : List ℕ) (n m : ℕ) (b : Bool) → length f ≡ 16385 → f′ ≡ sets f 0 (unhex hex) → length t ≡ 32768 → m ≡ length (line (Reader.outcome (take (length hex / 2) f′) n)) → t′ ≡ sets t 0 (line (Reader.outcome (take (length hex / 2) f′) n)) → m ≤ 32768 → (b ≡ true → take m t′ ≡ said) → (take m t′ ≡ said → b ≡ true) → n ≡ room → b ≡ comesTo (unhex hex) room said
