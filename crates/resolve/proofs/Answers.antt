@@ -2,28 +2,34 @@
 use Prim.Native.Nat.{ℕ, _≤_, _<_}
 use mathlib.Core.Path.{_≡_, refl, sym, ap, _∙_, subst}
 use mathlib.Core.Bool.{Bool, true, false}
-use mathlib.Core.List.{List, []}
+use mathlib.Core.List.{List, [], _∷_}
 use mathlib.Core.Option.{Option, none, some}
 use native.Mathlib.Omega.{arith}
 use mathlib.Core.Logic.{⊎-elim}
 use lib.Dec.{eqb}
+use types.Run.{OneOf, miss}
+use denote.Enum.Declared.{tagOf}
 use lib.ListN.{length, List·getD-eq-default}
 use Rattle.rules.specs.Limits.{stepLimit}
 use Rattle.rules.specs.Base.{Each, more, first, _whenSome_}
 use Rattle.rules.specs.File as File
-use Rattle.rules.specs.File.{Tables, Node, Alternative, Hoisted, typeAt, nodeAt, childNodes, constants, isConstant, factTy, unionTy, then, payload}
+use Rattle.rules.specs.File.{Tables, Ty, Node, Alternative, Hoisted, typeAt, nodeAt, childNodes, constants, isConstant, factTy, unionTy, then, payload}
 use Rattle.rules.specs.Constant.{alternativeOf}
-use Rattle.rules.specs.Lookup.{fieldOf, slotAt, fetchedRegister, hoistedSlot}
+use Rattle.rules.proofs.Cases.{some≢none}
+use Rattle.rules.specs.Lookup.{fieldOf, slotAt, rowField, fetchedRegister, hoistedSlot}
 use Rattle.rules.specs.Events.{Code}
 use Rattle.rules.specs.Resolve as ResolveRules
 use Rattle.rules.specs.Resolve.{Resolver, follow, _whenFound_, give, declined, fetchedRow, dereference, fieldOfRow, fieldSlot, valueSlot, selected, selectSlot, resolveNode, resolve}
 use Rattle.state.specs.State.{Level, Target, State, newLevel, measuring}
 use Rattle.state.specs.Ops as Ops
 use Rattle.state.specs.Ops.{ops}
-use Rattle.slots.specs.Slots.{maybe, slotOf, cleared, fieldSlot as slotOfField, justSlot, noSlot, tidied, IsSlot, SlotRoom}
+use Rattle.slots.specs.Slots.{maybe, slotWith, slotOf, cleared, fieldSlot as slotOfField, justSlot, noSlot, tidied, IsSlot, SlotRoom}
 use Rattle.slots.specs.declared.MaybeSlot.{MaybeSlot}
 use Rattle.slots.proofs.Tidy.{no-slot, field-is, slot-as}
 use Rattle.slots.specs.declared.Slot.{Slot}
+use Rattle.slots.specs.declared.SlotKind.{SlotKind}
+use Rattle.slots.specs.declared.SlotKind.the-variants as Sk
+use Rattle.slots.proofs.SlotKind as SlotKinds
 use Rattle.paths.specs.Paths.{pathOf}
 use Rattle.paths.specs.declared.Address.{Address}
 use Rattle.paths.specs.declared.FieldPath.{FieldPath}
@@ -36,9 +42,10 @@ use Rattle.tables.specs.declared.Run.{Run}
 use Rattle.fields.proofs.Slots.{counts}
 use Rattle.lists.specs.Lists.{stateWith}
 use Rattle.lists.specs.declared.Lists.{Lists}
-use Rattle.resolve.specs.Resolved.{given, found, answerWith, answerOf, Answers, Follows, GivenSlotRoom, baseOf, readSlot, readPast, leafSlot, leafAt}
+use Rattle.resolve.specs.Resolved.{given, found, answerWith, answerOf, Answers, Follows, GivenSlotRoom, baseOf, readSlot, readPast, fieldPast, leafSlot, leafAt}
 use Rattle.resolve.specs.declared.Answer.{Answer}
 use Rattle.resolve.specs.declared.Read.{Read}
+use Rattle.resolve.specs.declared.Read.the-variants.{Key, Select}
 use Rattle.resolve.specs.declared.Base.{Base}
 use Rattle.resolve.specs.declared.Base.the-variants as Bs
 use Rattle.resolve.proofs.Steps.{Lower, constants-length, resolve-step}
@@ -58,11 +65,26 @@ below T n a p t x o =
       | some q ↦ dereference (ops T) T n (File.Slot.Field a p t) whenFound λ row. fieldOfRow (ops T) T x row
     ]
 
+abbrev reference : Tables → ℕ → ℕ → File.FieldPath → ℕ → Option ℕ → Resolver State
+reference T n a p t o = elim o [ none ↦ give (some (File.Slot.Field a p t)) | some q ↦ fetchedRow (ops T) T n q (fetchedRegister T a p) ]
+
+abbrev valueReference : Tables → ℕ → ℕ → ℕ → Option ℕ → Resolver State
+valueReference T n a t o = elim o [ none ↦ give (some (File.Slot.Value a t)) | some q ↦ declined (ops T) T n Code.NyiFactField ]
+
 abbrev alternative : Tables → ℕ → ℕ → File.FieldPath → ℕ → Option (List Alternative) → Resolver State
 alternative T n a p x o = elim o [ none ↦ declined (ops T) T n Code.NyiFactField | some alts ↦ selected (ops T) T a p (alternativeOf alts x) ]
 
 abbrev chosen : Tables → ℕ → Bool → Resolver State
 chosen T n b = elim b [ true ↦ give (some (File.Slot.Const n)) | false ↦ resolveNode (ops T) T (resolve (ops T) T) n (nodeAt T n) ]
+
+fact-no-union : (ty : Ty) (q : ℕ) → factTy ty ≡ some q → unionTy ty ≡ none
+unfolding factTy unionTy
+fact-no-union Ty.Int q e = refl
+fact-no-union Ty.Str q e = refl
+fact-no-union Ty.Bytes q e = refl
+fact-no-union (Ty.Fact p) q e = refl
+fact-no-union (Ty.Record fs) q e = refl
+fact-no-union (Ty.Union alts) q e = absurd (some≢none q (sym e))
 
 -- a slot that was found, with the lists as they were
 pub gives-is : {l : Lists} {w : List ℕ} {r : Answer} {f : MaybeSlot} {x : Option File.Slot} → r ≡ answerWith f l → IsSlot x f → Answers (give x) l w r w
@@ -105,6 +127,19 @@ module _ {l : Lists} {w : List ℕ} {r : Answer} {w′ : List ℕ} where
   pub fetched-at : (T : Tables) (n p : ℕ) {x y : Option ℕ} → x ≡ y → Answers (fetchedRow (ops T) T n p y) l w r w′ → Answers (fetchedRow (ops T) T n p x) l w r w′
   fetched-at T n p e h = subst (λ (x : Option ℕ). Answers (fetchedRow (ops T) T n p x) l w r w′) (sym e) h
 
+  -- a field of a row that a reference names
+  module _ (T : Tables) (n p x : ℕ) {g : Option ℕ} where
+    pub row-at : {o : Option ℕ} → g ≡ o → Answers (fetchedRow (ops T) T n p o whenFound fieldOfRow (ops T) T x) l w r w′ → Answers (fetchedRow (ops T) T n p g whenFound fieldOfRow (ops T) T x) l w r w′
+    row-at e h = subst (λ (g : Option ℕ). Answers (fetchedRow (ops T) T n p g whenFound fieldOfRow (ops T) T x) l w r w′) (sym e) h
+
+    pub no-row-field : g ≡ none → Answers (declined (ops T) T n Code.NyiFactField) l w r w′ → Answers (fetchedRow (ops T) T n p g whenFound fieldOfRow (ops T) T x) l w r w′
+    unfolding fetchedRow _whenFound_ follow declined
+    no-row-field e h = row-at {o = none} e h
+
+    pub row-field : (a : ℕ) → g ≡ some a → Answers (give (rowField T a (some p) x)) l w r w′ → Answers (fetchedRow (ops T) T n p g whenFound fieldOfRow (ops T) T x) l w r w′
+    unfolding fetchedRow _whenFound_ follow give fieldOfRow
+    row-field a e h = row-at {o = some a} e h
+
   module _ (T : Tables) (n : ℕ) where
     -- a read of a slot whose kind is known
     pub dereference-at : {x y : File.Slot} → x ≡ y → Answers (dereference (ops T) T n y) l w r w′ → Answers (dereference (ops T) T n x) l w r w′
@@ -120,30 +155,32 @@ module _ {l : Lists} {w : List ℕ} {r : Answer} {w′ : List ℕ} where
     pub plain-field : (a : ℕ) (p : File.FieldPath) (t : ℕ) → factTy (typeAt T t) ≡ none → Answers (give (some (File.Slot.Field a p t))) l w r w′ → Answers (dereference (ops T) T n (File.Slot.Field a p t)) l w r w′
     unfolding dereference
     plain-field a p t e h =
-        subst (λ (o : Option ℕ). Answers (elim o [ none ↦ give (some (File.Slot.Field a p t)) | some q ↦ fetchedRow (ops T) T n q (fetchedRegister T a p) ]) l w r w′) (sym e) h
+        subst (λ (o : Option ℕ). Answers (reference T n a p t o) l w r w′) (sym e) h
 
     pub fact-field : (a : ℕ) (p : File.FieldPath) (t q : ℕ) → factTy (typeAt T t) ≡ some q → Answers (fetchedRow (ops T) T n q (fetchedRegister T a p)) l w r w′ → Answers (dereference (ops T) T n (File.Slot.Field a p t)) l w r w′
     unfolding dereference
     fact-field a p t q e h =
-        subst (λ (o : Option ℕ). Answers (elim o [ none ↦ give (some (File.Slot.Field a p t)) | some q ↦ fetchedRow (ops T) T n q (fetchedRegister T a p) ]) l w r w′) (sym e) h
+        subst (λ (o : Option ℕ). Answers (reference T n a p t o) l w r w′) (sym e) h
 
     pub plain-value : (a t : ℕ) → factTy (typeAt T t) ≡ none → Answers (give (some (File.Slot.Value a t))) l w r w′ → Answers (dereference (ops T) T n (File.Slot.Value a t)) l w r w′
     unfolding dereference
     plain-value a t e h =
-        subst (λ (o : Option ℕ). Answers (elim o [ none ↦ give (some (File.Slot.Value a t)) | some q ↦ declined (ops T) T n Code.NyiFactField ]) l w r w′) (sym e) h
+        subst (λ (o : Option ℕ). Answers (valueReference T n a t o) l w r w′) (sym e) h
 
     pub fact-value : (a t q : ℕ) → factTy (typeAt T t) ≡ some q → Answers (declined (ops T) T n Code.NyiFactField) l w r w′ → Answers (dereference (ops T) T n (File.Slot.Value a t)) l w r w′
     unfolding dereference
     fact-value a t q e h =
-        subst (λ (o : Option ℕ). Answers (elim o [ none ↦ give (some (File.Slot.Value a t)) | some q ↦ declined (ops T) T n Code.NyiFactField ]) l w r w′) (sym e) h
+        subst (λ (o : Option ℕ). Answers (valueReference T n a t o) l w r w′) (sym e) h
 
     pub plain-below : (a : ℕ) (p : File.FieldPath) (t x : ℕ) → factTy (typeAt T t) ≡ none → Answers (give (slotAt a (then p) (fieldOf (typeAt T t) x))) l w r w′ → Answers (fieldSlot (ops T) T n (File.Slot.Field a p t) x) l w r w′
     unfolding fieldSlot
     plain-below a p t x e h = subst (λ (o : Option ℕ). Answers (below T n a p t x o) l w r w′) (sym e) h
 
-    pub fact-below : (a : ℕ) (p : File.FieldPath) (t x q : ℕ) → factTy (typeAt T t) ≡ some q → Answers (dereference (ops T) T n (File.Slot.Field a p t) whenFound fieldOfRow (ops T) T x) l w r w′ → Answers (fieldSlot (ops T) T n (File.Slot.Field a p t) x) l w r w′
-    unfolding fieldSlot
-    fact-below a p t x q e h = subst (λ (o : Option ℕ). Answers (below T n a p t x o) l w r w′) (sym e) h
+    pub fact-below : (a : ℕ) (p : File.FieldPath) (t x q : ℕ) → factTy (typeAt T t) ≡ some q → Answers (fetchedRow (ops T) T n q (fetchedRegister T a p) whenFound fieldOfRow (ops T) T x) l w r w′ → Answers (fieldSlot (ops T) T n (File.Slot.Field a p t) x) l w r w′
+    unfolding fieldSlot dereference
+    fact-below a p t x q e h =
+        subst (λ (o : Option ℕ). Answers (below T n a p t x o) l w r w′) (sym e)
+        (subst (λ (o : Option ℕ). Answers (reference T n a p t o whenFound fieldOfRow (ops T) T x) l w r w′) (sym e) h)
 
     pub no-union : (a : ℕ) (p : File.FieldPath) (t x : ℕ) → none ≡ unionTy (typeAt T t) → Answers (declined (ops T) T n Code.NyiFactField) l w r w′ → Answers (selectSlot (ops T) T n (File.Slot.Field a p t) x) l w r w′
     unfolding selectSlot
@@ -155,9 +192,6 @@ module _ {l : Lists} {w : List ℕ} {r : Answer} {w′ : List ℕ} where
     of-union a p t x alts e g h =
         subst (λ (o : Option (List Alternative)). Answers (alternative T n a p x o) l w r w′) e (subst (λ (o : Option Alternative). Answers (selected (ops T) T a p o) l w r w′) g h)
 
-  pub row-at : (T : Tables) (name : ℕ) {x y : File.Slot} → x ≡ y → Answers (fieldOfRow (ops T) T name y) l w r w′ → Answers (fieldOfRow (ops T) T name x) l w r w′
-  row-at T name e h = subst (λ (x : File.Slot). Answers (fieldOfRow (ops T) T name x) l w r w′) (sym e) h
-
   pub value-at : (T : Tables) {x y : File.Slot} → x ≡ y → Answers (valueSlot (ops T) T y) l w r w′ → Answers (valueSlot (ops T) T x) l w r w′
   value-at T e h = subst (λ (x : File.Slot). Answers (valueSlot (ops T) T x) l w r w′) (sym e) h
 
@@ -165,6 +199,16 @@ module _ {l : Lists} {w : List ℕ} {r : Answer} {w′ : List ℕ} where
   pub next-is : {g : Resolver State} {h : File.Slot → Resolver State} (a : Answer) {v : List ℕ} → Answers g l w a v → Follows h a v r w′ → Answers (g whenFound h) l w r w′
   unfolding _whenFound_
   next-is {g} {h} a e k = record { is = λ level target plan. k .is level target plan ∙ ap (λ (a : ResolveRules.Answer State). follow a h) (e .is level target plan); tidy = k .tidy }
+
+  -- a field of a row's value side, past a reference
+  module _ (T : Tables) (n a t x : ℕ) where
+    pub plain-value-field : factTy (typeAt T t) ≡ none → Answers (declined (ops T) T n Code.NyiValueField) l w r w′ → Answers (fieldPast T n x (File.Slot.Value a t)) l w r w′
+    unfolding dereference _whenFound_ follow give fieldSlot
+    plain-value-field e h = subst (λ (o : Option ℕ). Answers (valueReference T n a t o whenFound readSlot T n (Key x)) l w r w′) (sym e) h
+
+    pub fact-value-field : (q : ℕ) → factTy (typeAt T t) ≡ some q → Answers (declined (ops T) T n Code.NyiFactField) l w r w′ → Answers (fieldPast T n x (File.Slot.Value a t)) l w r w′
+    unfolding dereference _whenFound_ follow declined
+    fact-value-field q e h = subst (λ (o : Option ℕ). Answers (valueReference T n a t o whenFound readSlot T n (Key x)) l w r w′) (sym e) h
 
 -- a node that reads of no other
 pub leaf-is : {l : Lists} {w : List ℕ} {r : Answer} (T : Tables) (n : ℕ) (node : Node) {f : MaybeSlot} → ((level : Level) (target : Target) (plan : List ℕ) → IsSlot (leafSlot T (ops T .lookup (stateWith l level target w plan)) n node) f) → r ≡ answerWith f l
@@ -254,9 +298,65 @@ pub past-constant : (T : Tables) (n : ℕ) → length (T .nodes) ≤ n → false
 unfolding isConstant
 past-constant T n h = let g : length (constants T) ≤ n = omega (arith, constants-length T) in sym (List·getD-eq-default (constants T) false g)
 
--- a read of a known form
-pub read-at : (T : Tables) (n : ℕ) (s : File.Slot) {x y : Read} {l : Lists} {w : List ℕ} {r : Answer} {w′ : List ℕ} → x ≡ y → Answers (readSlot T n y s) l w r w′ → Answers (readSlot T n x s) l w r w′
-read-at T n s {x} {y} {l} {w} {r} {w′} e h = subst (λ (x : Read). Answers (readSlot T n x s) l w r w′) (sym e) h
+-- a read of a known form, and of a slot whose kind is known
+module _ (T : Tables) (n : ℕ) {l : Lists} {w : List ℕ} {r : Answer} {w′ : List ℕ} where
+  pub read-at : (s : File.Slot) {x y : Read} → x ≡ y → Answers (readPast T n y s) l w r w′ → Answers (readPast T n x s) l w r w′
+  read-at s e h = subst (λ (x : Read). Answers (readPast T n x s) l w r w′) (sym e) h
+
+  pub past-at : (x : ℕ) {s t : File.Slot} → s ≡ t → Answers (fieldPast T n x t) l w r w′ → Answers (fieldPast T n x s) l w r w′
+  past-at x e h = subst (λ (s : File.Slot). Answers (fieldPast T n x s) l w r w′) (sym e) h
+
+-- a field of any slot but a Value looks past a reference itself, and a select of a reference is declined either way
+module _ (T : Tables) (n x : ℕ) (s : State) where
+  same-row : (q : ℕ) (g : Option ℕ) → (fetchedRow (ops T) T n q g whenFound fieldOfRow (ops T) T x) s ≡ (fetchedRow (ops T) T n q g whenFound readSlot T n (Key x)) s
+  unfolding fetchedRow _whenFound_ follow give declined fieldOfRow fieldSlot
+  same-row q none = refl
+  same-row q (some r) = refl
+
+  no-row : (q : ℕ) (g : Option ℕ) → declined (ops T) T n Code.NyiFactField s ≡ (fetchedRow (ops T) T n q g whenFound readSlot T n (Select x)) s
+  unfolding fetchedRow _whenFound_ follow give declined selectSlot
+  no-row q none = refl
+  no-row q (some r) = refl
+
+  module _ (a : ℕ) (p : File.FieldPath) (t : ℕ) where
+    through : (read : Read) (o : Option ℕ) → factTy (typeAt T t) ≡ o → (reference T n a p t o whenFound readSlot T n read) s ≡ readPast T n read (File.Slot.Field a p t) s
+    unfolding dereference
+    through read o e = ap (λ (o : Option ℕ). (reference T n a p t o whenFound readSlot T n read) s) (sym e)
+
+    field-through : (o : Option ℕ) → factTy (typeAt T t) ≡ o → fieldSlot (ops T) T n (File.Slot.Field a p t) x s ≡ (reference T n a p t o whenFound readSlot T n (Key x)) s
+    unfolding fieldSlot dereference _whenFound_ follow give
+    field-through none e = refl
+    field-through (some q) e =
+        ap (λ (o : Option ℕ). below T n a p t x o s) e ∙ ap (λ (o : Option ℕ). (reference T n a p t o whenFound fieldOfRow (ops T) T x) s) e
+        ∙ same-row q (fetchedRegister T a p)
+
+    select-through : (o : Option ℕ) → factTy (typeAt T t) ≡ o → selectSlot (ops T) T n (File.Slot.Field a p t) x s ≡ (reference T n a p t o whenFound readSlot T n (Select x)) s
+    unfolding selectSlot _whenFound_ follow give
+    select-through none e = refl
+    select-through (some q) e = ap (λ (o : Option (List Alternative)). alternative T n a p x o s) (fact-no-union (typeAt T t) q e) ∙ no-row q (fetchedRegister T a p)
+
+  value-select : (a t : ℕ) (o : Option ℕ) → declined (ops T) T n Code.NyiFactField s ≡ (valueReference T n a t o whenFound readSlot T n (Select x)) s
+  unfolding _whenFound_ follow give declined selectSlot
+  value-select a t none = refl
+  value-select a t (some q) = refl
+
+  pub field-as-past : (k : SlotKind) (p : FieldPath) → OneOf (0 ∷ 1 ∷ 2 ∷ 3 ∷ 5 ∷ []) (tagOf SlotKinds.the-type k) → fieldSlot (ops T) T n (slotWith k p) x s ≡ fieldPast T n x (slotWith k p) s
+  unfolding dereference _whenFound_ follow give
+  field-as-past (Sk.Row a q) p h = refl
+  field-as-past (Sk.Key a t) p h = refl
+  field-as-past (Sk.Derived a) p h = refl
+  field-as-past (Sk.Field a t) p h = field-through (a .0) (pathOf p) t (factTy (typeAt T t)) refl ∙ through (a .0) (pathOf p) t (Key x) (factTy (typeAt T t)) refl
+  field-as-past (Sk.Value a t) p h = absurd (miss (0 ∷ 1 ∷ 2 ∷ 3 ∷ 5 ∷ []) 4 tt h)
+  field-as-past (Sk.Const c) p h = refl
+
+  pub select-as-past : (slot : File.Slot) → selectSlot (ops T) T n slot x s ≡ readPast T n (Select x) slot s
+  unfolding dereference _whenFound_ follow give selectSlot
+  select-as-past (File.Slot.Row a q) = refl
+  select-as-past (File.Slot.Key a t) = refl
+  select-as-past (File.Slot.Derived a) = refl
+  select-as-past (File.Slot.Field a p t) = select-through a p t (factTy (typeAt T t)) refl ∙ through a p t (Select x) (factTy (typeAt T t)) refl
+  select-as-past (File.Slot.Value a t) = value-select a t (factTy (typeAt T t))
+  select-as-past (File.Slot.Const c) = refl
 
 -- what is shown of every slot that the rules give is shown of an answer's
 pub rooms-from : (T : Tables) {g : Resolver State} {l : Lists} {w : List ℕ} {r : Answer} {w′ : List ℕ} → Answers g l w r w′ → ((s : State) → GivenSlotRoom T (g s .slot)) → GivenSlotRoom T (given r)

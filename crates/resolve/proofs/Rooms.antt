@@ -122,7 +122,7 @@ module _ {T : Tables} (W : Sound T) where
     fetched-row n p none w = refuses n Code.NyiFactField w
     fetched-row n p (some r) w = gives _ w (given-some (Slot.Row r (some p)) tt)
 
-    pub dereference-room : (n : ℕ) (s : Slot) (w : S) → SlotRoom T s → Gives (dereference o T n s w)
+    dereference-room : (n : ℕ) (s : Slot) (w : S) → SlotRoom T s → Gives (dereference o T n s w)
     unfolding dereference
     dereference-room n (Slot.Row a p) w ok = gives _ w (given-some (Slot.Row a p) ok)
     dereference-room n (Slot.Key a t) w ok = gives _ w (given-some (Slot.Key a t) ok)

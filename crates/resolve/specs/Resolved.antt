@@ -86,6 +86,12 @@ readSlot T n (Select x) s = ResolveRules.selectSlot (ops T) T n s x
 abbrev pub readPast : Tables → ℕ → Read → File.Slot → Resolver State
 readPast T n read s = ResolveRules.dereference (ops T) T n s whenFound readSlot T n read
 
+abbrev pub fieldPast : Tables → ℕ → ℕ → File.Slot → Resolver State
+fieldPast T n x = readPast T n (Key x)
+
+abbrev pub valuePast : Tables → ℕ → File.Slot → Resolver State
+valuePast T n = readPast T n Value
+
 -- what a node gives that reads of no other
 unfoldable pub leafSlot : Tables → (ℕ → Option File.Slot) → ℕ → Node → Option File.Slot
 leafSlot T lookup n (Node.Int bytes) = none

@@ -10,6 +10,7 @@ ghost use Rattle.rules.specs.File as File;
 ghost use Rattle.rules.specs.File.{Tables, nodeAt, isConstant};
 ghost use Rattle.rules.specs.Lookup.{hoistedSlot};
 ghost use Rattle.rules.specs.Resolve as ResolveRules;
+ghost use Rattle.rules.specs.Resolve.{_whenFound_};
 ghost use Rattle.file.specs.Tables.{Indexed, tablesOf};
 ghost use Rattle.paths.specs.Paths.{pathOf};
 ghost use Rattle.state.specs.State.{Level, Target};
@@ -20,7 +21,7 @@ ghost use Rattle.lists.specs.Lists.{codeOf, stateWith};
 ghost use Rattle.fields.specs.Found.{addressOption};
 ghost use Rattle.tables.specs.Tables.{alternativeOption};
 ghost use Rattle.resolve.specs.Resolved.{given, found, answerWith, Answers, Follows, Climbs, GivenSlotRoom};
-ghost use Rattle.resolve.specs.Resolved.{baseOf, readSlot, readPast, leafSlot, leafAt};
+ghost use Rattle.resolve.specs.Resolved.{baseOf, readPast, fieldPast, valuePast, leafSlot, leafAt};
 ghost use Rattle.resolve.specs.Chains.{readOf, chain, bottom, readUp, climb};
 use fields::MaybeAddress;
 use fields::MaybeName;
@@ -213,27 +214,32 @@ pub fn dereference(
     }
 }
 
-// A field of a row that a reference names: of anything else there is none.
-fn field_of_row(file: &[u8], index: &[u16], name: usize, row: Answer) -> Answer
+// A field of the row that a reference names, if that was fetched.
+fn field_of_fetched(
+    file: &[u8],
+    index: &[u16],
+    work: &mut [u8],
+    node: usize,
+    predicate: PredicateId,
+    register: MaybeAddress,
+    name: usize,
+    lists: Lists,
+) -> Answer
     requires { ⌜ Indexed (now file) (now index) ⌝ }
     ensures { λ r. ⌜ (
         let T = tablesOf (now (file .entry)) in
-        ((w : List ℕ) → Follows (ResolveRules.fieldOfRow (ops T) T name) row w r w)
+        let before = now (work .entry) in
+        let after = now (work .exit) in
+        let row = ResolveRules.fetchedRow (ops T) T node (predicate .0) (addressOption register) in
+        Answers (row whenFound ResolveRules.fieldOfRow (ops T) T name) lists before r after
         ) ⌝ }
 {
-    let lists = row.lists;
-    if !row.some {
-        return gives(nothing(), lists);
-    }
-    let slot = row.slot;
-    let kind = slot.kind;
-    match kind {
-        SlotKind::Row(a, p) => gives(row_field(file, index, a, p, name), lists),
-        SlotKind::Key(a, t) => gives(nothing(), lists),
-        SlotKind::Derived(a) => gives(nothing(), lists),
-        SlotKind::Field(a, t) => gives(nothing(), lists),
-        SlotKind::Value(a, t) => gives(nothing(), lists),
-        SlotKind::Const(n) => gives(nothing(), lists),
+    match register {
+        MaybeAddress::Nothing => declined(work, node, Code::NyiFactField, lists),
+        MaybeAddress::Just(a) => gives(
+            row_field(file, index, a, MaybePredicate::Just(predicate), name),
+            lists,
+        ),
     }
 }
 
@@ -259,11 +265,15 @@ fn field_below(
 {
     match fact_ty(file, index, ty) {
         MaybePredicate::Nothing => gives(path_field(file, index, address, path, ty, name), lists),
-        MaybePredicate::Just(p) => field_of_row(
+        MaybePredicate::Just(p) => field_of_fetched(
             file,
             index,
+            work,
+            node,
+            p,
+            fetched_register(file, index, address, within(path)),
             name,
-            dereference_field(file, index, work, node, address, path, ty, lists),
+            lists,
         ),
     }
 }
@@ -486,32 +496,82 @@ fn base_of(file: &[u8], index: &[u16], node: usize) -> Base
     }
 }
 
-fn read_slot(
+// A field of a row's value side: there is none, and the diagnostic tells a reference from anything else.
+fn field_of_value(
     file: &[u8],
     index: &[u16],
     work: &mut [u8],
     node: usize,
-    read: Read,
-    place: Answer,
+    ty: usize,
+    lists: Lists,
 ) -> Answer
-    requires { ⌜ AcceptedFile (now file) (now index) ⌝ }
-    requires { ⌜ GivenSlotRoom (tablesOf (now file)) (given place) ⌝ }
-    requires { ⌜ found place ≡ tidied (found place) ⌝ }
-    ensures { λ r. ⌜ Follows (readSlot (tablesOf (now (file .entry))) node read) place (now (work .entry)) r (now (work .exit)) ⌝ }
+    requires { ⌜ Indexed (now file) (now index) ⌝ }
+    ensures { λ r. ⌜ ((address name : ℕ) → (
+        let T = tablesOf (now (file .entry)) in
+        let before = now (work .entry) in
+        let after = now (work .exit) in
+        Answers (fieldPast T node name (File.Slot.Value address ty)) lists before r after
+        )) ⌝ }
 {
-    if !place.some {
-        return gives(nothing(), place.lists);
-    }
-    let slot = place.slot;
-    let lists = place.lists;
-    match read {
-        Read::Key(x) => field_slot(file, index, work, node, slot, x, lists),
-        Read::Value => value_slot(file, index, slot, lists),
-        Read::Select(x) => select_slot(file, index, work, node, slot, x, lists),
+    match fact_ty(file, index, ty) {
+        MaybePredicate::Nothing => declined(work, node, Code::NyiValueField, lists),
+        MaybePredicate::Just(p) => declined(work, node, Code::NyiFactField, lists),
     }
 }
 
-// A read of a base's answer, past a reference.
+// A field of a slot, past a reference: `field_slot` follows one that a key holds, and on a row's value side none is followed.
+fn field_past(
+    file: &[u8],
+    index: &[u16],
+    work: &mut [u8],
+    node: usize,
+    slot: Slot,
+    name: usize,
+    lists: Lists,
+) -> Answer
+    requires { ⌜ AcceptedFile (now file) (now index) ⌝ }
+    requires { ⌜ TidyRoom (tablesOf (now file)) slot ⌝ }
+    ensures { λ r. ⌜ (
+        let T = tablesOf (now (file .entry)) in
+        let before = now (work .entry) in
+        let after = now (work .exit) in
+        Answers (fieldPast T node name (slotOf slot)) lists before r after
+        ) ⌝ }
+{
+    let kind = slot.kind;
+    if let SlotKind::Value(a, t) = kind {
+        field_of_value(file, index, work, node, t, lists)
+    } else {
+        field_slot(file, index, work, node, slot, name, lists)
+    }
+}
+
+// The value side, past a reference.
+fn value_past(
+    file: &[u8],
+    index: &[u16],
+    work: &mut [u8],
+    node: usize,
+    slot: Slot,
+    lists: Lists,
+) -> Answer
+    requires { ⌜ Indexed (now file) (now index) ⌝ }
+    requires { ⌜ slot ≡ tidySlot slot ⌝ }
+    ensures { λ r. ⌜ (
+        let T = tablesOf (now (file .entry)) in
+        let before = now (work .entry) in
+        let after = now (work .exit) in
+        Answers (valuePast T node (slotOf slot)) lists before r after
+        ) ⌝ }
+{
+    let row = dereference(file, index, work, node, slot, lists);
+    if !row.some {
+        return gives(nothing(), row.lists);
+    }
+    value_slot(file, index, row.slot, row.lists)
+}
+
+// A read of a base's answer, past a reference. A select of a reference is declined, whether it was fetched or not.
 fn read_past(
     file: &[u8],
     index: &[u16],
@@ -530,8 +590,11 @@ fn read_past(
     }
     let slot = base.slot;
     let lists = base.lists;
-    let place = dereference(file, index, work, node, slot, lists);
-    read_slot(file, index, work, node, read, place)
+    match read {
+        Read::Key(x) => field_past(file, index, work, node, slot, x, lists),
+        Read::Value => value_past(file, index, work, node, slot, lists),
+        Read::Select(x) => select_slot(file, index, work, node, slot, x, lists),
+    }
 }
 
 fn constant_node(file: &[u8], index: &[u16], node: usize) -> bool
