@@ -13,7 +13,7 @@ use Rattle.rules.specs.Checks.{checks, fault}
 use Rattle.rules.specs.Constant.{unionTag, term}
 use Rattle.rules.specs.Events.{Select, Diagnostic, Narrowing, Event, Lists}
 use Rattle.rules.specs.Walk.{walkLevel}
-use Rattle.rules.specs.Placement.{SeekKeyPart, Guide, Range, SeekBuilder, new, place, placeAll, SeekKey, joined}
+use Rattle.rules.specs.Placement.{SeekKeyPart, Part, Guide, Range, SeekBuilder, new, place, placeAll, SeekKey, joined, nodesOf}
 use Rattle.rules.specs.Levels.{Level, starting, narrowings}
 use Rattle.rules.specs.Now.{levelsNow}
 use Rattle.rules.specs.Plan.{PlanLevel, Plan, planLevel, planBytes}
@@ -27,23 +27,26 @@ unfoldable pub beforeFall : Tables → SeekBuilder → List Event → List Event
 beforeFall T b [] = []
 beforeFall T b (e ∷ es) = elim (place T e b .building) [ true ↦ e ∷ beforeFall T (place T e b) es | false ↦ [] ]
 
--- the part of a "byte, tag, register and fact" narrowing and of a closer
-unfoldable pub partsOf : Event → List SeekKeyPart
-partsOf (Event.narrow path (Narrowing.Bytes bytes)) = SeekKeyPart.Bytes bytes ∷ []
-partsOf (Event.narrow path (Narrowing.Tag disc)) = SeekKeyPart.Bytes (unionTag disc) ∷ []
-partsOf (Event.narrow path (Narrowing.RegisterField address at)) = SeekKeyPart.RegisterField address at ∷ []
-partsOf (Event.narrow path (Narrowing.FactId address)) = SeekKeyPart.RegisterFactId address ∷ []
-partsOf (Event.narrow path (Narrowing.Prefix prefix)) = []
-partsOf (Event.narrow path (Narrowing.Fuzzy x distance anchor)) = []
+-- the part of a "byte, tag, register and fact" narrowing and of a closer, with the event's node
+abbrev pub madeBy : ℕ → SeekKeyPart → List Part
+madeBy n key = record { key = key; node = n } ∷ []
+
+unfoldable pub partsOf : Event → List Part
+partsOf (Event.narrow n path (Narrowing.Bytes bytes)) = madeBy n (SeekKeyPart.Bytes bytes)
+partsOf (Event.narrow n path (Narrowing.Tag disc)) = madeBy n (SeekKeyPart.Bytes (unionTag disc))
+partsOf (Event.narrow n path (Narrowing.RegisterField address at)) = madeBy n (SeekKeyPart.RegisterField address at)
+partsOf (Event.narrow n path (Narrowing.FactId address)) = madeBy n (SeekKeyPart.RegisterFactId address)
+partsOf (Event.narrow n path (Narrowing.Prefix prefix)) = []
+partsOf (Event.narrow n path (Narrowing.Fuzzy x distance anchor)) = []
 partsOf Event.skip = []
-partsOf Event.closer = SeekKeyPart.Bytes term ∷ []
+partsOf (Event.closer n) = madeBy n (SeekKeyPart.Bytes term)
 partsOf (Event.bound x t) = []
 
 -- "all closer events", by number
 unfoldable pub closersOf : Event → ℕ
-closersOf (Event.narrow path x) = 0
+closersOf (Event.narrow n path x) = 0
 closersOf Event.skip = 0
-closersOf Event.closer = 1
+closersOf (Event.closer n) = 1
 closersOf (Event.bound x t) = 0
 
 unfoldable pub closersIn : List Event → ℕ
@@ -82,7 +85,7 @@ pub record Adds (start left : Lists) : Type 0 where
 pub record Kept (T : Tables) (events : List Event) (b : SeekBuilder) : Type 0 where
   -- "building never returns once it fell"
   pub never-returns : (i k : ℕ) → buildingAfter T events i ≡ false → buildingAfter T events (i + k) ≡ false
-  -- "the parts are exactly the byte, tag, register and fact narrowings and closers made before the fall, in order"
+  -- "the parts are exactly the byte, tag, register and fact narrowings and closers made before the fall, in order", with their nodes
   pub parts : b .parts ≡ concatMap partsOf (beforeFall T new events)
   -- the closers that became parts are "all closer events before the fall"
   pub closers : b .closers ≡ closersIn (beforeFall T new events)
@@ -144,28 +147,28 @@ pub record Demand3 (bytes out : List ℕ) : Type 0 where
 
 -- What a plan's own items keep, level by level: this much a reader of the plan can see without the rule file.
 
--- the seek's parts, where they are not joined
-unfoldable pub seekParts : SeekKey → Option (List SeekKeyPart)
-seekParts (SeekKey.Prefix bytes) = none
-seekParts (SeekKey.Composite parts) = some parts
-seekParts (SeekKey.PrefixRange parts range) = some parts
-seekParts (SeekKey.Bounded parts lo hi) = some parts
+-- the nodes of the seek's parts, one for each, also where the parts are joined
+unfoldable pub seekNodes : SeekKey → List ℕ
+seekNodes (SeekKey.Prefix bytes nodes) = nodes
+seekNodes (SeekKey.Composite parts) = nodesOf parts
+seekNodes (SeekKey.PrefixRange parts range) = nodesOf parts
+seekNodes (SeekKey.Bounded parts lo hi) = nodesOf parts
 
 unfoldable pub seekRange : SeekKey → Option Range
-seekRange (SeekKey.Prefix bytes) = none
+seekRange (SeekKey.Prefix bytes nodes) = none
 seekRange (SeekKey.Composite parts) = none
 seekRange (SeekKey.PrefixRange parts range) = some range
 seekRange (SeekKey.Bounded parts lo hi) = none
 
 unfoldable pub seekEdges : SeekKey → ℕ
-seekEdges (SeekKey.Prefix bytes) = 0
+seekEdges (SeekKey.Prefix bytes nodes) = 0
 seekEdges (SeekKey.Composite parts) = 0
 seekEdges (SeekKey.PrefixRange parts range) = 0
 seekEdges (SeekKey.Bounded parts lo hi) = number lo + number hi
 
 -- Composite has a part that is not bytes, and Bounded an edge
 abbrev pub WellFormed : SeekKey → Type 0
-WellFormed (SeekKey.Prefix bytes) = Unit {0}
+WellFormed (SeekKey.Prefix bytes nodes) = Unit {0}
 WellFormed (SeekKey.Composite parts) = joined parts ≡ none
 WellFormed (SeekKey.PrefixRange parts range) = Unit {0}
 WellFormed (SeekKey.Bounded parts lo hi) = 0 < number lo + number hi
@@ -176,10 +179,10 @@ pub record AddsUp (l : PlanLevel) : Type 0 where
   pub edges-folded : seekEdges (l .seek) ≡ length (l .folded)
   pub edge-excludes : 0 < seekEdges (l .seek) → (seekRange (l .seek) ≡ none) × (l .guide ≡ none)
   pub guide-path : (g : Guide) (r : Range) → l .guide ≡ some g → seekRange (l .seek) ≡ some r → g .path ≡ r .path
-  pub parts-held : (parts : List SeekKeyPart) → seekParts (l .seek) ≡ some parts → length parts ≡ l .parts
+  pub parts-held : length (seekNodes (l .seek)) ≡ l .parts
   pub well-formed : WellFormed (l .seek)
 
 unfoldable pub openDemand3 : Unit {0}
-unfolding buildingAfter beforeFall partsOf closersOf closersIn number edges alreadyBound entryAt levelAt startOf seekParts seekRange
+unfolding buildingAfter beforeFall partsOf closersOf closersIn number edges alreadyBound entryAt levelAt startOf seekNodes seekRange
     seekEdges
 openDemand3 = tt

@@ -42,11 +42,12 @@ pub data Narrowing : Type 0 where
   Prefix : List ℕ → Narrowing
   Fuzzy : ℕ → ℕ → Anchor → Narrowing
 
--- "the level's events in the order met, each a narrowing, a skip, a closer or a bound"; a bound has its Var's name and type
+-- "the level's events in the order met, each a narrowing, a skip, a closer or a bound"; a bound has its Var's name and type. Request [2]: a
+-- narrowing has the number of the node that made it, a closer that of its union's record.
 pub data Event : Type 0 where
-  narrow : FieldPath → Narrowing → Event
+  narrow : ℕ → FieldPath → Narrowing → Event
   skip : Event
-  closer : Event
+  closer : ℕ → Event
   bound : ℕ → ℕ → Event
 
 -- "Four lists go from level to level: bindings, constrained names, selects and diagnostics."
@@ -114,7 +115,7 @@ emit e w = record { lists = w .lists; events = w .events ++ (e ∷ []) }
 
 -- What the walk asks of whatever keeps its lists and takes its events. The walk is told over any such S, so that it can be read once for
 -- these lists and once for a program's memory. `constant` is asked of the state too, since the Rust's reads the bindings as they stand.
--- `closer` is given what stood before its tag.
+-- `narrow` and `closer` are given the node first, and `closer` what stood before its tag.
 pub record Ops (S : Type 0) : Type 0 where
   pub lookup : S → ℕ → Option Slot
   pub constant : S → ℕ → ℕ → Option Const
@@ -123,9 +124,9 @@ pub record Ops (S : Type 0) : Type 0 where
   pub constrained : ℕ → S → S
   pub select : ℕ → FieldPath → ℕ → S → S
   pub report : ℕ → Code → S → S
-  pub narrow : FieldPath → Narrowing → S → S
+  pub narrow : ℕ → FieldPath → Narrowing → S → S
   pub skip : S → S
-  pub closer : S → S → S
+  pub closer : ℕ → S → S → S
   pub bound : ℕ → ℕ → S → S
 
 -- the lists and events of this document; `constant` reads the file's bindings
@@ -139,9 +140,9 @@ walkOps T =
       constrained = constrained;
       select = select;
       report = report;
-      narrow = λ path x w. emit (Event.narrow path x) w;
+      narrow = λ n path x w. emit (Event.narrow n path x) w;
       skip = λ w. emit Event.skip w;
-      closer = λ before w. emit Event.closer w;
+      closer = λ n before w. emit (Event.closer n) w;
       bound = λ x t w. emit (Event.bound x t) w;
     }
 

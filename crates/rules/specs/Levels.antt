@@ -41,9 +41,9 @@ leftBy start (l ∷ ls) = leftBy (l .left) ls
 -- "Narrowings are the level's narrowing events", counted on the walk alone
 unfoldable pub narrowings : List Event → ℕ
 narrowings [] = 0
-narrowings (Event.narrow path x ∷ es) = suc (narrowings es)
+narrowings (Event.narrow n path x ∷ es) = suc (narrowings es)
 narrowings (Event.skip ∷ es) = narrowings es
-narrowings (Event.closer ∷ es) = narrowings es
+narrowings (Event.closer n ∷ es) = narrowings es
 narrowings (Event.bound x t ∷ es) = narrowings es
 
 unfoldable pub openLevels : Unit {0}

@@ -56,9 +56,9 @@ nowOps T =
       constrained = λ x s. onLists (constrained x) s;
       select = λ address path disc s. onLists (select address path disc) s;
       report = λ n code s. onLists (report n code) s;
-      narrow = λ path x s. meet T (Event.narrow path x) s;
+      narrow = λ n path x s. meet T (Event.narrow n path x) s;
       skip = λ s. meet T Event.skip s;
-      closer = λ before s. meet T Event.closer s;
+      closer = λ n before s. meet T (Event.closer n) s;
       bound = λ x t s. meet T (Event.bound x t) s;
     }
 

@@ -15,20 +15,28 @@ pub data SeekKeyPart : Type 0 where
   RegisterField : ℕ → FieldPath → SeekKeyPart
   RegisterFactId : ℕ → SeekKeyPart
 
+-- Request [2]: "each part, residual, range and guide to carry the number of the node that made it"
+pub record Part : Type 0 where
+  pub key : SeekKeyPart
+  pub node : ℕ
+
 -- what a narrowing is where it is no part
 pub record Residual : Type 0 where
   pub path : FieldPath
   pub op : Narrowing
+  pub node : ℕ
 
 pub record Guide : Type 0 where
   pub path : FieldPath
   pub term : ℕ
   pub distance : ℕ
   pub anchor : Anchor
+  pub node : ℕ
 
 pub record Range : Type 0 where
   pub path : FieldPath
   pub prefix : List ℕ
+  pub node : ℕ
 
 pub record RangeEdge : Type 0 where
   pub value : List ℕ
@@ -44,7 +52,7 @@ pub record Edges : Type 0 where
 -- it.
 pub record SeekBuilder : Type 0 where
   pub building : Bool
-  pub parts : List SeekKeyPart
+  pub parts : List Part
   pub residuals : List Residual
   pub guide : Option Guide
   pub range : Option Range
@@ -67,7 +75,7 @@ new =
     }
 
 -- One change each.
-unfoldable pub withPart : SeekKeyPart → SeekBuilder → SeekBuilder
+unfoldable pub withPart : Part → SeekBuilder → SeekBuilder
 withPart part b =
     record {
       building = b .building;
@@ -80,12 +88,12 @@ withPart part b =
       opened = b .opened;
     }
 
-unfoldable pub withResidual : FieldPath → Narrowing → SeekBuilder → SeekBuilder
-withResidual path op b =
+unfoldable pub withResidual : Residual → SeekBuilder → SeekBuilder
+withResidual residual b =
     record {
       building = b .building;
       parts = b .parts;
-      residuals = b .residuals ++ (record { path = path; op = op } ∷ []);
+      residuals = b .residuals ++ (residual ∷ []);
       guide = b .guide;
       range = b .range;
       edges = b .edges;
@@ -173,15 +181,19 @@ fall b =
     }
 
 -- "The first four: a part while building .., else a residual."
-unfoldable pub placePart : SeekKeyPart → FieldPath → Narrowing → SeekBuilder → SeekBuilder
-placePart part path op b = elim (b .building) [ true ↦ withPart part b | false ↦ withResidual path op b ]
+unfoldable pub placePart : ℕ → SeekKeyPart → FieldPath → Narrowing → SeekBuilder → SeekBuilder
+placePart n part path op b =
+    elim (b .building) [
+      | true ↦ withPart (record { key = part; node = n }) b
+      | false ↦ withResidual (record { path = path; op = op; node = n }) b
+    ]
 
 -- "Prefix: while building it becomes the range, and building falls; else a residual."
-unfoldable pub placePrefix : FieldPath → List ℕ → SeekBuilder → SeekBuilder
-placePrefix path prefix b =
+unfoldable pub placePrefix : ℕ → FieldPath → List ℕ → SeekBuilder → SeekBuilder
+placePrefix n path prefix b =
     elim (b .building) [
-      | true ↦ fall (withRange (record { path = path; prefix = prefix }) b)
-      | false ↦ withResidual path (Narrowing.Prefix prefix) b
+      | true ↦ fall (withRange (record { path = path; prefix = prefix; node = n }) b)
+      | false ↦ withResidual (record { path = path; op = Narrowing.Prefix prefix; node = n }) b
     ]
 
 -- "either building holds or a range has the equal path"
@@ -193,30 +205,34 @@ unfoldable pub attachable : SeekBuilder → FieldPath → Bool
 attachable b path = elim (b .guide) [ some guide ↦ false | none ↦ elim (b .building) [ true ↦ true | false ↦ rangeAt (b .range) path ] ]
 
 -- "Fuzzy: the guide, if none is set and either building holds or a range has the equal path; building falls. Else a residual."
-unfoldable pub placeFuzzy : FieldPath → ℕ → ℕ → Anchor → SeekBuilder → SeekBuilder
-placeFuzzy path x distance anchor b =
+unfoldable pub placeFuzzy : ℕ → FieldPath → ℕ → ℕ → Anchor → SeekBuilder → SeekBuilder
+placeFuzzy n path x distance anchor b =
     elim (attachable b path) [
-      | true ↦ fall (withGuide (record { path = path; term = x; distance = distance; anchor = anchor }) b)
-      | false ↦ withResidual path (Narrowing.Fuzzy x distance anchor) b
+      | true ↦ fall (withGuide (record { path = path; term = x; distance = distance; anchor = anchor; node = n }) b)
+      | false ↦ withResidual (record { path = path; op = Narrowing.Fuzzy x distance anchor; node = n }) b
     ]
 
-unfoldable pub placeNarrowing : FieldPath → Narrowing → SeekBuilder → SeekBuilder
-placeNarrowing path (Narrowing.Bytes bytes) b = placePart (SeekKeyPart.Bytes bytes) path (Narrowing.Bytes bytes) b
-placeNarrowing path (Narrowing.Tag disc) b =
-    placePart (SeekKeyPart.Bytes (unionTag disc)) path (Narrowing.Tag disc) (withOpened (b .building ∷ b .opened) b)
-placeNarrowing path (Narrowing.RegisterField address at) b =
-    placePart (SeekKeyPart.RegisterField address at) path (Narrowing.RegisterField address at) b
-placeNarrowing path (Narrowing.FactId address) b = placePart (SeekKeyPart.RegisterFactId address) path (Narrowing.FactId address) b
-placeNarrowing path (Narrowing.Prefix prefix) b = placePrefix path prefix b
-placeNarrowing path (Narrowing.Fuzzy x distance anchor) b = placeFuzzy path x distance anchor b
+unfoldable pub placeNarrowing : ℕ → FieldPath → Narrowing → SeekBuilder → SeekBuilder
+placeNarrowing n path (Narrowing.Bytes bytes) b = placePart n (SeekKeyPart.Bytes bytes) path (Narrowing.Bytes bytes) b
+placeNarrowing n path (Narrowing.Tag disc) b =
+    placePart n (SeekKeyPart.Bytes (unionTag disc)) path (Narrowing.Tag disc) (withOpened (b .building ∷ b .opened) b)
+placeNarrowing n path (Narrowing.RegisterField address at) b =
+    placePart n (SeekKeyPart.RegisterField address at) path (Narrowing.RegisterField address at) b
+placeNarrowing n path (Narrowing.FactId address) b = placePart n (SeekKeyPart.RegisterFactId address) path (Narrowing.FactId address) b
+placeNarrowing n path (Narrowing.Prefix prefix) b = placePrefix n path prefix b
+placeNarrowing n path (Narrowing.Fuzzy x distance anchor) b = placeFuzzy n path x distance anchor b
 
 -- "Closer: one part of byte 00 if building held before its tag and still holds, else nothing."
-unfoldable pub closePart : Bool → SeekBuilder → SeekBuilder
-closePart held b = elim (both held (b .building)) [ true ↦ withCloser (withPart (SeekKeyPart.Bytes term) b) | false ↦ b ]
+unfoldable pub closePart : ℕ → Bool → SeekBuilder → SeekBuilder
+closePart n held b =
+    elim (both held (b .building)) [
+      | true ↦ withCloser (withPart (record { key = SeekKeyPart.Bytes term; node = n }) b)
+      | false ↦ b
+    ]
 
-unfoldable pub placeCloser : List Bool → SeekBuilder → SeekBuilder
-placeCloser [] b = b
-placeCloser (held ∷ outer) b = closePart held (withOpened outer b)
+unfoldable pub placeCloser : ℕ → List Bool → SeekBuilder → SeekBuilder
+placeCloser n [] b = b
+placeCloser n (held ∷ outer) b = closePart n held (withOpened outer b)
 
 -- Rust `flipped`: a table of four
 unfoldable pub flipped : CompareOp → CompareOp
@@ -283,9 +299,9 @@ unfoldable pub placeBound : Tables → ℕ → ℕ → SeekBuilder → SeekBuild
 placeBound T x t b = elim (b .building) [ true ↦ withEdges (foldFrom T x t 0 (T .comparisons) (b .edges)) b | false ↦ b ]
 
 unfoldable pub place : Tables → Event → SeekBuilder → SeekBuilder
-place T (Event.narrow path x) b = placeNarrowing path x b
+place T (Event.narrow n path x) b = placeNarrowing n path x b
 place T Event.skip b = fall b
-place T Event.closer b = placeCloser (b .opened) b
+place T (Event.closer n) b = placeCloser n (b .opened) b
 place T (Event.bound x t) b = placeBound T x t b
 
 -- "Placement begins anew at each level and takes its events one by one"
@@ -293,26 +309,36 @@ unfoldable pub placeAll : Tables → List Event → SeekBuilder → SeekBuilder
 placeAll T [] b = b
 placeAll T (e ∷ es) b = placeAll T es (place T e b)
 
+-- a Prefix seek has its parts joined, and "its parts' nodes after the joined text, one for each part, in order"
 pub data SeekKey : Type 0 where
-  Prefix : List ℕ → SeekKey
-  Composite : List SeekKeyPart → SeekKey
-  PrefixRange : List SeekKeyPart → Range → SeekKey
-  Bounded : List SeekKeyPart → Option RangeEdge → Option RangeEdge → SeekKey
+  Prefix : List ℕ → List ℕ → SeekKey
+  Composite : List Part → SeekKey
+  PrefixRange : List Part → Range → SeekKey
+  Bounded : List Part → Option RangeEdge → Option RangeEdge → SeekKey
 
 -- "Prefix (parts joined) if all parts are bytes, none included"
-unfoldable pub joined : List SeekKeyPart → Option (List ℕ)
+unfoldable pub asBytes : SeekKeyPart → Option (List ℕ)
+asBytes (SeekKeyPart.Bytes bytes) = some bytes
+asBytes (SeekKeyPart.RegisterField address path) = none
+asBytes (SeekKeyPart.RegisterFactId address) = none
+
+unfoldable pub joined : List Part → Option (List ℕ)
 joined [] = some []
-joined (SeekKeyPart.Bytes bytes ∷ parts) = do
+joined (part ∷ parts) = do
+  bytes ← asBytes (part .key)
   rest ← joined parts
   some (bytes ++ rest)
-joined (SeekKeyPart.RegisterField address path ∷ parts) = none
-joined (SeekKeyPart.RegisterFactId address ∷ parts) = none
 
-unfoldable pub unranged : List SeekKeyPart → SeekKey
-unranged parts = elim (joined parts) [ some bytes ↦ SeekKey.Prefix bytes | none ↦ SeekKey.Composite parts ]
+-- the nodes of parts, in order
+unfoldable pub nodesOf : List Part → List ℕ
+nodesOf [] = []
+nodesOf (part ∷ parts) = part .node ∷ nodesOf parts
+
+unfoldable pub unranged : List Part → SeekKey
+unranged parts = elim (joined parts) [ some bytes ↦ SeekKey.Prefix bytes (nodesOf parts) | none ↦ SeekKey.Composite parts ]
 
 -- "Seek: Bounded with an edge, else PrefixRange with a range, else Prefix .., else Composite." (Rust `seek_key`)
-unfoldable pub seek : List SeekKeyPart → Option Range → Option RangeEdge → Option RangeEdge → SeekKey
+unfoldable pub seek : List Part → Option Range → Option RangeEdge → Option RangeEdge → SeekKey
 seek parts range (some lo) hi = SeekKey.Bounded parts (some lo) hi
 seek parts range none (some hi) = SeekKey.Bounded parts none (some hi)
 seek parts (some range) none none = SeekKey.PrefixRange parts range
@@ -324,5 +350,5 @@ seekKey b = seek (b .parts) (b .range) (b .edges .lo) (b .edges .hi)
 unfoldable pub openPlacement : Unit {0}
 unfolding new withPart withResidual withGuide withRange withEdges withCloser withOpened fall placePart placePrefix rangeAt attachable
     placeFuzzy placeNarrowing closePart placeCloser flipped isVar compared takeHi takeLo takeEdge sided foldFrom placeBound place placeAll
-    joined unranged seek seekKey
+    asBytes joined nodesOf unranged seek seekKey
 openPlacement = tt

@@ -7,7 +7,7 @@ use lib.ListN.{length, drop}
 use Rattle.rules.specs.Base.{concatMap}
 use Rattle.rules.specs.File.{Tables, Anchor, FieldPath, Slot, Binding}
 use Rattle.rules.specs.Events.{codeNumber, Select, Diagnostic, Narrowing, Lists}
-use Rattle.rules.specs.Placement.{SeekKeyPart, Residual, Guide, RangeEdge, SeekKey, seekKey}
+use Rattle.rules.specs.Placement.{SeekKeyPart, Part, Residual, Guide, RangeEdge, SeekKey, seekKey}
 use Rattle.rules.specs.Levels.{Level, starting, levels, leftBy, narrowings}
 
 -- A level's counts, seek, guide, residuals and folded comparisons.
@@ -98,10 +98,14 @@ unfoldable pub diagnostic : Diagnostic → List ℕ
 diagnostic d = u16 (d .node) ++ (codeNumber (d .code) ∷ [])
 
 -- "the parts, each u8 0 text, 1 address and path, 2 address"
-unfoldable pub part : SeekKeyPart → List ℕ
-part (SeekKeyPart.Bytes bytes) = 0 ∷ text bytes
-part (SeekKeyPart.RegisterField address at) = 1 ∷ u16 address ++ path at
-part (SeekKeyPart.RegisterFactId address) = 2 ∷ u16 address
+unfoldable pub partKey : SeekKeyPart → List ℕ
+partKey (SeekKeyPart.Bytes bytes) = 0 ∷ text bytes
+partKey (SeekKeyPart.RegisterField address at) = 1 ∷ u16 address ++ path at
+partKey (SeekKeyPart.RegisterFactId address) = 2 ∷ u16 address
+
+-- request [2]: "The node is a u16 after each such entry"
+unfoldable pub part : Part → List ℕ
+part p = partKey (p .key) ++ u16 (p .node)
 
 -- "each u8 0 none, 1 exclusive, 2 inclusive, then its text unless none"
 unfoldable pub inclusive : Bool → ℕ
@@ -114,15 +118,15 @@ edge (some e) = inclusive (e .inclusive) ∷ text (e .value)
 
 -- "u8 seek (0 Prefix, 1 Composite, 2 PrefixRange, 3 Bounded)", then what each holds
 unfoldable pub seek : SeekKey → List ℕ
-seek (SeekKey.Prefix bytes) = 0 ∷ text bytes
+seek (SeekKey.Prefix bytes nodes) = 0 ∷ text bytes ++ concatMap u16 nodes
 seek (SeekKey.Composite parts) = 1 ∷ concatMap part parts
-seek (SeekKey.PrefixRange parts range) = 2 ∷ concatMap part parts ++ text (range .prefix) ++ path (range .path)
+seek (SeekKey.PrefixRange parts range) = 2 ∷ concatMap part parts ++ text (range .prefix) ++ path (range .path) ++ u16 (range .node)
 seek (SeekKey.Bounded parts lo hi) = 3 ∷ concatMap part parts ++ edge lo ++ edge hi
 
 -- "guide: u8 0, or 1, path, name, distance, anchor"
 unfoldable pub guide : Option Guide → List ℕ
 guide none = 0 ∷ []
-guide (some g) = 1 ∷ path (g .path) ++ fuzzy (g .term) (g .distance) (g .anchor)
+guide (some g) = 1 ∷ path (g .path) ++ fuzzy (g .term) (g .distance) (g .anchor) ++ u16 (g .node)
 
 -- "u8 op: 0 bytes, 1 prefix, 2 address and path, 3 address, 4 u32 disc, 5 name, distance, anchor"
 unfoldable pub op : Narrowing → List ℕ
@@ -134,7 +138,7 @@ op (Narrowing.Tag disc) = 4 ∷ u32 disc
 op (Narrowing.Fuzzy x distance a) = 5 ∷ fuzzy x distance a
 
 unfoldable pub residual : Residual → List ℕ
-residual r = path (r .path) ++ op (r .op)
+residual r = path (r .path) ++ op (r .op) ++ u16 (r .node)
 
 unfoldable pub levelBytes : PlanLevel → List ℕ
 levelBytes l =
@@ -147,6 +151,6 @@ planBytes p =
     counted diagnostic (p .diagnostics)
 
 unfoldable pub openPlan : Unit {0}
-unfolding planLevel planOf plan u16 u32 counted text path anchor fuzzy optional slot binding select diagnostic part inclusive edge seek
+unfolding planLevel planOf plan u16 u32 counted text path anchor fuzzy optional slot binding select diagnostic partKey part inclusive edge seek
     guide op residual levelBytes planBytes
 openPlan = tt

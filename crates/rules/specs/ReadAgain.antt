@@ -13,7 +13,7 @@ use Rattle.rules.specs.Reader
 
 -- what a seek of each kind keeps
 abbrev pub SeekKept : SeekKey → Option Guide → Type 0
-SeekKept (SeekKey.Prefix bytes) g = Unit {0}
+SeekKept (SeekKey.Prefix bytes nodes) g = Unit {0}
 -- "uses Composite only where some part isn't bytes"
 SeekKept (SeekKey.Composite parts) g = joined parts ≡ none
 -- "a guide beside a range has the range's path"

@@ -14,7 +14,7 @@ use Rattle.rules.specs.Read.{Read, got, Reader, _>>=_, pure, refuse, u8,
 use Rattle.rules.specs.Read.{anchor, rowSlot, keySlot, derivedSlot, valueSlot, constSlot}
 use Rattle.rules.specs.Lookup.{samePath}
 use Rattle.rules.specs.Events.{Code, Select, Diagnostic, Narrowing}
-use Rattle.rules.specs.Placement.{SeekKeyPart, Residual, Guide, RangeEdge, SeekKey, joined}
+use Rattle.rules.specs.Placement.{SeekKeyPart, Part, Residual, Guide, RangeEdge, SeekKey, joined}
 use Rattle.rules.specs.Plan.{PlanLevel, Plan, planBytes}
 use Rattle.rules.specs.Compile.{Outcome, Compiled, compiled}
 use Rattle.rules.specs.Demand3.{number, seekRange, seekEdges}
@@ -98,8 +98,15 @@ factPart = do
   a ← u16
   pure (SeekKeyPart.RegisterFactId a)
 
-unfoldable pub part : Reader SeekKeyPart
-part = kind (bytesPart ∷ registerPart ∷ factPart ∷ [])
+unfoldable pub partKey : Reader SeekKeyPart
+partKey = kind (bytesPart ∷ registerPart ∷ factPart ∷ [])
+
+-- request [2]: "The node is a u16 after each such entry, and the plan reader of [1] reads it."
+unfoldable pub part : Reader Part
+part = do
+  k ← partKey
+  n ← u16
+  pure (record { key = k; node = n })
 
 -- "lo and hi, each u8 0 none, 1 exclusive, 2 inclusive, then its text unless none"
 unfoldable pub edgeThat : Bool → Reader (Option RangeEdge)
@@ -111,10 +118,12 @@ unfoldable pub edge : Reader (Option RangeEdge)
 edge = kind (pure none ∷ edgeThat false ∷ edgeThat true ∷ [])
 
 -- "u8 seek (0 Prefix, 1 Composite, 2 PrefixRange, 3 Bounded)", then what each holds. The parts have no second count: n is the level's.
-unfoldable pub prefixSeek : Reader SeekKey
-prefixSeek = do
+-- "A Prefix seek has its parts' nodes after the joined text, one for each part, in order."
+unfoldable pub prefixSeek : ℕ → Reader SeekKey
+prefixSeek n = do
   bytes ← text
-  pure (SeekKey.Prefix bytes)
+  nodes ← many n u16
+  pure (SeekKey.Prefix bytes nodes)
 
 unfoldable pub compositeSeek : ℕ → Reader SeekKey
 compositeSeek n = do
@@ -126,7 +135,8 @@ rangeSeek n = do
   parts ← many n part
   prefix ← text
   p ← path
-  pure (SeekKey.PrefixRange parts (record { path = p; prefix = prefix }))
+  node ← u16
+  pure (SeekKey.PrefixRange parts (record { path = p; prefix = prefix; node = node }))
 
 unfoldable pub boundedSeek : ℕ → Reader SeekKey
 boundedSeek n = do
@@ -136,7 +146,7 @@ boundedSeek n = do
   pure (SeekKey.Bounded parts lo hi)
 
 unfoldable pub seek : ℕ → Reader SeekKey
-seek n = kind (prefixSeek ∷ compositeSeek n ∷ rangeSeek n ∷ boundedSeek n ∷ [])
+seek n = kind (prefixSeek n ∷ compositeSeek n ∷ rangeSeek n ∷ boundedSeek n ∷ [])
 
 -- "guide: u8 0, or 1, path, name, distance, anchor"
 unfoldable pub guideThat : Reader (Option Guide)
@@ -145,7 +155,8 @@ guideThat = do
   x ← u16
   distance ← u8
   a ← anchor
-  pure (some (record { path = p; term = x; distance = distance; anchor = a }))
+  n ← u16
+  pure (some (record { path = p; term = x; distance = distance; anchor = a; node = n }))
 
 unfoldable pub guide : Reader (Option Guide)
 guide = kind (pure none ∷ guideThat ∷ [])
@@ -192,7 +203,8 @@ unfoldable pub residual : Reader Residual
 residual = do
   p ← path
   o ← op
-  pure (record { path = p; op = o })
+  n ← u16
+  pure (record { path = p; op = o; node = n })
 
 -- "each: narrowings, closers that became parts, parts, u8 seek .. Then guide .. Residuals, counted .. Folded, counted."
 unfoldable pub level : Reader PlanLevel
@@ -242,7 +254,7 @@ edgesFolded l = eqb (seekEdges (l .seek)) (length (l .folded))
 -- What a seek of each kind asks besides. Composite: "only where some part isn't bytes". PrefixRange: a guide has the range's path.
 -- Bounded: "has an edge if Bounded", and an edge excludes a guide.
 unfoldable pub seekKeeps : SeekKey → Option Guide → Bool
-seekKeeps (SeekKey.Prefix bytes) g = true
+seekKeeps (SeekKey.Prefix bytes nodes) g = true
 seekKeeps (SeekKey.Composite parts) g = elim (joined parts) [ none ↦ true | some bytes ↦ false ]
 seekKeeps (SeekKey.PrefixRange parts range) g = elim g [ none ↦ true | some guide′ ↦ samePath (guide′ .path) (range .path) ]
 seekKeeps (SeekKey.Bounded parts lo hi) g = both (leb 1 (number lo + number hi)) (eqb (number g) 0)
@@ -274,7 +286,7 @@ readBack bytes out work = compiled (outcome bytes (length out)) (length out) (le
 
 unfoldable pub openReader : Unit {0}
 unfolding
-    counted text steps path fieldSlot slot binding select code diagnostic bytesPart registerPart factPart part edgeThat edge
+    counted text steps path fieldSlot slot binding select code diagnostic bytesPart registerPart factPart partKey part edgeThat edge
     prefixSeek compositeSeek rangeSeek boundedSeek seek guideThat guide bytesOp prefixOp registerOp factOp tagOp fuzzyOp op
     residual level plan numbered read closersAmongParts narrowingsSum edgesFolded seekKeeps levelRules judged
     finished outcome readBack

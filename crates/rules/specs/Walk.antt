@@ -42,6 +42,15 @@ rank (Node.Fact p key) = 0
 rank Node.Arith = 0
 rank Node.Error = 0
 
+-- Request [2]: the node of a whole key's field. "the level's own node, but of a Const slot the field's own node"
+unfoldable pub wholeNode : ℕ → Slot → ℕ
+wholeNode n (Slot.Row from p) = n
+wholeNode n (Slot.Key from ty) = n
+wholeNode n (Slot.Derived from) = n
+wholeNode n (Slot.Field from at ty) = n
+wholeNode n (Slot.Value from ty) = n
+wholeNode n (Slot.Const folded) = folded
+
 -- what a level's walk works on: a pattern's node, its type and its path
 abbrev pub FieldWalk : Type 0 → Type 0
 FieldWalk S = ℕ → ℕ → FieldPath → S → S
@@ -90,15 +99,15 @@ ranked T x = constraintsOf T x 0 ++ constraintsOf T x 1 ++ constraintsOf T x 2 +
 module _ {S : Type 0} (o : Ops S) (T : Tables) where
   open Ops o using (lookup, constant, reported, bind, constrained, report, narrow, skip, closer, bound)
 
-  -- Rust `narrow_by`
-  unfoldable pub narrowBy : Const → FieldPath → S → S
-  narrowBy c path w = narrow path (narrowing c) w
+  -- Rust `narrow_by`; n is the node that made the narrowing
+  unfoldable pub narrowBy : ℕ → Const → FieldPath → S → S
+  narrowBy n c path w = narrow n path (narrowing c) w
 
   unfoldable pub constrainEach : List Constraint → ℕ → FieldPath → S → S
   constrainEach [] t path w = w
   constrainEach (k ∷ ks) t path w =
       constrainEach ks t path
-      (elim (constant w (k .node) t) [ none ↦ report (k .node) Code.RejectTypeMismatch (skip w) | some c ↦ narrowBy c path w ])
+      (elim (constant w (k .node) t) [ none ↦ report (k .node) Code.RejectTypeMismatch (skip w) | some c ↦ narrowBy (k .node) c path w ])
 
   -- Rust `constrain`. "Without constraints: bound, then skip."
   unfoldable pub constrainBy : List Constraint → ℕ → ℕ → FieldPath → S → S
@@ -134,7 +143,7 @@ module _ {S : Type 0} (o : Ops S) (T : Tables) where
     unfoldable pub matched : ℕ → Slot → ℕ → FieldPath → S → S
     matched n (Slot.Row from p) t path w =
         elim (refersTo p (factTy (typeAt T t))) [
-          | true ↦ narrow path (Narrowing.FactId from) w
+          | true ↦ narrow n path (Narrowing.FactId from) w
           | false ↦ report n Code.RejectTypeMismatch w
         ]
     matched n (Slot.Key from ty) t path w = report n Code.NyiWholeKey (skip w)
@@ -142,18 +151,18 @@ module _ {S : Type 0} (o : Ops S) (T : Tables) where
     matched n (Slot.Field from at ty) t path w =
         elim (eqb from address) [
           | true ↦ report n Code.NyiRepeatedVariable w
-          | false ↦ narrow path (Narrowing.RegisterField from at) w
+          | false ↦ narrow n path (Narrowing.RegisterField from at) w
         ]
     matched n (Slot.Value from ty) t path w = report n Code.NyiValueMatch w
-    matched n (Slot.Const folded) t path w = elim (constant w folded t) [ some c ↦ narrowBy c path w | none ↦ partial folded t path w ]
+    matched n (Slot.Const folded) t path w = elim (constant w folded t) [ some c ↦ narrowBy n c path w | none ↦ partial folded t path w ]
 
     -- "`inject` emits tag, payload, closer"
     unfoldable pub injectAlternative : ℕ → FieldPattern → Option Alternative → FieldPath → S → S
     injectAlternative n f none path w = report n Code.RejectUnknownAlternative (skip w)
     injectAlternative n f (some alt) path w =
-        closer w
+        closer n w
         (below (f .node) (alt .type) (payload path (alt .disc))
-        (narrow path (Narrowing.Tag (alt .disc)) w))
+        (narrow n path (Narrowing.Tag (alt .disc)) w))
 
     unfoldable pub injectOnly : ℕ → Option FieldPattern → List Alternative → FieldPath → S → S
     injectOnly n none alts path w = report n Code.RejectUnionArity (skip w)
@@ -162,7 +171,7 @@ module _ {S : Type 0} (o : Ops S) (T : Tables) where
     -- Rust `inject`: ".. unless the whole union is constant: then bytes"
     unfoldable pub inject : List FieldPattern → List Alternative → FieldWalk S
     inject fields alts n t path w =
-        elim (constant w n t) [ some c ↦ narrowBy c path w | none ↦ injectOnly n (onlyField fields) alts path w ]
+        elim (constant w n t) [ some c ↦ narrowBy n c path w | none ↦ injectOnly n (onlyField fields) alts path w ]
 
     -- Rust `field`, its last arm: a read, or a record's pieces
     unfoldable pub readAnswer : ℕ → Option Slot → ℕ → FieldPath → S → S → S
@@ -176,7 +185,7 @@ module _ {S : Type 0} (o : Ops S) (T : Tables) where
 
     -- a Prefix or a Fuzzy in `field`; building stays where it is mistyped
     unfoldable pub ranged : FieldWalk S
-    ranged n t path w = elim (constant w n t) [ some c ↦ narrowBy c path w | none ↦ report n Code.RejectTypeMismatch w ]
+    ranged n t path w = elim (constant w n t) [ some c ↦ narrowBy n c path w | none ↦ report n Code.RejectTypeMismatch w ]
 
     -- "In `field`, a new Var binds before its constraints are read"
     unfoldable pub variable : ℕ → FieldWalk S
@@ -221,7 +230,7 @@ module _ {S : Type 0} (o : Ops S) (T : Tables) where
     wholeFields n slot i (f ∷ fs) w =
         let a = fieldSlot o T n slot (f .name) w in
         wholeFields n slot (suc i) fs
-        (elim (a .slot) [ none ↦ skip (a .walk) | some s ↦ matched address field n s (f .type) (fieldPath i) (a .walk) ])
+        (elim (a .slot) [ none ↦ skip (a .walk) | some s ↦ matched address field (wholeNode n s) s (f .type) (fieldPath i) (a .walk) ])
 
     unfoldable pub wholeRead : ℕ → List FieldTy → S → S
     wholeRead n fs w =
@@ -264,7 +273,7 @@ unfoldable pub walkLevel : Tables → LevelEntry → Lists → Walk
 walkLevel T l lists = key (walkOps T) T (l .address) (l .node) (predicateAt T (l .predicate) .key) (record { lists = lists; events = [] })
 
 unfoldable pub openWalk : Unit {0}
-unfolding narrowing narrowBy anchorRank rank eachField constraintsOf ranked constrainEach constrainBy constrain refersTo deferred unresolved
+unfolding narrowing wholeNode narrowBy anchorRank rank eachField constraintsOf ranked constrainEach constrainBy constrain refersTo deferred unresolved
     partialFields partial matched injectAlternative injectOnly inject readAnswer read ranged variable fieldNode fieldBelow field wholeFields
     wholeRead wholeVariable wholeKey recordKey key walkLevel
 openWalk = tt

@@ -14,7 +14,7 @@ use Rattle.rules.specs.Placement.{Range, RangeEdge}
 use Rattle.rules.specs.Plan as Plan
 use Rattle.rules.specs.Compile.{Outcome}
 use Rattle.state.specs.State.{Ends, Level, newLevel, Target, measuring, State, state, noEnds, stop, bindingsAt, constrainedAt}
-use Rattle.state.specs.State.{selectsAt, diagnosticsAt}
+use Rattle.state.specs.State.{selectsAt, diagnosticsAt, joinedBytes}
 use Rattle.state.specs.Ops.{ops}
 
 -- The four seeks, as numbers of the plan: 0 Prefix, 1 Composite, 2 PrefixRange, 3 Bounded.
@@ -48,7 +48,7 @@ head l =
 unfoldable pub rangeOrEdges : Option Range → Option RangeEdge → Option RangeEdge → List ℕ
 rangeOrEdges range (some lo) hi = Plan.edge (some lo) ++ Plan.edge hi
 rangeOrEdges range none (some hi) = Plan.edge none ++ Plan.edge (some hi)
-rangeOrEdges (some range) none none = Plan.text (range .prefix) ++ Plan.path (range .path)
+rangeOrEdges (some range) none none = Plan.text (range .prefix) ++ Plan.path (range .path) ++ Plan.u16 (range .node)
 rangeOrEdges none none none = []
 
 unfoldable pub middle : Level → List ℕ
@@ -61,8 +61,12 @@ tail l = Plan.counted Plan.u16 (l .edges .folded)
 unfoldable pub partsAt : ℕ → Level → ℕ
 partsAt at l = at + length (head l)
 
+-- where the nodes of joined parts begin
+unfoldable pub nodesAt : ℕ → Level → ℕ
+nodesAt at l = partsAt at l + l .counts .joined
+
 unfoldable pub middleAt : ℕ → Level → ℕ
-middleAt at l = partsAt at l + (elim (joining l) [ true ↦ l .counts .joined | false ↦ l .counts .parted ])
+middleAt at l = partsAt at l + (elim (joining l) [ true ↦ joinedBytes (l .counts) | false ↦ l .counts .parted ])
 
 unfoldable pub restAt : ℕ → Level → ℕ
 restAt at l = middleAt at l + length (middle l)
@@ -100,13 +104,16 @@ bare l = both (eqb (l .counts .parts) 0) (eqb (l .counts .residuals) 0)
 unfoldable pub framed : ℕ → State → State
 framed at m = state (m .over) (m .ends) (m .level) (m .target) (m .work) (frame at (m .level) (m .plan))
 
+-- where a measured level is written
+unfoldable pub writingAt : ℕ → Level → Target
+writingAt at l =
+    record { writing = true; joining = joining l; partsAt = partsAt at l; nodesAt = nodesAt at l; restAt = restAt at l }
+
 -- Measured, it is walked once more from the lists as they were, and written. A bare one has nothing more to write, and its lists are made
 -- already: it is not walked again.
 unfoldable pub rewritten : Tables → LevelEntry → Ends → ℕ → State → State
 rewritten T l e at m =
-    let target : Target =
-    record { writing = true; joining = joining (m .level); partsAt = partsAt at (m .level); restAt = restAt at (m .level) } in
-    elim (bare (m .level)) [ true ↦ framed at m | false ↦ walked T l (begin e target (framed at m)) ]
+    elim (bare (m .level)) [ true ↦ framed at m | false ↦ walked T l (begin e (writingAt at (m .level)) (framed at m)) ]
 
 unfoldable pub measured : Tables → LevelEntry → Ends → ℕ → State → Written
 measured T l e at m =
@@ -158,6 +165,6 @@ unfoldable pub writtenOutcome : Written → Outcome
 writtenOutcome w = elim (w .state .over) [ true ↦ Outcome.refused 15 | false ↦ Outcome.planned (take (w .at) (w .state .plan)) ]
 
 unfoldable pub openLevels : Unit {0}
-unfolding seekNumber seekOf joins joining head rangeOrEdges middle tail partsAt middleAt restAt tailAt levelEnd begin walked frame bare framed
-    rewritten measured level levels lists finished started compiled writtenOutcome
+unfolding seekNumber seekOf joins joining head rangeOrEdges middle tail partsAt nodesAt middleAt restAt tailAt levelEnd begin walked frame bare framed
+    writingAt rewritten measured level levels lists finished started compiled writtenOutcome
 openLevels = tt

@@ -2,7 +2,7 @@
 use mathlib.Core.Bool.{Bool, true, false}
 use mathlib.Core.List.{List, [], _++_}
 use mathlib.Core.Option.{Option, none, some}
-use Prim.Native.Nat.{ℕ, _+_}
+use Prim.Native.Nat.{ℕ, _+_, _*_}
 use lib.ListN.{length}
 use lib.Dec.{leb}
 use lib.Seq.{sets}
@@ -12,7 +12,7 @@ use Rattle.rules.specs.Limits.{depthLimit}
 use Rattle.rules.specs.Checks.{isType, isPredicate, noneOr}
 use Rattle.rules.specs.Constant.{lookup, constant, unionTag, term}
 use Rattle.rules.specs.Events.{Code, Narrowing, Ops}
-use Rattle.rules.specs.Placement.{SeekKeyPart, Guide, Edges, rangeAt, foldFrom}
+use Rattle.rules.specs.Placement.{SeekKeyPart, Part, Guide, Edges, rangeAt, foldFrom}
 use Rattle.rules.specs.Plan as Plan
 use Rattle.state.specs.State.{Ends, ends, Counts, counts, Level, State, state, constrainedAt, selectsAt, diagnosticsAt, runsEnd, stop}
 use Rattle.state.specs.State.{unless, made, fits}
@@ -64,14 +64,17 @@ fall l = record { building = false; plain = l .plain; counts = l .counts; guide 
 unfoldable pub narrowed : Counts → Counts
 narrowed c = counts (c .narrowings + 1) (c .closers) (c .parts) (c .residuals) (c .joined) (c .parted) (c .rest)
 
--- the level changed, and bytes at a place of the plan while writing; unless the level has grown too long
-unfoldable pub grow : Level → ℕ → List ℕ → State → State
-grow l at bytes s =
+-- the level changed, and the plan while writing; unless the level has grown too long
+unfoldable pub grow : Level → (List ℕ → List ℕ) → State → State
+grow l write s =
     elim (fits l) [
-      | true ↦ state (s .over) (s .ends) l (s .target) (s .work)
-          (elim (s .target .writing) [ true ↦ sets (s .plan) at bytes | false ↦ s .plan ])
+      | true ↦ state (s .over) (s .ends) l (s .target) (s .work) (elim (s .target .writing) [ true ↦ write (s .plan) | false ↦ s .plan ])
       | false ↦ stop s
     ]
+
+-- an entry without its node at one place of the plan, its node at another
+unfoldable pub putMade : ℕ → List ℕ → ℕ → ℕ → List ℕ → List ℕ
+putMade at form nodeAt node plan = sets (sets plan nodeAt (Plan.u16 node)) at form
 
 -- A part: what it joins to the others, whether it is bytes, and its plan form.
 unfoldable pub partText : SeekKeyPart → List ℕ
@@ -85,57 +88,66 @@ isBytes (SeekKeyPart.RegisterField address path) = false
 isBytes (SeekKeyPart.RegisterFactId address) = false
 
 unfoldable pub withPart : SeekKeyPart → Counts → Level → Level
-withPart part c l =
+withPart key c l =
     record {
       building = l .building;
-      plain = both (l .plain) (isBytes part);
+      plain = both (l .plain) (isBytes key);
       counts = counts (c .narrowings) (c .closers) (c .parts + 1) (c .residuals)
-          (c .joined + length (partText part)) (c .parted + length (Plan.part part)) (c .rest);
+          (c .joined + length (partText key)) (c .parted + (length (Plan.partKey key) + 2)) (c .rest);
       guide = l .guide;
       range = l .range;
       edges = l .edges;
     }
 
--- where the next part is written, and as what
-unfoldable pub partAt : State → ℕ
-partAt s = s .target .partsAt + (elim (s .target .joining) [ true ↦ s .level .counts .joined | false ↦ s .level .counts .parted ])
+-- where the next part is written, as what, and where its node: behind it, or with the others' behind the joined text
+unfoldable pub partAt : Target → Counts → ℕ
+partAt t c = t .partsAt + (elim (t .joining) [ true ↦ c .joined | false ↦ c .parted ])
 
-unfoldable pub partForm : State → SeekKeyPart → List ℕ
-partForm s part = elim (s .target .joining) [ true ↦ partText part | false ↦ Plan.part part ]
+unfoldable pub partForm : Target → SeekKeyPart → List ℕ
+partForm t key = elim (t .joining) [ true ↦ partText key | false ↦ Plan.partKey key ]
 
-unfoldable pub putPart : SeekKeyPart → Counts → State → State
-putPart part c s = grow (withPart part c (s .level)) (partAt s) (partForm s part) s
+unfoldable pub nodeAt : Target → Counts → SeekKeyPart → ℕ
+nodeAt t c key = elim (t .joining) [ true ↦ t .nodesAt + 2 * c .parts | false ↦ t .partsAt + c .parted + length (Plan.partKey key) ]
+
+-- the plan with a part more, of a level with these counts
+unfoldable pub partPut : Target → Counts → Part → List ℕ → List ℕ
+partPut t c p plan = putMade (partAt t c) (partForm t (p .key)) (nodeAt t c (p .key)) (p .node) plan
+
+-- a part that n made; c are the counts that it is added to
+unfoldable pub putPart : ℕ → SeekKeyPart → Counts → State → State
+putPart n key c s = grow (withPart key c (s .level)) (partPut (s .target) (s .level .counts) (record { key = key; node = n })) s
 
 -- A residual, at its place.
-unfoldable pub putResidual : FieldPath → Narrowing → State → State
-putResidual path op s =
-    let form = Plan.residual (record { path = path; op = op }) in
+unfoldable pub putResidual : ℕ → FieldPath → Narrowing → State → State
+putResidual n path op s =
+    let form = Plan.path path ++ Plan.op op in
     let c = s .level .counts in
-    let after = counts (c .narrowings + 1) (c .closers) (c .parts) (c .residuals + 1) (c .joined) (c .parted) (c .rest + length form) in
-    grow (recount after (s .level)) (s .target .restAt + c .rest) form s
+    let at = s .target .restAt + c .rest in
+    let after = counts (c .narrowings + 1) (c .closers) (c .parts) (c .residuals + 1) (c .joined) (c .parted) (c .rest + (length form + 2)) in
+    grow (recount after (s .level)) (putMade at form (at + length form) n) s
 
 -- "The first four: a part while building .., else a residual."
-unfoldable pub narrowPart : SeekKeyPart → FieldPath → Narrowing → State → State
-narrowPart part path op s =
-    elim (s .level .building) [ true ↦ putPart part (narrowed (s .level .counts)) s | false ↦ putResidual path op s ]
+unfoldable pub narrowPart : ℕ → SeekKeyPart → FieldPath → Narrowing → State → State
+narrowPart n key path op s =
+    elim (s .level .building) [ true ↦ putPart n key (narrowed (s .level .counts)) s | false ↦ putResidual n path op s ]
 
 -- "Prefix: while building it becomes the range, and building falls; else a residual."
-unfoldable pub withRange : FieldPath → List ℕ → Level → Level
-withRange path prefix l =
+unfoldable pub withRange : ℕ → FieldPath → List ℕ → Level → Level
+withRange n path prefix l =
     record {
       building = false;
       plain = l .plain;
       counts = narrowed (l .counts);
       guide = l .guide;
-      range = some (record { path = path; prefix = prefix });
+      range = some (record { path = path; prefix = prefix; node = n });
       edges = l .edges;
     }
 
-unfoldable pub narrowPrefix : FieldPath → List ℕ → State → State
-narrowPrefix path prefix s =
+unfoldable pub narrowPrefix : ℕ → FieldPath → List ℕ → State → State
+narrowPrefix n path prefix s =
     elim (s .level .building) [
-      | true ↦ grow (withRange path prefix (s .level)) 0 [] s
-      | false ↦ putResidual path (Narrowing.Prefix prefix) s
+      | true ↦ grow (withRange n path prefix (s .level)) (λ plan. plan) s
+      | false ↦ putResidual n path (Narrowing.Prefix prefix) s
     ]
 
 -- "Fuzzy: the guide, if none is set and either building holds or a range has the equal path; building falls. Else a residual."
@@ -153,24 +165,25 @@ withGuide guide l =
       edges = l .edges;
     }
 
-unfoldable pub narrowFuzzy : FieldPath → ℕ → ℕ → Anchor → State → State
-narrowFuzzy path x distance anchor s =
+unfoldable pub narrowFuzzy : ℕ → FieldPath → ℕ → ℕ → Anchor → State → State
+narrowFuzzy n path x distance anchor s =
+    let guide : Guide = record { path = path; term = x; distance = distance; anchor = anchor; node = n } in
     elim (attachable (s .level) path) [
-      | true ↦ grow (withGuide (record { path = path; term = x; distance = distance; anchor = anchor }) (s .level)) 0 [] s
-      | false ↦ putResidual path (Narrowing.Fuzzy x distance anchor) s
+      | true ↦ grow (withGuide guide (s .level)) (λ plan. plan) s
+      | false ↦ putResidual n path (Narrowing.Fuzzy x distance anchor) s
     ]
 
-unfoldable pub narrowing : FieldPath → Narrowing → State → State
-narrowing path (Narrowing.Bytes bytes) s = narrowPart (SeekKeyPart.Bytes bytes) path (Narrowing.Bytes bytes) s
-narrowing path (Narrowing.Tag disc) s = narrowPart (SeekKeyPart.Bytes (unionTag disc)) path (Narrowing.Tag disc) s
-narrowing path (Narrowing.RegisterField address at) s =
-    narrowPart (SeekKeyPart.RegisterField address at) path (Narrowing.RegisterField address at) s
-narrowing path (Narrowing.FactId address) s = narrowPart (SeekKeyPart.RegisterFactId address) path (Narrowing.FactId address) s
-narrowing path (Narrowing.Prefix prefix) s = narrowPrefix path prefix s
-narrowing path (Narrowing.Fuzzy x distance anchor) s = narrowFuzzy path x distance anchor s
+unfoldable pub narrowing : ℕ → FieldPath → Narrowing → State → State
+narrowing n path (Narrowing.Bytes bytes) s = narrowPart n (SeekKeyPart.Bytes bytes) path (Narrowing.Bytes bytes) s
+narrowing n path (Narrowing.Tag disc) s = narrowPart n (SeekKeyPart.Bytes (unionTag disc)) path (Narrowing.Tag disc) s
+narrowing n path (Narrowing.RegisterField address at) s =
+    narrowPart n (SeekKeyPart.RegisterField address at) path (Narrowing.RegisterField address at) s
+narrowing n path (Narrowing.FactId address) s = narrowPart n (SeekKeyPart.RegisterFactId address) path (Narrowing.FactId address) s
+narrowing n path (Narrowing.Prefix prefix) s = narrowPrefix n path prefix s
+narrowing n path (Narrowing.Fuzzy x distance anchor) s = narrowFuzzy n path x distance anchor s
 
-unfoldable pub narrow : FieldPath → Narrowing → State → State
-narrow path x s = unless (narrowing path x) s
+unfoldable pub narrow : ℕ → FieldPath → Narrowing → State → State
+narrow n path x s = unless (narrowing n path x) s
 
 -- the level another, nothing written
 unfoldable pub relevel : (Level → Level) → State → State
@@ -183,11 +196,11 @@ skip s = unless (relevel fall) s
 unfoldable pub closed : Counts → Counts
 closed c = counts (c .narrowings) (c .closers + 1) (c .parts) (c .residuals) (c .joined) (c .parted) (c .rest)
 
-unfoldable pub close : Bool → State → State
-close held s = elim (both held (s .level .building)) [ true ↦ putPart (SeekKeyPart.Bytes term) (closed (s .level .counts)) s | false ↦ s ]
+unfoldable pub close : ℕ → Bool → State → State
+close n held s = elim (both held (s .level .building)) [ true ↦ putPart n (SeekKeyPart.Bytes term) (closed (s .level .counts)) s | false ↦ s ]
 
-unfoldable pub closer : State → State → State
-closer before s = unless (close (before .level .building)) s
+unfoldable pub closer : ℕ → State → State → State
+closer n before s = unless (close n (before .level .building)) s
 
 -- "Bound: while building, the comparisons .."
 unfoldable pub withEdges : Edges → Level → Level
@@ -239,7 +252,7 @@ ops T =
     }
 
 unfoldable pub openOps : Unit {0}
-unfolding append appendCounted bind constrained select report recount fall narrowed grow partText isBytes withPart partAt partForm putPart
+unfolding append appendCounted bind constrained select report recount fall narrowed grow putMade partText isBytes withPart partAt partForm nodeAt partPut putPart
     putResidual narrowPart withRange narrowPrefix attachable withGuide narrowFuzzy narrowing narrow relevel skip closed close closer
     withEdges boundLevel bound roomy checkedSlot
 openOps = tt

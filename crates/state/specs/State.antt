@@ -3,7 +3,7 @@
 use mathlib.Core.Bool.{Bool, true, false}
 use mathlib.Core.List.{List, [], _∷_}
 use mathlib.Core.Option.{Option, none}
-use Prim.Native.Nat.{ℕ, zero, suc, _+_, _-_}
+use Prim.Native.Nat.{ℕ, zero, suc, _+_, _-_, _*_}
 use lib.ListN.{length}
 use lib.Dec.{leb}
 use lib.Seq.{slice}
@@ -45,8 +45,8 @@ ends b bs c s ss d = record { bindings = b; bindingCount = bs; constrained = c; 
 unfoldable pub noEnds : Ends
 noEnds = ends bindingsAt 0 constrainedAt selectsAt 0 diagnosticsAt
 
--- Counts of a level's narrowings, closers that became parts, parts and residuals; the bytes of its parts joined and in plan form, and of
--- its residuals in plan form.
+-- Counts of a level's narrowings, closers that became parts, parts and residuals; the bytes of its parts' texts joined, of its parts in plan
+-- form, and of its residuals in plan form.
 pub record Counts : Type 0 where
   pub narrowings : ℕ
   pub closers : ℕ
@@ -80,15 +80,17 @@ newLevel =
       edges = record { lo = none; hi = none; folded = [] };
     }
 
--- Whether a level is written or only measured; whether its parts are joined; where its parts and its residuals begin in the plan.
+-- Whether a level is written or only measured; whether its parts are joined; where its parts, their nodes if the parts are joined, and its
+-- residuals begin in the plan.
 pub record Target : Type 0 where
   pub writing : Bool
   pub joining : Bool
   pub partsAt : ℕ
+  pub nodesAt : ℕ
   pub restAt : ℕ
 
 unfoldable pub measuring : Target
-measuring = record { writing = false; joining = false; partsAt = 0; restAt = 0 }
+measuring = record { writing = false; joining = false; partsAt = 0; nodesAt = 0; restAt = 0 }
 
 -- over: the plan is too long, and nothing changes any more
 pub record State : Type 0 where
@@ -118,10 +120,14 @@ bindingsIn (suc n) bytes = elim (Read.binding bytes) [ Read.got b rest ↦ b ∷
 unfoldable pub made : State → List Binding
 made s = let bytes = slice bindingsAt (s .ends .bindings) (s .work) in bindingsIn (length bytes) bytes
 
+-- how long parts are that are joined: their text, and a node of two bytes for each
+unfoldable pub joinedBytes : Counts → ℕ
+joinedBytes c = c .joined + 2 * c .parts
+
 -- Sizes: a level is too long where its parts, joined while all are bytes, and its residuals are longer than a plan. The other numbers are
 -- kept below what their fields hold; past that the plan is too long too, since each of what they count has a byte of its own.
 unfoldable pub partBytes : Level → ℕ
-partBytes l = elim (l .plain) [ true ↦ l .counts .joined | false ↦ l .counts .parted ]
+partBytes l = elim (l .plain) [ true ↦ joinedBytes (l .counts) | false ↦ l .counts .parted ]
 
 unfoldable pub fits : Level → Bool
 fits l =
@@ -131,5 +137,5 @@ fits l =
     (both (leb (l .counts .parts) 65535) (leb (l .counts .residuals) 65535))))
 
 unfoldable pub openState : Unit {0}
-unfolding noEnds newLevel measuring stop unless bindingsIn made partBytes fits
+unfolding noEnds newLevel measuring stop unless bindingsIn made joinedBytes partBytes fits
 openState = tt
