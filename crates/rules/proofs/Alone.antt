@@ -29,9 +29,9 @@ nothing-kept T =
       constrained = λ x s. s;
       select = λ a path disc s. s;
       report = λ n code s. s;
-      narrow = λ path x s. s;
+      narrow = λ n path x s. s;
       skip = λ s. s;
-      closer = λ before s. s;
+      closer = λ n before s. s;
       bound = λ x t s. s;
     }
 
@@ -41,7 +41,7 @@ any-numbers T = record { scalar = tt; first = λ t i fs e l. tt; next = λ p t i
 alone : (T : Tables) (address : ℕ) (M : Walk → Walk → Type 0) → Sim T Any Any (nothing-kept T) (λ s. true) address M (λ w s. Nothing)
 alone T address M =
     record {
-      idle = λ s e. record { bind = λ x slot. refl; constrained = λ x. refl; select = λ a path disc. refl; report = λ n code. refl; narrow = λ path x. refl; skip = refl; closer = λ before. refl; bound = λ x t. refl };
+      idle = λ s e. record { bind = λ x slot. refl; constrained = λ x. refl; select = λ a path disc. refl; report = λ n code. refl; narrow = λ n path x. refl; skip = refl; closer = λ n before. refl; bound = λ x t. refl };
       stays = λ a a′ s e m r. tt;
       lookups = λ a s f e r x. absurd (true≢false e);
       reported = λ a b s s′ e e′ r r′. absurd (true≢false e);
@@ -53,11 +53,11 @@ alone T address M =
       reports = λ n code a s r. tt;
       skips = λ a s r. tt;
       bounds = λ x t a s r. tt;
-      constants = λ n t k p a s e h r. tt;
-      registers = λ n at p a s h h′ r. tt;
-      facts = λ n p a s h r. tt;
-      tags = λ d p a s h r. tt;
-      closers = λ d p a a′ s s′ h r m on r′. tt;
+      constants = λ m n t k p a s e h r. tt;
+      registers = λ m n at p a s h h′ r. tt;
+      facts = λ m n p a s h r. tt;
+      tags = λ m d p a s h r. tt;
+      closers = λ m d p a a′ s s′ h r g on r′. tt;
     }
 
 -- a level of an accepted file, from bindings that fit

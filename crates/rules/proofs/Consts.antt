@@ -61,10 +61,10 @@ consts-keeps T =
       reports = λ n c w x. refl;
       skips = λ w x. refl;
       bounds = λ y t w x. refl;
-      constants = λ n t c p w e h x. refl;
-      registers = λ a at p w h h′ x. refl;
-      facts = λ a p w h x. refl;
-      unions = λ d p w w′ h g. g;
+      constants = λ m n t c p w e h x. refl;
+      registers = λ m a at p w h h′ x. refl;
+      facts = λ m a p w h x. refl;
+      unions = λ m d p w w′ h g. g;
     }
 
 -- What `constant` reads of the bindings is which Const each name has.
@@ -121,9 +121,9 @@ module _ (T : Tables) (bs : List Binding) (same : (x : ℕ) → constBound bs x 
 
   place-now : (e : Event) (b : SeekBuilder) → place (withBindings T bs) e b ≡ place T e b
   unfolding place placeBound withBindings
-  place-now (Event.narrow path x) b = refl
+  place-now (Event.narrow n path x) b = refl
   place-now Event.skip b = refl
-  place-now Event.closer b = refl
+  place-now (Event.closer n) b = refl
   place-now (Event.bound x t) b =
       ap (λ (edges : Edges). elim (b .building) [ true ↦ withEdges edges b | false ↦ b ]) (fold-now x t 0 (T .comparisons) (b .edges))
 
@@ -174,11 +174,11 @@ now-runs T address =
       reports = λ n code a c r. record { same = ap (onLists (report n code)) (r .same); consts = r .consts };
       skips = λ a c r. now-meet T Event.skip a c r;
       bounds = λ x t a c r. now-meet T Event.skip _ _ (now-meet T (Event.bound x t) a c r);
-      constants = λ n t k p a c e s r. now-meet T (Event.narrow p (narrowing k)) a c r;
-      registers = λ n at p a c s s′ r. now-meet T (Event.narrow p (Narrowing.RegisterField n at)) a c r;
-      facts = λ n p a c s r. now-meet T (Event.narrow p (Narrowing.FactId n)) a c r;
-      tags = λ d p a c s r. now-meet T (Event.narrow p (Narrowing.Tag d)) a c r;
-      closers = λ d p a a′ c c′ s r m on r′. now-meet T Event.closer a′ c′ r′;
+      constants = λ m n t k p a c e s r. now-meet T (Event.narrow m p (narrowing k)) a c r;
+      registers = λ m n at p a c s s′ r. now-meet T (Event.narrow m p (Narrowing.RegisterField n at)) a c r;
+      facts = λ m n p a c s r. now-meet T (Event.narrow m p (Narrowing.FactId n)) a c r;
+      tags = λ m d p a c s r. now-meet T (Event.narrow m p (Narrowing.Tag d)) a c r;
+      closers = λ m d p a a′ c c′ s r g on r′. now-meet T (Event.closer m) a′ c′ r′;
     }
 
 module _ (T : Tables) (S : Sound T) where

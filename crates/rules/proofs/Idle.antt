@@ -10,7 +10,7 @@ use Rattle.rules.specs.Constant.{Const, fieldPattern, alternativeOf, onl
 use Rattle.rules.specs.Lookup.{fetchedRegister}
 use Rattle.rules.specs.Events.{Code, Narrowing, Ops}
 use Rattle.rules.specs.Resolve.{Answer, Resolver, follow, _whenFound_, give, declined, fetchedRow, dereference, fieldOfRow, fieldSlot, valueSlot, selected, selectSlot, resolveNode, resolveBelow, resolve}
-use Rattle.rules.specs.Walk.{narrowBy, FieldWalk, eachField, constrainEach, constrainBy, constrain, ranked, refersTo, deferred, unresolved, partialFields, partial, matched, injectAlternative, injectOnly, inject, readAnswer, read, ranged, variable, fieldNode, fieldBelow, field, wholeFields, wholeRead, wholeVariable, wholeKey, recordKey, key}
+use Rattle.rules.specs.Walk.{wholeNode, narrowBy, FieldWalk, eachField, constrainEach, constrainBy, constrain, ranked, refersTo, deferred, unresolved, partialFields, partial, matched, injectAlternative, injectOnly, inject, readAnswer, read, ranged, variable, fieldNode, fieldBelow, field, wholeFields, wholeRead, wholeVariable, wholeKey, recordKey, key}
 use Rattle.rules.proofs.Cases.{by-test, by-option}
 use Rattle.rules.proofs.Sentences.{new-is-bound, bound-is-read}
 
@@ -20,9 +20,9 @@ pub record Idle {S : Type 0} (o : Ops S) (s : S) : Type 0 where
   pub constrained : (x : ℕ) → o .constrained x s ≡ s
   pub select : (a : ℕ) (path : FieldPath) (disc : ℕ) → o .select a path disc s ≡ s
   pub report : (n : ℕ) (code : Code) → o .report n code s ≡ s
-  pub narrow : (path : FieldPath) (x : Narrowing) → o .narrow path x s ≡ s
+  pub narrow : (n : ℕ) (path : FieldPath) (x : Narrowing) → o .narrow n path x s ≡ s
   pub skip : o .skip s ≡ s
-  pub closer : (before : S) → o .closer before s ≡ s
+  pub closer : (n : ℕ) (before : S) → o .closer n before s ≡ s
   pub bound : (x t : ℕ) → o .bound x t s ≡ s
 
 module _ {S : Type 0} (o : Ops S) (T : Tables) (s : S) (I : Idle o s) where
@@ -147,15 +147,15 @@ module _ {S : Type 0} (o : Ops S) (T : Tables) (s : S) (I : Idle o s) where
       ap (eachField g missing place fields (suc i) fs) (by-option (λ w. w ≡ s) (fieldPattern fields (f .name)) (λ e. m) (λ pattern e. h pattern (f .type) (place i)))
       ∙ idle-each g missing place fields h m (suc i) fs
 
-  pub idle-narrowBy : (c : Const) (path : FieldPath) → narrowBy o T c path s ≡ s
+  pub idle-narrowBy : (n : ℕ) (c : Const) (path : FieldPath) → narrowBy o T n c path s ≡ s
   unfolding narrowBy
-  idle-narrowBy c path = I .narrow path _
+  idle-narrowBy n c path = I .narrow n path _
 
   pub idle-constrainEach : (ks : List Constraint) (t : ℕ) (path : FieldPath) → constrainEach o T ks t path s ≡ s
   unfolding constrainEach
   idle-constrainEach [] t path = refl
   idle-constrainEach (k ∷ ks) t path =
-      ap (constrainEach o T ks t path) (by-option (λ w. w ≡ s) (o .constant s (k .node) t) (λ e. reported (k .node) Code.RejectTypeMismatch) (λ c e. idle-narrowBy c path))
+      ap (constrainEach o T ks t path) (by-option (λ w. w ≡ s) (o .constant s (k .node) t) (λ e. reported (k .node) Code.RejectTypeMismatch) (λ c e. idle-narrowBy (k .node) c path))
       ∙ idle-constrainEach ks t path
 
   pub idle-constrainBy : (ks : List Constraint) (x t : ℕ) (path : FieldPath) → constrainBy o T ks x t path s ≡ s
@@ -189,20 +189,20 @@ module _ {S : Type 0} (o : Ops S) (T : Tables) (s : S) (I : Idle o s) where
 
     pub idle-matched : (n : ℕ) (slot : Slot) (t : ℕ) (path : FieldPath) → matched o T address below n slot t path s ≡ s
     unfolding matched
-    idle-matched n (Slot.Row from p) t path = by-test (λ w. w ≡ s) (refersTo p (factTy (typeAt T t))) (λ e. I .narrow path _) (λ e. I .report n _)
+    idle-matched n (Slot.Row from p) t path = by-test (λ w. w ≡ s) (refersTo p (factTy (typeAt T t))) (λ e. I .narrow n path _) (λ e. I .report n _)
     idle-matched n (Slot.Key from ty) t path = reported n Code.NyiWholeKey
     idle-matched n (Slot.Derived from) t path = reported n Code.NyiValueMatch
-    idle-matched n (Slot.Field from at ty) t path = by-test (λ w. w ≡ s) (eqb from address) (λ e. I .report n _) (λ e. I .narrow path _)
+    idle-matched n (Slot.Field from at ty) t path = by-test (λ w. w ≡ s) (eqb from address) (λ e. I .report n _) (λ e. I .narrow n path _)
     idle-matched n (Slot.Value from ty) t path = I .report n _
-    idle-matched n (Slot.Const folded) t path = by-option (λ w. w ≡ s) (o .constant s folded t) (λ e. idle-partial folded t path) (λ c e. idle-narrowBy c path)
+    idle-matched n (Slot.Const folded) t path = by-option (λ w. w ≡ s) (o .constant s folded t) (λ e. idle-partial folded t path) (λ c e. idle-narrowBy n c path)
 
     pub idle-injectAlternative : (n : ℕ) (f : FieldPattern) (alt : Option Alternative) (path : FieldPath) → injectAlternative o T address below n f alt path s ≡ s
     unfolding injectAlternative
     idle-injectAlternative n f none path = reported n Code.RejectUnknownAlternative
     idle-injectAlternative n f (some alt) path =
-        ap (λ w. o .closer s (below (f .node) (alt .type) (payload path (alt .disc)) w)) (I .narrow path _)
-        ∙ ap (o .closer s) (B (f .node) (alt .type) (payload path (alt .disc)))
-        ∙ I .closer s
+        ap (λ w. o .closer n s (below (f .node) (alt .type) (payload path (alt .disc)) w)) (I .narrow n path _)
+        ∙ ap (o .closer n s) (B (f .node) (alt .type) (payload path (alt .disc)))
+        ∙ I .closer n s
 
     pub idle-injectOnly : (n : ℕ) (f : Option FieldPattern) (alts : List Alternative) (path : FieldPath) → injectOnly o T address below n f alts path s ≡ s
     unfolding injectOnly
@@ -212,7 +212,7 @@ module _ {S : Type 0} (o : Ops S) (T : Tables) (s : S) (I : Idle o s) where
     pub idle-inject : (fields : List FieldPattern) (alts : List Alternative) → Stays (inject o T address below fields alts)
     unfolding inject
     idle-inject fields alts n t path =
-        by-option (λ w. w ≡ s) (o .constant s n t) (λ e. idle-injectOnly n (onlyField fields) alts path) (λ c e. idle-narrowBy c path)
+        by-option (λ w. w ≡ s) (o .constant s n t) (λ e. idle-injectOnly n (onlyField fields) alts path) (λ c e. idle-narrowBy n c path)
 
     pub idle-readAnswer : (n : ℕ) (slot : Option Slot) (t : ℕ) (path : FieldPath) (before : S) → readAnswer o T address below n slot t path before s ≡ s
     unfolding readAnswer
@@ -226,7 +226,7 @@ module _ {S : Type 0} (o : Ops S) (T : Tables) (s : S) (I : Idle o s) where
 
     pub idle-ranged : Stays (ranged o T address below)
     unfolding ranged
-    idle-ranged n t path = by-option (λ w. w ≡ s) (o .constant s n t) (λ e. I .report n _) (λ c e. idle-narrowBy c path)
+    idle-ranged n t path = by-option (λ w. w ≡ s) (o .constant s n t) (λ e. I .report n _) (λ c e. idle-narrowBy n c path)
 
     pub idle-variable : (x : ℕ) → Stays (variable o T address below x)
     idle-variable x n t path = go (o .lookup s x) refl
@@ -273,7 +273,7 @@ module _ {S : Type 0} (o : Ops S) (T : Tables) (s : S) (I : Idle o s) where
         ap (wholeFields o T address n slot (suc i) fs)
         (by-option (λ w. w ≡ s) (fieldSlot o T n slot (f .name) s .slot)
         (λ e. ap (o .skip) (idle-fieldSlot n slot (f .name)) ∙ I .skip)
-        (λ found e. ap (matched o T address (field o T address) n found (f .type) (fieldPath i)) (idle-fieldSlot n slot (f .name)) ∙ idle-matched address (field o T address) idle-field n found (f .type) (fieldPath i)))
+        (λ found e. ap (matched o T address (field o T address) (wholeNode n found) found (f .type) (fieldPath i)) (idle-fieldSlot n slot (f .name)) ∙ idle-matched address (field o T address) idle-field (wholeNode n found) found (f .type) (fieldPath i)))
         ∙ idle-wholeFields n slot (suc i) fs
 
     pub idle-wholeRead : (n : ℕ) (fs : List FieldTy) → wholeRead o T address n fs s ≡ s

@@ -22,8 +22,8 @@ use Rattle.rules.proofs.Sound.{Fits, Child, SlotOk, BindingOk, Sound}
 abbrev pub Short : FieldPath → Type 0
 Short p = length (p .steps) ≤ stepLimit
 
-abbrev pub narrow : FieldPath → Narrowing → Walk → Walk
-narrow path x w = emit (Event.narrow path x) w
+abbrev pub narrow : ℕ → FieldPath → Narrowing → Walk → Walk
+narrow n path x w = emit (Event.narrow n path x) w
 
 abbrev pub skip : Walk → Walk
 skip w = emit Event.skip w
@@ -38,10 +38,10 @@ pub record Keeps (T : Tables) (R : Walk → Walk → Type 0) : Type 0 where
   pub reports : (n : ℕ) (c : Code) (w : Walk) → R w (report n c w)
   pub skips : (w : Walk) → R w (skip w)
   pub bounds : (x t : ℕ) (w : Walk) → R w (skip (emit (Event.bound x t) w))
-  pub constants : (n t : ℕ) (c : Const) (p : FieldPath) (w : Walk) → constant T n t ≡ some c → Short p → R w (narrow p (narrowing c) w)
-  pub registers : (a : ℕ) (at p : FieldPath) (w : Walk) → Short at → Short p → R w (narrow p (Narrowing.RegisterField a at) w)
-  pub facts : (a : ℕ) (p : FieldPath) (w : Walk) → Short p → R w (narrow p (Narrowing.FactId a) w)
-  pub unions : (d : ℕ) (p : FieldPath) (w w′ : Walk) → Short p → R (narrow p (Narrowing.Tag d) w) w′ → R w (emit Event.closer w′)
+  pub constants : (m n t : ℕ) (c : Const) (p : FieldPath) (w : Walk) → constant T n t ≡ some c → Short p → R w (narrow m p (narrowing c) w)
+  pub registers : (m a : ℕ) (at p : FieldPath) (w : Walk) → Short at → Short p → R w (narrow m p (Narrowing.RegisterField a at) w)
+  pub facts : (m a : ℕ) (p : FieldPath) (w : Walk) → Short p → R w (narrow m p (Narrowing.FactId a) w)
+  pub unions : (m d : ℕ) (p : FieldPath) (w w′ : Walk) → Short p → R (narrow m p (Narrowing.Tag d) w) w′ → R w (emit (Event.closer m) w′)
 
 -- Children of a type, by the forms that the walk asks for.
 pub record-children : (P : ℕ → Type 0) (ty : Ty) (fs : List FieldTy) → Each P (childTypes ty) → recordTy ty ≡ some fs → Each (λ f. P (f .type)) fs

@@ -13,9 +13,9 @@ use Rattle.rules.specs.File.{Tables, FieldPath, Anchor, CompareOp, Compa
 use Rattle.rules.specs.Constant.{unionTag, term}
 use Rattle.rules.specs.Lookup.{sameSteps, samePath}
 use Rattle.rules.specs.Events.{Narrowing, Event}
-use Rattle.rules.specs.Placement.{SeekKeyPart, Guide, Range, RangeEdge, Edges, SeekBuilder, new, withPart, withResidual, withGuide, withRange, withEdges, withCloser, withOpened, fall, placePart, placePrefix, rangeAt, attachable, placeFuzzy, placeNarrowing, closePart, placeCloser, takeHi, takeLo, takeEdge, sided, foldFrom, placeBound, place, placeAll}
+use Rattle.rules.specs.Placement.{SeekKeyPart, Part, Residual, Guide, Range, RangeEdge, Edges, SeekBuilder, new, withPart, withResidual, withGuide, withRange, withEdges, withCloser, withOpened, fall, placePart, placePrefix, rangeAt, attachable, placeFuzzy, placeNarrowing, closePart, placeCloser, takeHi, takeLo, takeEdge, sided, foldFrom, placeBound, place, placeAll}
 use Rattle.rules.specs.Levels.{narrowings}
-use Rattle.rules.specs.Demand3.{buildingAfter, beforeFall, partsOf, closersOf, closersIn, number, edges, Kept}
+use Rattle.rules.specs.Demand3.{buildingAfter, beforeFall, madeBy, partsOf, closersOf, closersIn, number, edges, Kept}
 use Rattle.rules.proofs.Cases.{by-test, ways, by-option, true≢false, some≢none, some-injective, eqb-eq, both-left, both-right}
 use Rattle.rules.proofs.Sentences.{closer-fallen}
 use Rattle.rules.proofs.Nested.{Nested}
@@ -71,7 +71,7 @@ steady-new =
     }
 
 module _ (n : ℕ) (b : SeekBuilder) (s : Steady n b) where
-  steady-part : (part : SeekKeyPart) → Steady n (withPart part b)
+  steady-part : (part : Part) → Steady n (withPart part b)
   unfolding withPart edges
   steady-part part =
       record {
@@ -81,19 +81,19 @@ module _ (n : ℕ) (b : SeekBuilder) (s : Steady n b) where
         closers-most = omega (arith, s .closers-most, length-append (b .parts) (part ∷ []));
       }
 
-  steady-closer : Steady n (withCloser (withPart (SeekKeyPart.Bytes term) b))
+  steady-closer : (part : Part) → Steady n (withCloser (withPart part b))
   unfolding withCloser withPart edges
-  steady-closer =
+  steady-closer part =
       record {
         opens = s .opens;
         on = s .on;
         ranged = s .ranged;
-        closers-most = omega (arith, s .closers-most, length-append (b .parts) (SeekKeyPart.Bytes term ∷ []));
+        closers-most = omega (arith, s .closers-most, length-append (b .parts) (part ∷ []));
       }
 
-  steady-residual : (path : FieldPath) (op : Narrowing) → Steady n (withResidual path op b)
+  steady-residual : (residual : Residual) → Steady n (withResidual residual b)
   unfolding withResidual edges
-  steady-residual path op =
+  steady-residual residual =
       record {
         opens = s .opens;
         on = s .on;
@@ -121,9 +121,9 @@ module _ (n : ℕ) (b : SeekBuilder) (s : Steady n b) where
         closers-most = s .closers-most;
       }
 
-  steady-range : (path : FieldPath) (prefix : List ℕ) → b .building ≡ true → Steady n (fall (withRange (record { path = path; prefix = prefix }) b))
+  steady-range : (range : Range) → b .building ≡ true → Steady n (fall (withRange range b))
   unfolding fall withRange edges
-  steady-range path prefix e =
+  steady-range range e =
       record {
         opens = s .opens;
         on = λ q. absurd (true≢false (sym q));
@@ -208,14 +208,14 @@ steady-bound : (T : Tables) (x t n : ℕ) (b : SeekBuilder) → Steady n b → S
 unfolding placeBound
 steady-bound T x t n b s = by-test (λ b′. Steady n (fall b′)) (b .building) (λ e. steady-folded T x t n b s e) (λ e. steady-fall n b s)
 
-steady-narrowing : (n : ℕ) (b : SeekBuilder) (s : Steady n b) (path : FieldPath) (x : Narrowing) (es : List Event) → Nested n (Event.narrow path x ∷ es) → (m : ℕ) × Steady m (placeNarrowing path x b) × Nested m es
+steady-narrowing : (made n : ℕ) (b : SeekBuilder) (s : Steady n b) (path : FieldPath) (x : Narrowing) (es : List Event) → Nested n (Event.narrow made path x ∷ es) → (m : ℕ) × Steady m (placeNarrowing made path x b) × Nested m es
 unfolding placeNarrowing placePart placePrefix placeFuzzy withOpened
-steady-narrowing n b s path (Narrowing.Bytes bytes) es h = (n, by-test (Steady n) (b .building) (λ e. steady-part n b s _) (λ e. steady-residual n b s path _), h)
-steady-narrowing n b s path (Narrowing.Tag disc) es h = (suc n, by-test (Steady (suc n)) (b .building) (λ e. steady-part (suc n) _ (steady-tag n b s) _) (λ e. steady-residual (suc n) _ (steady-tag n b s) path _), h)
-steady-narrowing n b s path (Narrowing.RegisterField a at) es h = (n, by-test (Steady n) (b .building) (λ e. steady-part n b s _) (λ e. steady-residual n b s path _), h)
-steady-narrowing n b s path (Narrowing.FactId a) es h = (n, by-test (Steady n) (b .building) (λ e. steady-part n b s _) (λ e. steady-residual n b s path _), h)
-steady-narrowing n b s path (Narrowing.Prefix bytes) es h = (n, by-test (Steady n) (b .building) (λ e. steady-range n b s path bytes e) (λ e. steady-residual n b s path _), h)
-steady-narrowing n b s path (Narrowing.Fuzzy x d a) es h = (n, by-test (Steady n) (attachable b path) (λ e. steady-guide n b s _ e) (λ e. steady-residual n b s path _), h)
+steady-narrowing made n b s path (Narrowing.Bytes bytes) es h = (n, by-test (Steady n) (b .building) (λ e. steady-part n b s _) (λ e. steady-residual n b s _), h)
+steady-narrowing made n b s path (Narrowing.Tag disc) es h = (suc n, by-test (Steady (suc n)) (b .building) (λ e. steady-part (suc n) _ (steady-tag n b s) _) (λ e. steady-residual (suc n) _ (steady-tag n b s) _), h)
+steady-narrowing made n b s path (Narrowing.RegisterField a at) es h = (n, by-test (Steady n) (b .building) (λ e. steady-part n b s _) (λ e. steady-residual n b s _), h)
+steady-narrowing made n b s path (Narrowing.FactId a) es h = (n, by-test (Steady n) (b .building) (λ e. steady-part n b s _) (λ e. steady-residual n b s _), h)
+steady-narrowing made n b s path (Narrowing.Prefix bytes) es h = (n, by-test (Steady n) (b .building) (λ e. steady-range n b s _ e) (λ e. steady-residual n b s _), h)
+steady-narrowing made n b s path (Narrowing.Fuzzy x d a) es h = (n, by-test (Steady n) (attachable b path) (λ e. steady-guide n b s _ e) (λ e. steady-residual n b s _), h)
 
 -- What a level has placed, counted.
 pub filled : SeekBuilder → ℕ
@@ -224,35 +224,35 @@ filled b = length (b .parts) + length (b .residuals) + number (b .range) + numbe
 abbrev pub Counts : ℕ → SeekBuilder → SeekBuilder → Type 0
 Counts k b b′ = filled b′ + b .closers ≡ filled b + k + b′ .closers
 
-counts-part : (part : SeekKeyPart) (path : FieldPath) (op : Narrowing) (b : SeekBuilder) → Counts 1 b (placePart part path op b)
+counts-part : (made : ℕ) (part : SeekKeyPart) (path : FieldPath) (op : Narrowing) (b : SeekBuilder) → Counts 1 b (placePart made part path op b)
 unfolding placePart withPart withResidual filled
-counts-part part path op b =
+counts-part made part path op b =
     by-test (Counts 1 b) (b .building)
-    (λ e. omega (arith, length-append (b .parts) (part ∷ [])))
-    (λ e. omega (arith, length-append (b .residuals) (record { path = path; op = op } ∷ [])))
+    (λ e. omega (arith, length-append (b .parts) (record { key = part; node = made } ∷ [])))
+    (λ e. omega (arith, length-append (b .residuals) (record { path = path; op = op; node = made } ∷ [])))
 
-counts-prefix : (n : ℕ) (b : SeekBuilder) (s : Steady n b) (path : FieldPath) (prefix : List ℕ) → Counts 1 b (placePrefix path prefix b)
+counts-prefix : (made n : ℕ) (b : SeekBuilder) (s : Steady n b) (path : FieldPath) (prefix : List ℕ) → Counts 1 b (placePrefix made path prefix b)
 unfolding placePrefix withRange withResidual fall filled number
-counts-prefix n b s path prefix =
+counts-prefix made n b s path prefix =
     by-test (Counts 1 b) (b .building)
     (λ e. omega (arith, ap number (s .on e .no-range)))
-    (λ e. omega (arith, length-append (b .residuals) (record { path = path; op = Narrowing.Prefix prefix } ∷ [])))
+    (λ e. omega (arith, length-append (b .residuals) (record { path = path; op = Narrowing.Prefix prefix; node = made } ∷ [])))
 
-counts-fuzzy : (b : SeekBuilder) (path : FieldPath) (x distance : ℕ) (anchor : Anchor) → Counts 1 b (placeFuzzy path x distance anchor b)
+counts-fuzzy : (made : ℕ) (b : SeekBuilder) (path : FieldPath) (x distance : ℕ) (anchor : Anchor) → Counts 1 b (placeFuzzy made path x distance anchor b)
 unfolding placeFuzzy withGuide withResidual fall filled number
-counts-fuzzy b path x distance anchor =
+counts-fuzzy made b path x distance anchor =
     by-test (Counts 1 b) (attachable b path)
     (λ e. omega (arith, ap number (attach b path e .0)))
-    (λ e. omega (arith, length-append (b .residuals) (record { path = path; op = Narrowing.Fuzzy x distance anchor } ∷ [])))
+    (λ e. omega (arith, length-append (b .residuals) (record { path = path; op = Narrowing.Fuzzy x distance anchor; node = made } ∷ [])))
 
-counts-narrowing : (n : ℕ) (b : SeekBuilder) (s : Steady n b) (path : FieldPath) (x : Narrowing) → Counts 1 b (placeNarrowing path x b)
+counts-narrowing : (made n : ℕ) (b : SeekBuilder) (s : Steady n b) (path : FieldPath) (x : Narrowing) → Counts 1 b (placeNarrowing made path x b)
 unfolding placeNarrowing withOpened filled
-counts-narrowing n b s path (Narrowing.Bytes bytes) = counts-part _ path _ b
-counts-narrowing n b s path (Narrowing.Tag disc) = counts-part _ path _ (withOpened (b .building ∷ b .opened) b)
-counts-narrowing n b s path (Narrowing.RegisterField a at) = counts-part _ path _ b
-counts-narrowing n b s path (Narrowing.FactId a) = counts-part _ path _ b
-counts-narrowing n b s path (Narrowing.Prefix bytes) = counts-prefix n b s path bytes
-counts-narrowing n b s path (Narrowing.Fuzzy x d a) = counts-fuzzy b path x d a
+counts-narrowing made n b s path (Narrowing.Bytes bytes) = counts-part made _ path _ b
+counts-narrowing made n b s path (Narrowing.Tag disc) = counts-part made _ path _ (withOpened (b .building ∷ b .opened) b)
+counts-narrowing made n b s path (Narrowing.RegisterField a at) = counts-part made _ path _ b
+counts-narrowing made n b s path (Narrowing.FactId a) = counts-part made _ path _ b
+counts-narrowing made n b s path (Narrowing.Prefix bytes) = counts-prefix made n b s path bytes
+counts-narrowing made n b s path (Narrowing.Fuzzy x d a) = counts-fuzzy made b path x d a
 
 -- a closer: the innermost open tag ends, and building held before it if it holds
 steady-outer : (n : ℕ) (b : SeekBuilder) (s : Steady (suc n) b) (held : Bool) (outer : List Bool) → b .opened ≡ held ∷ outer → Steady n (withOpened outer b)
@@ -268,18 +268,18 @@ steady-outer n b s held outer e =
     tail-all : {x : Bool} {xs : List Bool} → Each (λ h. h ≡ true) (x ∷ xs) → Each (λ h. h ≡ true) xs
     tail-all (more p h) = h
 
-steady-close : (n : ℕ) (held : Bool) (b : SeekBuilder) → Steady n b → Steady n (closePart held b)
+steady-close : (made n : ℕ) (held : Bool) (b : SeekBuilder) → Steady n b → Steady n (closePart made held b)
 unfolding closePart
-steady-close n held b s = by-test (Steady n) (both held (b .building)) (λ e. steady-closer n b s) (λ e. s)
+steady-close made n held b s = by-test (Steady n) (both held (b .building)) (λ e. steady-closer n b s _) (λ e. s)
 
-counts-close : (held : Bool) (b : SeekBuilder) → Counts 0 b (closePart held b)
+counts-close : (made : ℕ) (held : Bool) (b : SeekBuilder) → Counts 0 b (closePart made held b)
 unfolding closePart withCloser withPart filled
-counts-close held b = by-test (Counts 0 b) (both held (b .building)) (λ e. omega (arith, length-append (b .parts) (SeekKeyPart.Bytes term ∷ []))) (λ e. omega arith)
+counts-close made held b = by-test (Counts 0 b) (both held (b .building)) (λ e. omega (arith, length-append (b .parts) (record { key = SeekKeyPart.Bytes term; node = made } ∷ []))) (λ e. omega arith)
 
-steady-placed-closer : (n : ℕ) (b : SeekBuilder) (s : Steady (suc n) b) (opened : List Bool) → b .opened ≡ opened → Steady n (placeCloser opened b) × Counts 0 b (placeCloser opened b)
+steady-placed-closer : (made n : ℕ) (b : SeekBuilder) (s : Steady (suc n) b) (opened : List Bool) → b .opened ≡ opened → Steady n (placeCloser made opened b) × Counts 0 b (placeCloser made opened b)
 unfolding placeCloser withOpened filled
-steady-placed-closer n b s [] e = absurd (omega (arith, ap length e, s .opens))
-steady-placed-closer n b s (held ∷ outer) e = (steady-close n held _ (steady-outer n b s held outer e), counts-close held (withOpened outer b))
+steady-placed-closer made n b s [] e = absurd (omega (arith, ap length e, s .opens))
+steady-placed-closer made n b s (held ∷ outer) e = (steady-close made n held _ (steady-outer n b s held outer e), counts-close made held (withOpened outer b))
 
 counts-fall : (b : SeekBuilder) → Counts 0 b (fall b)
 unfolding fall filled
@@ -305,24 +305,24 @@ counts-next k l a b c g h = omega (arith, g, h)
 placed-all : (T : Tables) (es : List Event) (n : ℕ) (b : SeekBuilder) → Steady n b → Nested n es → Placed es b (placeAll T es b)
 unfolding placeAll place narrowings
 placed-all T [] n b s h = placed-same n b s
-placed-all T (Event.narrow path x ∷ es) n b s h =
-    let a = steady-narrowing n b s path x es h in
-    let r = placed-all T es (a .0) (placeNarrowing path x b) (a .1) (a .2) in
-    record { depth-left = r .depth-left; steady = r .steady; counts = omega (arith, counts-narrowing n b s path x, r .counts) }
+placed-all T (Event.narrow made path x ∷ es) n b s h =
+    let a = steady-narrowing made n b s path x es h in
+    let r = placed-all T es (a .0) (placeNarrowing made path x b) (a .1) (a .2) in
+    record { depth-left = r .depth-left; steady = r .steady; counts = omega (arith, counts-narrowing made n b s path x, r .counts) }
 placed-all T (Event.skip ∷ es) n b s h =
     let r = placed-all T es n (fall b) (steady-fall n b s) h in
     record { depth-left = r .depth-left; steady = r .steady; counts = omega (arith, counts-fall b, r .counts) }
-placed-all T (Event.closer ∷ es) zero b s h = absurd h
-placed-all T (Event.closer ∷ es) (suc n) b s h =
-    let a = steady-placed-closer n b s (b .opened) refl in
-    let r = placed-all T es n (placeCloser (b .opened) b) (a .0) h in
+placed-all T (Event.closer made ∷ es) zero b s h = absurd h
+placed-all T (Event.closer made ∷ es) (suc n) b s h =
+    let a = steady-placed-closer made n b s (b .opened) refl in
+    let r = placed-all T es n (placeCloser made (b .opened) b) (a .0) h in
     record { depth-left = r .depth-left; steady = r .steady; counts = omega (arith, a .1, r .counts) }
 placed-all T (Event.bound x t ∷ []) n b s h = absurd h
 placed-all T (Event.bound x t ∷ Event.skip ∷ es) n b s h =
     let r = placed-all T es n (fall (placeBound T x t b)) (steady-bound T x t n b s) h in
     record { depth-left = r .depth-left; steady = r .steady; counts = omega (arith, counts-bound T x t b, r .counts) }
-placed-all T (Event.bound x t ∷ Event.narrow p y ∷ es) n b s h = absurd h
-placed-all T (Event.bound x t ∷ Event.closer ∷ es) n b s h = absurd h
+placed-all T (Event.bound x t ∷ Event.narrow made p y ∷ es) n b s h = absurd h
+placed-all T (Event.bound x t ∷ Event.closer made ∷ es) n b s h = absurd h
 placed-all T (Event.bound x t ∷ Event.bound y u ∷ es) n b s h = absurd h
 
 -- Building never returns, and without building no part is made and no closer taken: of any event.
@@ -331,29 +331,29 @@ record Fallen (b b′ : SeekBuilder) : Type 0 where
   parts : b′ .parts ≡ b .parts
   closers : b′ .closers ≡ b .closers
 
-fallen-part : (part : SeekKeyPart) (path : FieldPath) (op : Narrowing) (b : SeekBuilder) → b .building ≡ false → Fallen b (placePart part path op b)
+fallen-part : (made : ℕ) (part : SeekKeyPart) (path : FieldPath) (op : Narrowing) (b : SeekBuilder) → b .building ≡ false → Fallen b (placePart made part path op b)
 unfolding placePart withPart withResidual
-fallen-part part path op b h = by-test (Fallen b) (b .building) (λ e. absurd (true≢false (sym e ∙ h))) (λ e. record { building = h; parts = refl; closers = refl })
+fallen-part made part path op b h = by-test (Fallen b) (b .building) (λ e. absurd (true≢false (sym e ∙ h))) (λ e. record { building = h; parts = refl; closers = refl })
 
-fallen-narrowing : (path : FieldPath) (x : Narrowing) (b : SeekBuilder) → b .building ≡ false → Fallen b (placeNarrowing path x b)
+fallen-narrowing : (made : ℕ) (path : FieldPath) (x : Narrowing) (b : SeekBuilder) → b .building ≡ false → Fallen b (placeNarrowing made path x b)
 unfolding placeNarrowing placePrefix placeFuzzy withOpened withResidual withGuide fall
-fallen-narrowing path (Narrowing.Bytes bytes) b h = fallen-part _ path _ b h
-fallen-narrowing path (Narrowing.Tag disc) b h = let r = fallen-part _ path _ (withOpened (b .building ∷ b .opened) b) h in record { building = r .building; parts = r .parts; closers = r .closers }
-fallen-narrowing path (Narrowing.RegisterField a at) b h = fallen-part _ path _ b h
-fallen-narrowing path (Narrowing.FactId a) b h = fallen-part _ path _ b h
-fallen-narrowing path (Narrowing.Prefix bytes) b h = by-test (Fallen b) _ (λ e. absurd (true≢false (sym e ∙ h))) (λ e. record { building = h; parts = refl; closers = refl })
-fallen-narrowing path (Narrowing.Fuzzy x d a) b h = by-test (Fallen b) (attachable b path) (λ e. record { building = refl; parts = refl; closers = refl }) (λ e. record { building = h; parts = refl; closers = refl })
+fallen-narrowing made path (Narrowing.Bytes bytes) b h = fallen-part made _ path _ b h
+fallen-narrowing made path (Narrowing.Tag disc) b h = let r = fallen-part made _ path _ (withOpened (b .building ∷ b .opened) b) h in record { building = r .building; parts = r .parts; closers = r .closers }
+fallen-narrowing made path (Narrowing.RegisterField a at) b h = fallen-part made _ path _ b h
+fallen-narrowing made path (Narrowing.FactId a) b h = fallen-part made _ path _ b h
+fallen-narrowing made path (Narrowing.Prefix bytes) b h = by-test (Fallen b) _ (λ e. absurd (true≢false (sym e ∙ h))) (λ e. record { building = h; parts = refl; closers = refl })
+fallen-narrowing made path (Narrowing.Fuzzy x d a) b h = by-test (Fallen b) (attachable b path) (λ e. record { building = refl; parts = refl; closers = refl }) (λ e. record { building = h; parts = refl; closers = refl })
 
-fallen-closer : (opened : List Bool) (b : SeekBuilder) → b .building ≡ false → Fallen b (placeCloser opened b)
+fallen-closer : (made : ℕ) (opened : List Bool) (b : SeekBuilder) → b .building ≡ false → Fallen b (placeCloser made opened b)
 unfolding placeCloser withOpened
-fallen-closer [] b h = record { building = h; parts = refl; closers = refl }
-fallen-closer (held ∷ outer) b h = subst (Fallen b) (sym (closer-fallen held (withOpened outer b) h)) (record { building = h; parts = refl; closers = refl })
+fallen-closer made [] b h = record { building = h; parts = refl; closers = refl }
+fallen-closer made (held ∷ outer) b h = subst (Fallen b) (sym (closer-fallen made held (withOpened outer b) h)) (record { building = h; parts = refl; closers = refl })
 
 fallen : (T : Tables) (e : Event) (b : SeekBuilder) → b .building ≡ false → Fallen b (place T e b)
 unfolding place placeBound fall
-fallen T (Event.narrow path x) b h = fallen-narrowing path x b h
+fallen T (Event.narrow made path x) b h = fallen-narrowing made path x b h
 fallen T Event.skip b h = record { building = refl; parts = refl; closers = refl }
-fallen T Event.closer b h = fallen-closer (b .opened) b h
+fallen T (Event.closer made) b h = fallen-closer made (b .opened) b h
 fallen T (Event.bound x t) b h = by-test (Fallen b) (b .building) (λ e. absurd (true≢false (sym e ∙ h))) (λ e. record { building = h; parts = refl; closers = refl })
 
 fallen-all : (T : Tables) (es : List Event) (b : SeekBuilder) → b .building ≡ false → Fallen b (placeAll T es b)
@@ -377,32 +377,32 @@ never-returns T es i k h =
     ∙ fallen-all T (take k (drop i es)) (placeAll T (take i es) new) h .building
 
 -- While building holds each event makes its part and counts as what it is, or building falls and it makes none.
-record Makes (parts : List SeekKeyPart) (closers : ℕ) (b b′ : SeekBuilder) : Type 0 where
+record Makes (parts : List Part) (closers : ℕ) (b b′ : SeekBuilder) : Type 0 where
   on : b′ .building ≡ true → b′ .parts ≡ b .parts ++ parts
   fell : b′ .building ≡ false → b′ .parts ≡ b .parts
   on-closers : b′ .building ≡ true → b′ .closers ≡ b .closers + closers
   fell-closers : b′ .building ≡ false → b′ .closers ≡ b .closers
 
-makes-part : (b : SeekBuilder) → b .building ≡ true → (part : SeekKeyPart) (path : FieldPath) (op : Narrowing) → Makes (part ∷ []) 0 b (placePart part path op b)
+makes-part : (made : ℕ) (b : SeekBuilder) → b .building ≡ true → (part : SeekKeyPart) (path : FieldPath) (op : Narrowing) → Makes (madeBy made part) 0 b (placePart made part path op b)
 unfolding placePart withPart
-makes-part b h part path op =
-    by-test (Makes (part ∷ []) 0 b) (b .building)
+makes-part made b h part path op =
+    by-test (Makes (madeBy made part) 0 b) (b .building)
     (λ e. record { on = λ q. refl; fell = λ q. absurd (true≢false (sym h ∙ q)); on-closers = λ q. omega arith; fell-closers = λ q. refl })
     (λ e. absurd (true≢false (sym h ∙ e)))
 
 makes-none : (b b′ : SeekBuilder) → b′ .parts ≡ b .parts → b′ .closers ≡ b .closers → Makes [] 0 b b′
 makes-none b b′ e c = record { on = λ q. e ∙ sym (append-nil (b .parts)); fell = λ q. e; on-closers = λ q. omega (arith, c); fell-closers = λ q. c }
 
-makes-narrowing : (b : SeekBuilder) → b .building ≡ true → (path : FieldPath) (x : Narrowing) → Makes (partsOf (Event.narrow path x)) (closersOf (Event.narrow path x)) b (placeNarrowing path x b)
+makes-narrowing : (made : ℕ) (b : SeekBuilder) → b .building ≡ true → (path : FieldPath) (x : Narrowing) → Makes (partsOf (Event.narrow made path x)) (closersOf (Event.narrow made path x)) b (placeNarrowing made path x b)
 unfolding partsOf closersOf placeNarrowing placePrefix placeFuzzy withOpened withResidual withRange withGuide fall
-makes-narrowing b h path (Narrowing.Bytes bytes) = makes-part b h _ path _
-makes-narrowing b h path (Narrowing.Tag disc) =
-    let r = makes-part (withOpened (b .building ∷ b .opened) b) h (SeekKeyPart.Bytes (unionTag disc)) path (Narrowing.Tag disc) in
+makes-narrowing made b h path (Narrowing.Bytes bytes) = makes-part made b h _ path _
+makes-narrowing made b h path (Narrowing.Tag disc) =
+    let r = makes-part made (withOpened (b .building ∷ b .opened) b) h (SeekKeyPart.Bytes (unionTag disc)) path (Narrowing.Tag disc) in
     record { on = r .on; fell = r .fell; on-closers = r .on-closers; fell-closers = r .fell-closers }
-makes-narrowing b h path (Narrowing.RegisterField a at) = makes-part b h _ path _
-makes-narrowing b h path (Narrowing.FactId a) = makes-part b h _ path _
-makes-narrowing b h path (Narrowing.Prefix bytes) = by-test (Makes [] 0 b) (b .building) (λ e. makes-none b _ refl refl) (λ e. makes-none b _ refl refl)
-makes-narrowing b h path (Narrowing.Fuzzy x d a) = by-test (Makes [] 0 b) (attachable b path) (λ e. makes-none b _ refl refl) (λ e. makes-none b _ refl refl)
+makes-narrowing made b h path (Narrowing.RegisterField a at) = makes-part made b h _ path _
+makes-narrowing made b h path (Narrowing.FactId a) = makes-part made b h _ path _
+makes-narrowing made b h path (Narrowing.Prefix bytes) = by-test (Makes [] 0 b) (b .building) (λ e. makes-none b _ refl refl) (λ e. makes-none b _ refl refl)
+makes-narrowing made b h path (Narrowing.Fuzzy x d a) = by-test (Makes [] 0 b) (attachable b path) (λ e. makes-none b _ refl refl) (λ e. makes-none b _ refl refl)
 
 makes-skip : (b : SeekBuilder) → Makes (partsOf Event.skip) (closersOf Event.skip) b (fall b)
 unfolding partsOf closersOf fall
@@ -411,11 +411,11 @@ makes-skip b = makes-none b _ refl refl
 head-true : {x : Bool} {xs : List Bool} → Each (λ k. k ≡ true) (x ∷ xs) → x ≡ true
 head-true (more p g) = p
 
-makes-closer : (b : SeekBuilder) → b .building ≡ true → (n : ℕ) → Steady (suc n) b → (opened : List Bool) → b .opened ≡ opened → Makes (partsOf Event.closer) (closersOf Event.closer) b (placeCloser opened b)
+makes-closer : (made : ℕ) (b : SeekBuilder) → b .building ≡ true → (n : ℕ) → Steady (suc n) b → (opened : List Bool) → b .opened ≡ opened → Makes (partsOf (Event.closer made)) (closersOf (Event.closer made)) b (placeCloser made opened b)
 unfolding partsOf closersOf placeCloser closePart withOpened withCloser withPart
-makes-closer b h n s [] e = absurd (omega (arith, ap length e, s .opens))
-makes-closer b h n s (held ∷ outer) e =
-    by-test (Makes (SeekKeyPart.Bytes term ∷ []) 1 b) (both held (b .building))
+makes-closer made b h n s [] e = absurd (omega (arith, ap length e, s .opens))
+makes-closer made b h n s (held ∷ outer) e =
+    by-test (Makes (madeBy made (SeekKeyPart.Bytes term)) 1 b) (both held (b .building))
     (λ q. record { on = λ t. refl; fell = λ t. absurd (true≢false (sym h ∙ t)); on-closers = λ t. refl; fell-closers = λ t. absurd (true≢false (sym h ∙ t)) })
     (λ q. absurd (true≢false (sym (ap (λ (k : Bool). both k (b .building)) (head-true (subst (Each (λ k. k ≡ true)) e (s .on h .all-open))) ∙ h) ∙ q)))
 
@@ -440,7 +440,7 @@ unfolding placeAll beforeFall concatMap closersIn
 made-step T e es b m ih =
     by-test (λ fs. Made fs b (placeAll T es (place T e b))) (place T e b .building)
     (λ q. record {
-      parts = ih q .parts ∙ ap (λ (l : List SeekKeyPart). l ++ concatMap partsOf (beforeFall T (place T e b) es)) (m .on q) ∙ append-assoc (b .parts) (partsOf e) (concatMap partsOf (beforeFall T (place T e b) es));
+      parts = ih q .parts ∙ ap (λ (l : List Part). l ++ concatMap partsOf (beforeFall T (place T e b) es)) (m .on q) ∙ append-assoc (b .parts) (partsOf e) (concatMap partsOf (beforeFall T (place T e b) es));
       closers = omega (arith, ih q .closers, m .on-closers q);
     })
     (λ q. let f = fallen-all T es (place T e b) q in made-none b _ (f .parts ∙ m .fell q) (f .closers ∙ m .fell-closers q))
@@ -448,20 +448,20 @@ made-step T e es b m ih =
 made-all : (T : Tables) (es : List Event) (n : ℕ) (b : SeekBuilder) → Steady n b → Nested n es → b .building ≡ true → Made (beforeFall T b es) b (placeAll T es b)
 unfolding placeAll place beforeFall
 made-all T [] n b s h on = made-none b b refl refl
-made-all T (Event.narrow path x ∷ es) n b s h on =
-    let a = steady-narrowing n b s path x es h in
-    made-step T (Event.narrow path x) es b (makes-narrowing b on path x) (λ q. made-all T es (a .0) (placeNarrowing path x b) (a .1) (a .2) q)
+made-all T (Event.narrow made path x ∷ es) n b s h on =
+    let a = steady-narrowing made n b s path x es h in
+    made-step T (Event.narrow made path x) es b (makes-narrowing made b on path x) (λ q. made-all T es (a .0) (placeNarrowing made path x b) (a .1) (a .2) q)
 made-all T (Event.skip ∷ es) n b s h on = made-step T Event.skip es b (makes-skip b) (λ q. made-all T es n (fall b) (steady-fall n b s) h q)
-made-all T (Event.closer ∷ es) zero b s h on = absurd h
-made-all T (Event.closer ∷ es) (suc n) b s h on =
-    made-step T Event.closer es b (makes-closer b on n s (b .opened) refl)
-    (λ q. made-all T es n (placeCloser (b .opened) b) (steady-placed-closer n b s (b .opened) refl .0) h q)
+made-all T (Event.closer made ∷ es) zero b s h on = absurd h
+made-all T (Event.closer made ∷ es) (suc n) b s h on =
+    made-step T (Event.closer made) es b (makes-closer made b on n s (b .opened) refl)
+    (λ q. made-all T es n (placeCloser made (b .opened) b) (steady-placed-closer made n b s (b .opened) refl .0) h q)
 made-all T (Event.bound x t ∷ []) n b s h on = absurd h
 made-all T (Event.bound x t ∷ Event.skip ∷ es) n b s h on =
     made-step T (Event.bound x t) (Event.skip ∷ es) b (makes-bound b T x t)
     (λ q. made-step T Event.skip es (placeBound T x t b) (makes-skip (placeBound T x t b)) (λ r. made-all T es n (fall (placeBound T x t b)) (steady-bound T x t n b s) h r))
-made-all T (Event.bound x t ∷ Event.narrow p y ∷ es) n b s h on = absurd h
-made-all T (Event.bound x t ∷ Event.closer ∷ es) n b s h on = absurd h
+made-all T (Event.bound x t ∷ Event.narrow made p y ∷ es) n b s h on = absurd h
+made-all T (Event.bound x t ∷ Event.closer made ∷ es) n b s h on = absurd h
 made-all T (Event.bound x t ∷ Event.bound y u ∷ es) n b s h on = absurd h
 
 -- lo and hi are two

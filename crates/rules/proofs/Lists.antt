@@ -94,8 +94,8 @@ adds-keeps T =
       reports = λ n c w. adds-others (w .lists) _ refl (onwards-same _) (onwards-same _) (onwards-one (w .lists .diagnostics) (record { node = n; code = c }));
       skips = λ w. adds-same (w .lists);
       bounds = λ x t w. adds-same (w .lists);
-      constants = λ n t c p w e s. adds-same (w .lists);
-      registers = λ a at p w s s′. adds-same (w .lists);
-      facts = λ a p w s. adds-same (w .lists);
-      unions = λ d p w w′ s h. h;
+      constants = λ m n t c p w e s. adds-same (w .lists);
+      registers = λ m a at p w s s′. adds-same (w .lists);
+      facts = λ m a p w s. adds-same (w .lists);
+      unions = λ m d p w w′ s h. h;
     }

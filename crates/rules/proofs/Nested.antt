@@ -11,19 +11,19 @@ use Rattle.rules.proofs.Keeps.{Keeps, narrow, skip}
 -- n tags are open
 abbrev pub Nested : ℕ → List Event → Type 0
 Nested n [] = Unit {0}
-Nested n (Event.narrow p (Narrowing.Bytes bytes) ∷ es) = Nested n es
-Nested n (Event.narrow p (Narrowing.Tag d) ∷ es) = Nested (suc n) es
-Nested n (Event.narrow p (Narrowing.RegisterField a at) ∷ es) = Nested n es
-Nested n (Event.narrow p (Narrowing.FactId a) ∷ es) = Nested n es
-Nested n (Event.narrow p (Narrowing.Prefix bytes) ∷ es) = Nested n es
-Nested n (Event.narrow p (Narrowing.Fuzzy x d a) ∷ es) = Nested n es
+Nested n (Event.narrow m p (Narrowing.Bytes bytes) ∷ es) = Nested n es
+Nested n (Event.narrow m p (Narrowing.Tag d) ∷ es) = Nested (suc n) es
+Nested n (Event.narrow m p (Narrowing.RegisterField a at) ∷ es) = Nested n es
+Nested n (Event.narrow m p (Narrowing.FactId a) ∷ es) = Nested n es
+Nested n (Event.narrow m p (Narrowing.Prefix bytes) ∷ es) = Nested n es
+Nested n (Event.narrow m p (Narrowing.Fuzzy x d a) ∷ es) = Nested n es
 Nested n (Event.skip ∷ es) = Nested n es
-Nested zero (Event.closer ∷ es) = ⊥
-Nested (suc n) (Event.closer ∷ es) = Nested n es
+Nested zero (Event.closer m ∷ es) = ⊥
+Nested (suc n) (Event.closer m ∷ es) = Nested n es
 Nested n (Event.bound x t ∷ []) = ⊥
 Nested n (Event.bound x t ∷ Event.skip ∷ es) = Nested n es
-Nested n (Event.bound x t ∷ Event.narrow p y ∷ es) = ⊥
-Nested n (Event.bound x t ∷ Event.closer ∷ es) = ⊥
+Nested n (Event.bound x t ∷ Event.narrow m p y ∷ es) = ⊥
+Nested n (Event.bound x t ∷ Event.closer m ∷ es) = ⊥
 Nested n (Event.bound x t ∷ Event.bound y u ∷ es) = ⊥
 
 -- what a walk emits leaves as many tags open as it found
@@ -48,19 +48,19 @@ emits-one : (w : Walk) (e : Event) → ((n : ℕ) (fs : List Event) → Nested n
 unfolding emit
 emits-one w e h = record { emitted = e ∷ []; events-end = refl; balanced = h }
 
-emits-const : (c : Const) (p : FieldPath) (n : ℕ) (fs : List Event) → Nested n fs → Nested n (Event.narrow p (narrowing c) ∷ fs)
+emits-const : (m : ℕ) (c : Const) (p : FieldPath) (n : ℕ) (fs : List Event) → Nested n fs → Nested n (Event.narrow m p (narrowing c) ∷ fs)
 unfolding narrowing
-emits-const (Const.Bytes bytes) p n fs h = h
-emits-const (Const.Prefix bytes) p n fs h = h
-emits-const (Const.Fuzzy x d a) p n fs h = h
+emits-const m (Const.Bytes bytes) p n fs h = h
+emits-const m (Const.Prefix bytes) p n fs h = h
+emits-const m (Const.Fuzzy x d a) p n fs h = h
 
-emits-union : (d : ℕ) (p : FieldPath) (w w′ : Walk) → Emits (narrow p (Narrowing.Tag d) w) w′ → Emits w (emit Event.closer w′)
+emits-union : (m d : ℕ) (p : FieldPath) (w w′ : Walk) → Emits (narrow m p (Narrowing.Tag d) w) w′ → Emits w (emit (Event.closer m) w′)
 unfolding emit
-emits-union d p w w′ a =
+emits-union m d p w w′ a =
     record {
-      emitted = Event.narrow p (Narrowing.Tag d) ∷ (a .emitted ++ (Event.closer ∷ []));
-      events-end = ap (λ l. l ++ (Event.closer ∷ [])) (a .events-end) ∙ append-assoc (w .events ++ (Event.narrow p (Narrowing.Tag d) ∷ [])) (a .emitted) (Event.closer ∷ []) ∙ append-assoc (w .events) (Event.narrow p (Narrowing.Tag d) ∷ []) (a .emitted ++ (Event.closer ∷ []));
-      balanced = λ n fs h. subst (Nested (suc n)) (sym (append-assoc (a .emitted) (Event.closer ∷ []) fs)) (a .balanced (suc n) (Event.closer ∷ fs) h);
+      emitted = Event.narrow m p (Narrowing.Tag d) ∷ (a .emitted ++ (Event.closer m ∷ []));
+      events-end = ap (λ l. l ++ (Event.closer m ∷ [])) (a .events-end) ∙ append-assoc (w .events ++ (Event.narrow m p (Narrowing.Tag d) ∷ [])) (a .emitted) (Event.closer m ∷ []) ∙ append-assoc (w .events) (Event.narrow m p (Narrowing.Tag d) ∷ []) (a .emitted ++ (Event.closer m ∷ []));
+      balanced = λ n fs h. subst (Nested (suc n)) (sym (append-assoc (a .emitted) (Event.closer m ∷ []) fs)) (a .balanced (suc n) (Event.closer m ∷ fs) h);
     }
 
 emits-bound : (x t : ℕ) (w : Walk) → Emits w (skip (emit (Event.bound x t) w))
@@ -79,8 +79,8 @@ emits-keeps T =
       reports = λ n c w. emits-none w _ refl;
       skips = λ w. emits-one w Event.skip (λ n fs h. h);
       bounds = emits-bound;
-      constants = λ n t c p w e s. emits-one w _ (emits-const c p);
-      registers = λ a at p w s s′. emits-one w _ (λ n fs h. h);
-      facts = λ a p w s. emits-one w _ (λ n fs h. h);
-      unions = λ d p w w′ s h. emits-union d p w w′ h;
+      constants = λ m n t c p w e s. emits-one w _ (emits-const m c p);
+      registers = λ m a at p w s s′. emits-one w _ (λ n fs h. h);
+      facts = λ m a p w s. emits-one w _ (λ n fs h. h);
+      unions = λ m d p w w′ s h. emits-union m d p w w′ h;
     }

@@ -1,5 +1,5 @@
 -- In an accepted file no path of the walk needs more than fifteen steps: not of an event, not of a select, not of a binding.
-use Prim.Native.Nat.{_<_}
+use Prim.Native.Nat.{ℕ, _<_}
 use lib.ListN.{length}
 use Rattle.rules.specs.Base.{Each, done, more}
 use Rattle.rules.specs.File.{Tables, FieldPath, Slot, LevelEntry}
@@ -20,9 +20,9 @@ NarrowingShort (Narrowing.Prefix bytes) = Unit {0}
 NarrowingShort (Narrowing.Fuzzy x d a) = Unit {0}
 
 abbrev pub EventShort : Event → Type 0
-EventShort (Event.narrow p x) = Short p × NarrowingShort x
+EventShort (Event.narrow n p x) = Short p × NarrowingShort x
 EventShort Event.skip = Unit {0}
-EventShort Event.closer = Unit {0}
+EventShort (Event.closer n) = Unit {0}
 EventShort (Event.bound x t) = Unit {0}
 
 abbrev pub SlotShort : Slot → Type 0
@@ -45,11 +45,11 @@ emits : (e : Event) (w : Walk) → EventShort e → StillShort w (emit e w)
 unfolding emit
 emits e w h s = record { events = each-append (s .events) (more h done); selects = s .selects }
 
-emits-constant : (c : Const) (p : FieldPath) (w : Walk) → Short p → StillShort w (narrow p (narrowing c) w)
+emits-constant : (n : ℕ) (c : Const) (p : FieldPath) (w : Walk) → Short p → StillShort w (narrow n p (narrowing c) w)
 unfolding narrowing
-emits-constant (Const.Bytes bytes) p w h = emits _ w (h, tt)
-emits-constant (Const.Prefix bytes) p w h = emits _ w (h, tt)
-emits-constant (Const.Fuzzy x d a) p w h = emits _ w (h, tt)
+emits-constant n (Const.Bytes bytes) p w h = emits _ w (h, tt)
+emits-constant n (Const.Prefix bytes) p w h = emits _ w (h, tt)
+emits-constant n (Const.Fuzzy x d a) p w h = emits _ w (h, tt)
 
 pub short-keeps : (T : Tables) → Keeps T StillShort
 unfolding bind constrained select report
@@ -63,10 +63,10 @@ short-keeps T =
       reports = λ n c w s. record { events = s .events; selects = s .selects };
       skips = λ w. emits Event.skip w tt;
       bounds = λ x t w s. emits Event.skip _ tt (emits (Event.bound x t) w tt s);
-      constants = λ n t c p w e h. emits-constant c p w h;
-      registers = λ a at p w h h′. emits _ w (h′, h);
-      facts = λ a p w h. emits _ w (h, tt);
-      unions = λ d p w w′ h g s. emits Event.closer w′ tt (g (emits _ w (h, tt) s));
+      constants = λ m n t c p w e h. emits-constant m c p w h;
+      registers = λ m a at p w h h′. emits _ w (h′, h);
+      facts = λ m a p w h. emits _ w (h, tt);
+      unions = λ m d p w w′ h g s. emits (Event.closer m) w′ tt (g (emits _ w (h, tt) s));
     }
 
 slot-short : (T : Tables) → Sound T → (s : Slot) → SlotOk T s → SlotShort s

@@ -15,7 +15,7 @@ use Rattle.rules.specs.Constant.{Const, constant, fieldPattern, alternat
 use Rattle.rules.specs.Lookup.{fieldOf, hoistedSlot, fetchedRegister}
 use Rattle.rules.specs.Events.{Code, Narrowing, Event, Walk, Ops, walkOps, bind, constrained, select, report, emit}
 use Rattle.rules.specs.Resolve.{Answer, Resolver, follow, _whenFound_, give, declined, fetchedRow, dereference, fieldOfRow, fieldSlot, valueSlot, selected, selectSlot, resolveNode, resolveBelow, resolve}
-use Rattle.rules.specs.Walk.{narrowing, narrowBy, FieldWalk, eachField, constrainEach, constrainBy, constrain, ranked, refersTo, deferred, unresolved, partialFields, partial, matched, injectAlternative, injectOnly, inject, readAnswer, read, ranged, variable, fieldNode, fieldBelow, field, wholeFields, wholeRead, wholeVariable, wholeKey, recordKey, key}
+use Rattle.rules.specs.Walk.{narrowing, wholeNode, narrowBy, FieldWalk, eachField, constrainEach, constrainBy, constrain, ranked, refersTo, deferred, unresolved, partialFields, partial, matched, injectAlternative, injectOnly, inject, readAnswer, read, ranged, variable, fieldNode, fieldBelow, field, wholeFields, wholeRead, wholeVariable, wholeKey, recordKey, key}
 use Rattle.rules.proofs.Cases.{by-test, true≢false, some≢none, some-injective}
 use Rattle.rules.proofs.Choices.{by-test₂, by-option₂}
 use Rattle.rules.proofs.Each.{each-imply, each-append, each-first}
@@ -50,12 +50,12 @@ pub record Sim (T : Tables) (P : FieldPath → Type 0) (N : ℕ → Type 0) {C :
   pub reports : (n : ℕ) (code : Code) (a : Walk) (c : C) → R a c → R (report n code a) (o .report n code c)
   pub skips : (a : Walk) (c : C) → R a c → R (skip a) (o .skip c)
   pub bounds : (x t : ℕ) (a : Walk) (c : C) → R a c → R (skip (emit (Event.bound x t) a)) (o .skip (o .bound x t c))
-  pub constants : (n t : ℕ) (k : Const) (p : FieldPath) (a : Walk) (c : C) → constant T n t ≡ some k → Short p → R a c → R (narrow p (narrowing k) a) (o .narrow p (narrowing k) c)
-  pub registers : (n : ℕ) (at p : FieldPath) (a : Walk) (c : C) → Short at → Short p → R a c → R (narrow p (Narrowing.RegisterField n at) a) (o .narrow p (Narrowing.RegisterField n at) c)
-  pub facts : (n : ℕ) (p : FieldPath) (a : Walk) (c : C) → Short p → R a c → R (narrow p (Narrowing.FactId n) a) (o .narrow p (Narrowing.FactId n) c)
-  pub tags : (d : ℕ) (p : FieldPath) (a : Walk) (c : C) → Short p → R a c → R (narrow p (Narrowing.Tag d) a) (o .narrow p (Narrowing.Tag d) c)
+  pub constants : (m n t : ℕ) (k : Const) (p : FieldPath) (a : Walk) (c : C) → constant T n t ≡ some k → Short p → R a c → R (narrow m p (narrowing k) a) (o .narrow m p (narrowing k) c)
+  pub registers : (m n : ℕ) (at p : FieldPath) (a : Walk) (c : C) → Short at → Short p → R a c → R (narrow m p (Narrowing.RegisterField n at) a) (o .narrow m p (Narrowing.RegisterField n at) c)
+  pub facts : (m n : ℕ) (p : FieldPath) (a : Walk) (c : C) → Short p → R a c → R (narrow m p (Narrowing.FactId n) a) (o .narrow m p (Narrowing.FactId n) c)
+  pub tags : (m d : ℕ) (p : FieldPath) (a : Walk) (c : C) → Short p → R a c → R (narrow m p (Narrowing.Tag d) a) (o .narrow m p (Narrowing.Tag d) c)
   -- from before the tag, a and c, to after the payload, a′ and c′
-  pub closers : (d : ℕ) (p : FieldPath) (a a′ : Walk) (c c′ : C) → Short p → R a c → M (narrow p (Narrowing.Tag d) a) a′ → (stopped c′ ≡ false → stopped c ≡ false) → R a′ c′ → R (emit Event.closer a′) (o .closer c c′)
+  pub closers : (m d : ℕ) (p : FieldPath) (a a′ : Walk) (c c′ : C) → Short p → R a c → M (narrow m p (Narrowing.Tag d) a) a′ → (stopped c′ ≡ false → stopped c ≡ false) → R a′ c′ → R (emit (Event.closer m) a′) (o .closer m c c′)
 
 module _ (T : Tables) (S : Sound T) (P : FieldPath → Type 0) (N : ℕ → Type 0) (numbers : Numbers T P N) {C : Type 0} (o : Ops C) (stopped : C → Bool) (address : ℕ) (M : Walk → Walk → Type 0) (R : Walk → C → Type 0) (K : Keeps T M) (sim : Sim T P N o stopped address M R) where
   abbrev Fit : Walk → Type 0
@@ -121,31 +121,31 @@ module _ (T : Tables) (S : Sound T) (P : FieldPath → Type 0) (N : ℕ → Type
   goes-bind-key x t a c e n l f r =
       record { grew = K .binds x (Slot.Key address t) a e l refl; fit = each-append f (more l done); rel = sim .keys x t a c e n l r; still = λ h. ap stopped (sim .idle c h .bind x (Slot.Key address t)) ∙ h }
 
-  goes-constant : (n t : ℕ) (k : Const) (p : FieldPath) (a : Walk) (c : C) → constant T n t ≡ some k → Short p → Goes a (narrow p (narrowing k) a) c (o .narrow p (narrowing k) c)
+  goes-constant : (m n t : ℕ) (k : Const) (p : FieldPath) (a : Walk) (c : C) → constant T n t ≡ some k → Short p → Goes a (narrow m p (narrowing k) a) c (o .narrow m p (narrowing k) c)
   unfolding emit
-  goes-constant n t k p a c e s f r = record { grew = K .constants n t k p a e s; fit = f; rel = sim .constants n t k p a c e s r; still = λ h. ap stopped (sim .idle c h .narrow p (narrowing k)) ∙ h }
+  goes-constant m n t k p a c e s f r = record { grew = K .constants m n t k p a e s; fit = f; rel = sim .constants m n t k p a c e s r; still = λ h. ap stopped (sim .idle c h .narrow m p (narrowing k)) ∙ h }
 
   -- a constant, or what stands in its place where there is none: both runs find the same
-  goes-constant-or : (n t : ℕ) (p : FieldPath) (a x : Walk) (c y : C) → Short p → Goes a x c y → Goes a (elim (constant T n t) [ none ↦ x | some k ↦ narrow p (narrowing k) a ]) c (elim (o .constant c n t) [ none ↦ y | some k ↦ o .narrow p (narrowing k) c ])
-  goes-constant-or n t p a x c y s g f r =
-      subst (λ (found : Option Const). Both a (elim (constant T n t) [ none ↦ x | some k ↦ narrow p (narrowing k) a ]) c (elim found [ none ↦ y | some k ↦ o .narrow p (narrowing k) c ])) (sym (sim .constant-is a c r n t))
-      (by-option₂ (λ a′ c′. Goes a a′ c c′) (constant T n t) (λ e. g) (λ k e. goes-constant n t k p a c e s) f r)
+  goes-constant-or : (m n t : ℕ) (p : FieldPath) (a x : Walk) (c y : C) → Short p → Goes a x c y → Goes a (elim (constant T n t) [ none ↦ x | some k ↦ narrow m p (narrowing k) a ]) c (elim (o .constant c n t) [ none ↦ y | some k ↦ o .narrow m p (narrowing k) c ])
+  goes-constant-or m n t p a x c y s g f r =
+      subst (λ (found : Option Const). Both a (elim (constant T n t) [ none ↦ x | some k ↦ narrow m p (narrowing k) a ]) c (elim found [ none ↦ y | some k ↦ o .narrow m p (narrowing k) c ])) (sym (sim .constant-is a c r n t))
+      (by-option₂ (λ a′ c′. Goes a a′ c c′) (constant T n t) (λ e. g) (λ k e. goes-constant m n t k p a c e s) f r)
 
-  goes-register : (n : ℕ) (at p : FieldPath) (a : Walk) (c : C) → Short at → Short p → Goes a (narrow p (Narrowing.RegisterField n at) a) c (o .narrow p (Narrowing.RegisterField n at) c)
+  goes-register : (m n : ℕ) (at p : FieldPath) (a : Walk) (c : C) → Short at → Short p → Goes a (narrow m p (Narrowing.RegisterField n at) a) c (o .narrow m p (Narrowing.RegisterField n at) c)
   unfolding emit
-  goes-register n at p a c s s′ f r = record { grew = K .registers n at p a s s′; fit = f; rel = sim .registers n at p a c s s′ r; still = λ h. ap stopped (sim .idle c h .narrow p (Narrowing.RegisterField n at)) ∙ h }
+  goes-register m n at p a c s s′ f r = record { grew = K .registers m n at p a s s′; fit = f; rel = sim .registers m n at p a c s s′ r; still = λ h. ap stopped (sim .idle c h .narrow m p (Narrowing.RegisterField n at)) ∙ h }
 
-  goes-fact : (n : ℕ) (p : FieldPath) (a : Walk) (c : C) → Short p → Goes a (narrow p (Narrowing.FactId n) a) c (o .narrow p (Narrowing.FactId n) c)
+  goes-fact : (m n : ℕ) (p : FieldPath) (a : Walk) (c : C) → Short p → Goes a (narrow m p (Narrowing.FactId n) a) c (o .narrow m p (Narrowing.FactId n) c)
   unfolding emit
-  goes-fact n p a c s f r = record { grew = K .facts n p a s; fit = f; rel = sim .facts n p a c s r; still = λ h. ap stopped (sim .idle c h .narrow p (Narrowing.FactId n)) ∙ h }
+  goes-fact m n p a c s f r = record { grew = K .facts m n p a s; fit = f; rel = sim .facts m n p a c s r; still = λ h. ap stopped (sim .idle c h .narrow m p (Narrowing.FactId n)) ∙ h }
 
   -- a tag, its payload, its closer
-  goes-union : (d : ℕ) (p : FieldPath) (a a′ : Walk) (c c′ : C) → Short p → Goes (narrow p (Narrowing.Tag d) a) a′ (o .narrow p (Narrowing.Tag d) c) c′ → Goes a (emit Event.closer a′) c (o .closer c c′)
+  goes-union : (m d : ℕ) (p : FieldPath) (a a′ : Walk) (c c′ : C) → Short p → Goes (narrow m p (Narrowing.Tag d) a) a′ (o .narrow m p (Narrowing.Tag d) c) c′ → Goes a (emit (Event.closer m) a′) c (o .closer m c c′)
   unfolding emit
-  goes-union d p a a′ c c′ s g f r =
-      let b = g f (sim .tags d p a c s r) in
-      let on : stopped c ≡ true → stopped c′ ≡ true = λ h. b .still (ap stopped (sim .idle c h .narrow p (Narrowing.Tag d)) ∙ h) in
-      record { grew = K .unions d p a a′ s (b .grew); fit = b .fit; rel = sim .closers d p a a′ c c′ s r (b .grew) (went-on on) (b .rel); still = λ h. ap stopped (sim .idle c′ (on h) .closer c) ∙ on h }
+  goes-union m d p a a′ c c′ s g f r =
+      let b = g f (sim .tags m d p a c s r) in
+      let on : stopped c ≡ true → stopped c′ ≡ true = λ h. b .still (ap stopped (sim .idle c h .narrow m p (Narrowing.Tag d)) ∙ h) in
+      record { grew = K .unions m d p a a′ s (b .grew); fit = b .fit; rel = sim .closers m d p a a′ c c′ s r (b .grew) (went-on on) (b .rel); still = λ h. ap stopped (sim .idle c′ (on h) .closer m c) ∙ on h }
 
   -- A branch on what each run finds by itself: l here and m there. It suffices to follow both on the first run's branch.
   sync : {L : Type 0} (a : Walk) (c : C) (l m : L) (x : Walk) (g : L → C) → (Fit a → stopped c ≡ false → R a c → m ≡ l) → Goes a x c (g l) → (stopped c ≡ true → g m ≡ c) → Goes a x c (g m)
@@ -350,7 +350,7 @@ module _ (T : Tables) (S : Sound T) (P : FieldPath → Type 0) (N : ℕ → Type
   unfolding constrainEach narrowBy
   goes-constraints [] t path a c s = goes-same a c
   goes-constraints (k ∷ ks) t path a c s =
-      goes-constant-or (k .node) t path a _ c _ s (goes-skip a c and goes-report (k .node) Code.RejectTypeMismatch (skip a) (o .skip c))
+      goes-constant-or (k .node) (k .node) t path a _ c _ s (goes-skip a c and goes-report (k .node) Code.RejectTypeMismatch (skip a) (o .skip c))
       and goes-constraints ks t path _ _ s
 
   goes-constrain-by : (ks : List Constraint) (x t : ℕ) (path : FieldPath) (a : Walk) (c : C) → Short path → Goes a (constrainBy (walkOps T) T ks x t path a) c (constrainBy o T ks x t path c)
@@ -392,21 +392,21 @@ module _ (T : Tables) (S : Sound T) (P : FieldPath → Type 0) (N : ℕ → Type
     goes-matched : (n : ℕ) (slot : Slot) (t : ℕ) (path : FieldPath) (a : Walk) (c : C) → SlotOk T slot → Stands T P path t → Goes a (matched (walkOps T) T address below n slot t path a) c (matched o T address below′ n slot t path c)
     unfolding matched narrowBy
     goes-matched n (Slot.Row from p) t path a c ok s =
-        by-test₂ (λ a′ c′. Goes a a′ c c′) (refersTo p (factTy (typeAt T t))) (λ e. goes-fact from path a c (stands-short path t s)) (λ e. goes-report n Code.RejectTypeMismatch a c)
+        by-test₂ (λ a′ c′. Goes a a′ c c′) (refersTo p (factTy (typeAt T t))) (λ e. goes-fact n from path a c (stands-short path t s)) (λ e. goes-report n Code.RejectTypeMismatch a c)
     goes-matched n (Slot.Key from ty) t path a c ok s = goes-skip a c and goes-report n Code.NyiWholeKey (skip a) (o .skip c)
     goes-matched n (Slot.Derived from) t path a c ok s = goes-skip a c and goes-report n Code.NyiValueMatch (skip a) (o .skip c)
     goes-matched n (Slot.Field from at ty) t path a c ok s =
-        by-test₂ (λ a′ c′. Goes a a′ c c′) (eqb from address) (λ e. goes-report n Code.NyiRepeatedVariable a c) (λ e. goes-register from at path a c (fits-short T S at ty ok) (stands-short path t s))
+        by-test₂ (λ a′ c′. Goes a a′ c c′) (eqb from address) (λ e. goes-report n Code.NyiRepeatedVariable a c) (λ e. goes-register n from at path a c (fits-short T S at ty ok) (stands-short path t s))
     goes-matched n (Slot.Value from ty) t path a c ok s = goes-report n Code.NyiValueMatch a c
     goes-matched n (Slot.Const folded) t path a c ok s =
-        goes-constant-or folded t path a _ c _ (stands-short path t s) (goes-partial folded t path a c s)
+        goes-constant-or n folded t path a _ c _ (stands-short path t s) (goes-partial folded t path a c s)
 
     goes-alternative : (n : ℕ) (g : FieldPattern) (alt : Option Alternative) (t : ℕ) (path : FieldPath) (a : Walk) (c : C) → Stands T P path t → ((b : Alternative) → alt ≡ some b → Child T t (b .type)) → ((b : Alternative) → alt ≡ some b → P (payload path (b .disc))) → Goes a (injectAlternative (walkOps T) T address below n g alt path a) c (injectAlternative o T address below′ n g alt path c)
     unfolding injectAlternative payload
     goes-alternative n g none t path a c s child within = goes-skip a c and goes-report n Code.RejectUnknownAlternative (skip a) (o .skip c)
     goes-alternative n g (some alt) t path a c s child within =
-        goes-union (alt .disc) path a _ c _ (stands-short path t s)
-        (B (g .node) (alt .type) (then path (alt .disc)) (narrow path (Narrowing.Tag (alt .disc)) a) (o .narrow path (Narrowing.Tag (alt .disc)) c)
+        goes-union n (alt .disc) path a _ c _ (stands-short path t s)
+        (B (g .node) (alt .type) (then path (alt .disc)) (narrow n path (Narrowing.Tag (alt .disc)) a) (o .narrow n path (Narrowing.Tag (alt .disc)) c)
         (record { fits = fits-then T S path (alt .disc) t (alt .type) (s .fits) (child alt refl); within = within alt refl }))
 
     goes-only : (n : ℕ) (g : Option FieldPattern) (alts : List Alternative) (t : ℕ) (path : FieldPath) (a : Walk) (c : C) → Stands T P path t → unionTy (typeAt T t) ≡ some alts → Goes a (injectOnly (walkOps T) T address below n g alts path a) c (injectOnly o T address below′ n g alts path c)
@@ -420,7 +420,7 @@ module _ (T : Tables) (S : Sound T) (P : FieldPath → Type 0) (N : ℕ → Type
     goes-inject : (fields : List FieldPattern) (alts : List Alternative) (n t : ℕ) (path : FieldPath) (a : Walk) (c : C) → Stands T P path t → unionTy (typeAt T t) ≡ some alts → Goes a (inject (walkOps T) T address below fields alts n t path a) c (inject o T address below′ fields alts n t path c)
     unfolding inject narrowBy
     goes-inject fields alts n t path a c s e =
-        goes-constant-or n t path a _ c _ (stands-short path t s) (goes-only n (onlyField fields) alts t path a c s e)
+        goes-constant-or n n t path a _ c _ (stands-short path t s) (goes-only n (onlyField fields) alts t path a c s e)
 
     goes-answer : (n : ℕ) (slot : Option Slot) (t : ℕ) (path : FieldPath) (a₀ a : Walk) (c₀ c : C) → ((s′ : Slot) → slot ≡ some s′ → SlotOk T s′) → R a₀ c₀ → (stopped c ≡ false → stopped c₀ ≡ false) → Stands T P path t → Goes a (readAnswer (walkOps T) T address below n slot t path a₀ a) c (readAnswer o T address below′ n slot t path c₀ c)
     unfolding readAnswer
@@ -442,7 +442,7 @@ module _ (T : Tables) (S : Sound T) (P : FieldPath → Type 0) (N : ℕ → Type
     goes-ranged : Walks (ranged (walkOps T) T address below) (ranged o T address below′)
     unfolding ranged narrowBy
     goes-ranged n t path a c s =
-        goes-constant-or n t path a _ c _ (stands-short path t s) (goes-report n Code.RejectTypeMismatch a c)
+        goes-constant-or n n t path a _ c _ (stands-short path t s) (goes-report n Code.RejectTypeMismatch a c)
 
     goes-variable : (x : ℕ) → N x → Walks (variable (walkOps T) T address below x) (variable o T address below′ x)
     unfolding variable
@@ -503,17 +503,17 @@ module _ (T : Tables) (S : Sound T) (P : FieldPath → Type 0) (N : ℕ → Type
       let c′ = fieldSlot o T n slot (f .name) c .walk in
       ((λ _ _. reads-walk x)
       and sync a′ c′ (fieldSlot (walkOps T) T n slot (f .name) a .slot) (fieldSlot o T n slot (f .name) c .slot) _
-      (λ (found : Option Slot). elim found [ none ↦ o .skip c′ | some s ↦ matched o T address (field o T address) n s (f .type) (fieldPath i) c′ ])
+      (λ (found : Option Slot). elim found [ none ↦ o .skip c′ | some s ↦ matched o T address (field o T address) (wholeNode n s) s (f .type) (fieldPath i) c′ ])
       (λ _ e _. x .same e)
       (by-option₂ (λ b d. Goes a′ b c′ d) (fieldSlot (walkOps T) T n slot (f .name) a .slot)
       (λ e. goes-skip a′ c′)
-      (λ s e. goes-matched (field (walkOps T) T address) (field o T address) goes-field rests-field n s (f .type) (fieldPath i) a′ c′ (x .ok s e) (record { fits = fits i; within = within i (omega arith) })))
+      (λ s e. goes-matched (field (walkOps T) T address) (field o T address) goes-field rests-field (wholeNode n s) s (f .type) (fieldPath i) a′ c′ (x .ok s e) (record { fits = fits i; within = within i (omega arith) })))
       (λ e. rests-at (fieldSlot o T n slot (f .name) c .slot) e)
       and goes-whole-fields n slot ok (suc i) rest (λ k l. within k (omega arith)) _ _) fit r
     where
-      rests-at : (found : Option Slot) (e : stopped (fieldSlot o T n slot (f .name) c .walk) ≡ true) → (elim found as (λ _. C) [ none ↦ o .skip (fieldSlot o T n slot (f .name) c .walk) | some s ↦ matched o T address (field o T address) n s (f .type) (fieldPath i) (fieldSlot o T n slot (f .name) c .walk) ]) ≡ fieldSlot o T n slot (f .name) c .walk
+      rests-at : (found : Option Slot) (e : stopped (fieldSlot o T n slot (f .name) c .walk) ≡ true) → (elim found as (λ _. C) [ none ↦ o .skip (fieldSlot o T n slot (f .name) c .walk) | some s ↦ matched o T address (field o T address) (wholeNode n s) s (f .type) (fieldPath i) (fieldSlot o T n slot (f .name) c .walk) ]) ≡ fieldSlot o T n slot (f .name) c .walk
       rests-at none e = sim .idle _ e .skip
-      rests-at (some s) e = idle-matched o T _ (sim .idle _ e) address (field o T address) (rests-field _ e) n s (f .type) (fieldPath i)
+      rests-at (some s) e = idle-matched o T _ (sim .idle _ e) address (field o T address) (rests-field _ e) (wholeNode n s) s (f .type) (fieldPath i)
 
   goes-whole-read : (n : ℕ) {fs : List FieldTy} → KeyFields 0 fs → (a : Walk) (c : C) → Goes a (wholeRead (walkOps T) T address n fs a) c (wholeRead o T address n fs c)
   unfolding wholeRead

@@ -36,14 +36,14 @@ capture-falls T x t path lists b = refl
 pub record Fell (b : SeekBuilder) : Type 0 where
   pub building : b .building ≡ false
 
-pub prefix-falls : (path : FieldPath) (prefix : List ℕ) (b : SeekBuilder) → Fell (placePrefix path prefix b)
+pub prefix-falls : (n : ℕ) (path : FieldPath) (prefix : List ℕ) (b : SeekBuilder) → Fell (placePrefix n path prefix b)
 unfolding placePrefix withRange withResidual fall
-prefix-falls path prefix b = by-test Fell (b .building) (λ e. record { building = refl }) (λ e. record { building = e })
+prefix-falls n path prefix b = by-test Fell (b .building) (λ e. record { building = refl }) (λ e. record { building = e })
 
 -- "if building held before its tag and still holds, else nothing": a closer after the fall changes nothing
-pub closer-fallen : (held : Bool) (b : SeekBuilder) → b .building ≡ false → closePart held b ≡ b
+pub closer-fallen : (n : ℕ) (held : Bool) (b : SeekBuilder) → b .building ≡ false → closePart n held b ≡ b
 unfolding closePart
-closer-fallen held b fell = by-test (λ after. after ≡ b) _ (λ e. absurd (true≢false (sym (both-right held (b .building) e) ∙ fell))) (λ e. refl)
+closer-fallen n held b fell = by-test (λ after. after ≡ b) _ (λ e. absurd (true≢false (sym (both-right held (b .building) e) ∙ fell))) (λ e. refl)
 
 -- "the four lists as the walk of the level before left them"
 pub later-begins : (T : Tables) (start : Lists) (first second : LevelEntry) (entries : List LevelEntry)
