@@ -6,4 +6,4 @@ use Rattle.doors.specs.Doors.{run, Holds, doors, openRules}
 
 pub doors-hold : Each Holds doors
 unfolding run openHex openRules
-doors-hold = more refl (more refl (more refl (more refl (more refl (more refl (more refl (more refl (more refl (more refl (more refl (more refl (more refl (more refl (done))))))))))))))
+doors-hold = more refl (more refl (more refl (more refl (more refl (more refl (more refl (more refl (more refl (more refl (more refl (more refl (more refl (more refl (more refl (done)))))))))))))))

@@ -11,7 +11,7 @@ use Rattle.rules.specs.Demand3.{openDemand3}
 use Rattle.rules.specs.Reader.{openReader}
 use Rattle.rules.specs.Reader as Reader
 use Rattle.doors.specs.Hex.{openHex}
-use Rattle.doors.specs.Doors.{Row, D1, D7, D8, D9, doors, openRules}
+use Rattle.doors.specs.Doors.{Row, D1, D7, D8, D9, made-by, doors, openRules}
 
 -- with room for any plan
 unfoldable pub read : List ℕ → Outcome
@@ -45,11 +45,11 @@ openRows = tt
 
 pub doors-return : Each (λ (r : Row). Returns (r .answer)) doors
 unfolding openRows
-doors-return = more refl (more refl (more refl (more refl (more refl (more refl (more refl (more refl (more refl (more refl (more refl (more tt (more refl (more tt (done))))))))))))))
+doors-return = more refl (more refl (more refl (more refl (more refl (more refl (more refl (more refl (more refl (more refl (more refl (more tt (more refl (more refl (more tt (done)))))))))))))))
 
-pub doors-cut-short : Each (λ (r : Row). CutShort (r .answer)) (D1 ∷ D7 ∷ D8 ∷ D9 ∷ [])
+pub doors-cut-short : Each (λ (r : Row). CutShort (r .answer)) (D1 ∷ D7 ∷ D8 ∷ D9 ∷ made-by ∷ [])
 unfolding openRows
-doors-cut-short = more refl (more refl (more refl (more refl (done))))
+doors-cut-short = more refl (more refl (more refl (more refl (more refl (done)))))
 
 pub door-without-room : NoRoom (D1 .answer)
 unfolding openRows
