@@ -60,9 +60,9 @@ module _ (T : Tables) (n t : ℕ) where
   pub none-told : constant T n t ≡ none → false ≡ isSome (constant T n t)
   none-told e = ap isSome (sym e)
 
-  pub none-narrows : (path : File.FieldPath) (s : State) → constant T n t ≡ none → s ≡ narrowedBy T (constant T n t) path s
+  pub none-narrows : (m : ℕ) (path : File.FieldPath) (s : State) → constant T n t ≡ none → s ≡ narrowedBy T m (constant T n t) path s
   unfolding narrowedBy
-  none-narrows path s e = ap (λ (o : Option ConstantRules.Const). narrowedBy T o path s) (sym e)
+  none-narrows m path s e = ap (λ (o : Option ConstantRules.Const). narrowedBy T m o path s) (sym e)
 
   -- there is one
   pub some-told : (r : Const) → r ≡ constView T n t → isNothing r ≡ false → true ≡ isSome (constant T n t)
@@ -72,34 +72,34 @@ module _ (T : Tables) (n t : ℕ) where
       go none g = absurd (true≢false (sym (something r (v ∙ view-none T n t g)) ∙ h))
       go (some c) g = refl
 
--- what follows a narrowing: f where there was a constant, k where there was none
-module _ {A : Type 0} (T : Tables) (n t : ℕ) (path : File.FieldPath) (s₀ : State) (b : Bool) (s : State) (told : b ≡ isSome (constant T n t)) (is : s ≡ narrowedBy T (constant T n t) path s₀) (f k : State → A) where
+-- what follows a narrowing that m made: f where there was a constant, k where there was none
+module _ {A : Type 0} (T : Tables) (m n t : ℕ) (path : File.FieldPath) (s₀ : State) (b : Bool) (s : State) (told : b ≡ isSome (constant T n t)) (is : s ≡ narrowedBy T m (constant T n t) path s₀) (f k : State → A) where
   abbrev told-by : Bool → A
   told-by x = elim x [ true ↦ f s | false ↦ k s ]
 
   abbrev by : Option ConstantRules.Const → A
-  by o = elim o [ some c ↦ f (narrowBy (ops T) T c path s₀) | none ↦ k s₀ ]
+  by o = elim o [ some c ↦ f (narrowBy (ops T) T m c path s₀) | none ↦ k s₀ ]
 
-  follows : (o : Option ConstantRules.Const) → b ≡ isSome o → s ≡ narrowedBy T o path s₀ → told-by b ≡ by o
+  follows : (o : Option ConstantRules.Const) → b ≡ isSome o → s ≡ narrowedBy T m o path s₀ → told-by b ≡ by o
   unfolding narrowedBy
   follows none eb es = ap told-by eb ∙ ap k es
   follows (some c) eb es = ap told-by eb ∙ ap f es
 
-  pub after-constant : b ≡ true → f s ≡ elim (constant T n t) [ some c ↦ f (narrowBy (ops T) T c path s₀) | none ↦ k s₀ ]
+  pub after-constant : b ≡ true → f s ≡ elim (constant T n t) [ some c ↦ f (narrowBy (ops T) T m c path s₀) | none ↦ k s₀ ]
   after-constant e = ap told-by (sym e) ∙ follows (constant T n t) told is
 
-  pub after-none : b ≡ false → k s ≡ elim (constant T n t) [ some c ↦ f (narrowBy (ops T) T c path s₀) | none ↦ k s₀ ]
+  pub after-none : b ≡ false → k s ≡ elim (constant T n t) [ some c ↦ f (narrowBy (ops T) T m c path s₀) | none ↦ k s₀ ]
   after-none e = ap told-by (sym e) ∙ follows (constant T n t) told is
 
 module _ (T : Tables) (n t : ℕ) (path : File.FieldPath) (s₀ : State) where
-  module _ (b : Bool) (s : State) (told : b ≡ isSome (constant T n t)) (is : s ≡ narrowedBy T (constant T n t) path s₀) (falls : Bool) where
+  module _ (b : Bool) (s : State) (told : b ≡ isSome (constant T n t)) (is : s ≡ narrowedBy T n (constant T n t) path s₀) (falls : Bool) where
     pub or-yes : b ≡ true → s ≡ narrowOr T n t path falls s₀
     unfolding narrowOr
-    or-yes e = after-constant T n t path s₀ b s told is (λ x. x) (diagnosed n Code.RejectTypeMismatch falls) e
+    or-yes e = after-constant T n n t path s₀ b s told is (λ x. x) (diagnosed n Code.RejectTypeMismatch falls) e
 
     pub or-no : b ≡ false → (s′ : State) → s′ ≡ diagnosed n Code.RejectTypeMismatch falls s → s′ ≡ narrowOr T n t path falls s₀
     unfolding narrowOr
-    or-no e s′ q = q ∙ after-none T n t path s₀ b s told is (λ x. x) (diagnosed n Code.RejectTypeMismatch falls) e
+    or-no e s′ q = q ∙ after-none T n n t path s₀ b s told is (λ x. x) (diagnosed n Code.RejectTypeMismatch falls) e
 
   pub ranged-is : (s : State) → s ≡ narrowOr T n t path false s₀ → (a : ℕ) (below : FieldWalk State) → s ≡ ranged (ops T) T a below n t path s₀
   unfolding ranged narrowOr

@@ -30,7 +30,7 @@ isSome (some c) = true
 unfoldable pub narrowOr : Tables → ℕ → ℕ → File.FieldPath → Bool → State → State
 narrowOr T n t path falls s =
     elim (constant T n t) [
-      | some c ↦ narrowBy (ops T) T c path s
+      | some c ↦ narrowBy (ops T) T n c path s
       | none ↦ diagnosed n Code.RejectTypeMismatch falls s
     ]
 

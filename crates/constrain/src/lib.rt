@@ -49,41 +49,42 @@ fn is_nothing(c: Const) -> bool
     }
 }
 
-// The walk narrowed by the constant of a node at a type, if it has one.
+// The walk narrowed by the constant that `folded` is at a type, if it is one; `node` is what made the narrowing.
 pub fn narrow(
     file: &[u8],
     index: &[u16],
     plan: &mut [u8],
     node: usize,
+    folded: usize,
     ty: usize,
     path: FieldPath,
     w: Walk,
 ) -> Narrowed
     requires { ⌜ AcceptedFile (now file) (now index) ⌝ }
     requires { ⌜ ty < length (tablesOf (now file) .types) ⌝ }
-    ensures tells { λ r. ⌜ r .some ≡ isSome (Constants.constant (tablesOf (now (file .entry))) node ty) ⌝ }
+    ensures tells { λ r. ⌜ r .some ≡ isSome (Constants.constant (tablesOf (now (file .entry))) folded ty) ⌝ }
     ensures narrows { λ r. ⌜ (
         (work : List ℕ) →
         let T = tablesOf (now (file .entry)) in
         let before = walkState T w work (now (plan .entry)) in
         let after = walkState T (r .walk) work (now (plan .exit)) in
-        after ≡ narrowedBy T (Constants.constant T node ty) (pathOf path) before
+        after ≡ narrowedBy T node (Constants.constant T folded ty) (pathOf path) before
         ) ⌝ }
 {
-    if node >= count_of(file, index, NODES) {
+    if folded >= count_of(file, index, NODES) {
         return Narrowed {
             some: false,
             walk: w,
         };
     }
-    let c = constant(file, index, node, ty);
+    let c = constant(file, index, folded, ty);
     if is_nothing(c) {
         return Narrowed {
             some: false,
             walk: w,
         };
     }
-    let l = narrowed(file, index, c, path, w.level, plan);
+    let l = narrowed(file, index, c, path, node, w.level, plan);
     let walk = w.placed(l);
     Narrowed { some: true, walk }
 }
@@ -109,7 +110,7 @@ fn narrow_or_report(
         after ≡ narrowOr T node ty (pathOf path) falls before
         ) ⌝ }
 {
-    let n = narrow(file, index, plan, node, ty, path, w);
+    let n = narrow(file, index, plan, node, node, ty, path, w);
     let walk = n.walk;
     if n.some {
         return walk;

@@ -37,14 +37,14 @@ module _ (T : Tables) (n t : ℕ) where
   alternative s = alternativeChoice (recordFields (nodeAt T n)) (unionTy (typeAt T t)) n s
 
   -- the whole union's constant, or its alternative
-  module _ (path : File.FieldPath) (s₀ : State) (b : Bool) (s : State) (told : b ≡ isSome (constant T n t)) (is : s ≡ narrowedBy T (constant T n t) path s₀) where
+  module _ (path : File.FieldPath) (s₀ : State) (b : Bool) (s : State) (told : b ≡ isSome (constant T n t)) (is : s ≡ narrowedBy T n (constant T n t) path s₀) where
     pub whole-constant : b ≡ true → unchosen s ≡ choosing T n t path s₀
     unfolding choosing
-    whole-constant e = after-constant T n t path s₀ b s told is unchosen alternative e
+    whole-constant e = after-constant T n n t path s₀ b s told is unchosen alternative e
 
     pub whole-other : b ≡ false → (x : Choosing) → x ≡ alternativeChoice (recordFields (nodeAt T n)) (unionTy (typeAt T t)) n s → x ≡ choosing T n t path s₀
     unfolding choosing
-    whole-other e x q = q ∙ after-none T n t path s₀ b s told is unchosen alternative e
+    whole-other e x q = q ∙ after-none T n n t path s₀ b s told is unchosen alternative e
 
   module _ (s : State) (f : List ℕ) (pr : Run) (pairs : SeenRun f (patternAt f) 4 (recordFields (nodeAt T n)) pr) where
     pub no-record : pr ≡ Ru.Nothing → unchosen s ≡ alternative s

@@ -115,7 +115,7 @@ module _ (T : Tables) (a : ℕ) (below : FieldWalk State) where
       inject-is : (alts : List Alternative) → unionTy (typeAt T t) ≡ some alts → injectAt T a below n t path s ≡ inject (ops T) T a below fs alts n t path s
       unfolding injectAt injectFields inject
       inject-is alts g =
-          ap (λ (x : State). elim (constant T n t) [ some c ↦ narrowBy (ops T) T c path s | none ↦ x ])
+          ap (λ (x : State). elim (constant T n t) [ some c ↦ narrowBy (ops T) T n c path s | none ↦ x ])
           (ap (λ (o : Option (List FieldPattern)). injectFields T a below o (unionTy (typeAt T t)) n path s) e ∙ ap (λ (o : Option (List Alternative)). injectFields T a below (some fs) o n path s) g)
 
       abbrev opens-as : Option (List Alternative) → State
@@ -171,40 +171,40 @@ module _ (T : Tables) (a : ℕ) (below : FieldWalk State) where
   meeting-finished n (File.Slot.Value from u) t path s = refl
   meeting-finished n (File.Slot.Const folded) t path s = go (constant T folded t)
     where
-      go : (o : Option Const) → opened (elim o [ some c ↦ Begin.settled (narrowBy (ops T) T c path s) | none ↦ record { opens = some folded; state = s } ]) t path ≡ elim o [ some c ↦ narrowBy (ops T) T c path s | none ↦ partial (ops T) T a below folded t path s ]
+      go : (o : Option Const) → opened (elim o [ some c ↦ Begin.settled (narrowBy (ops T) T n c path s) | none ↦ record { opens = some folded; state = s } ]) t path ≡ elim o [ some c ↦ narrowBy (ops T) T n c path s | none ↦ partial (ops T) T a below folded t path s ]
       go none = refl
       go (some c) = refl
 
   -- `inject`, with an alternative: tag, payload, closer
-  unfoldable pub injected : Choosing → File.FieldPath → State
-  injected c path =
+  unfoldable pub injected : ℕ → Choosing → File.FieldPath → State
+  injected n c path =
       elim (c .payload) [
         | none ↦ c .state
-        | some p ↦ closer (c .state) (below (p .node) (p .type) (File.payload path (p .disc)) (narrow path (Narrowing.Tag (p .disc)) (c .state)))
+        | some p ↦ closer n (c .state) (below (p .node) (p .type) (File.payload path (p .disc)) (narrow n path (Narrowing.Tag (p .disc)) (c .state)))
       ]
 
   module _ (n : ℕ) (path : File.FieldPath) (s : State) where
-    named-finished : (f : FieldPattern) (o : Option Alternative) → injected (namedChoice f o n s) path ≡ injectAlternative (ops T) T a below n f o path s
+    named-finished : (f : FieldPattern) (o : Option Alternative) → injected n (namedChoice f o n s) path ≡ injectAlternative (ops T) T a below n f o path s
     unfolding injected namedChoice injectAlternative
     named-finished f none = refl
     named-finished f (some alt) = refl
 
-    only-finished : (o : Option FieldPattern) (alts : List Alternative) → injected (onlyChoice o alts n s) path ≡ injectOnly (ops T) T a below n o alts path s
+    only-finished : (o : Option FieldPattern) (alts : List Alternative) → injected n (onlyChoice o alts n s) path ≡ injectOnly (ops T) T a below n o alts path s
     unfolding onlyChoice injectOnly injected
     only-finished none alts = refl
     only-finished (some f) alts = named-finished f (alternativeOf alts (f .name))
 
-    alternative-finished : (o : Option (List FieldPattern)) (u : Option (List Alternative)) → injected (alternativeChoice o u n s) path ≡ injectFields T a below o u n path s
+    alternative-finished : (o : Option (List FieldPattern)) (u : Option (List Alternative)) → injected n (alternativeChoice o u n s) path ≡ injectFields T a below o u n path s
     unfolding alternativeChoice injectFields injected
     alternative-finished none u = refl
     alternative-finished (some fields) none = refl
     alternative-finished (some fields) (some alts) = only-finished (onlyField fields) alts
 
-    pub choosing-finished : (t : ℕ) → injected (choosing T n t path s) path ≡ injectAt T a below n t path s
+    pub choosing-finished : (t : ℕ) → injected n (choosing T n t path s) path ≡ injectAt T a below n t path s
     unfolding choosing injectAt injected
     choosing-finished t = go (constant T n t)
       where
-        go : (o : Option Const) → injected (elim o [ some c ↦ Begin.unchosen (narrowBy (ops T) T c path s) | none ↦ alternativeChoice (recordFields (nodeAt T n)) (unionTy (typeAt T t)) n s ]) path ≡ elim o [ some c ↦ narrowBy (ops T) T c path s | none ↦ injectFields T a below (recordFields (nodeAt T n)) (unionTy (typeAt T t)) n path s ]
+        go : (o : Option Const) → injected n (elim o [ some c ↦ Begin.unchosen (narrowBy (ops T) T n c path s) | none ↦ alternativeChoice (recordFields (nodeAt T n)) (unionTy (typeAt T t)) n s ]) path ≡ elim o [ some c ↦ narrowBy (ops T) T n c path s | none ↦ injectFields T a below (recordFields (nodeAt T n)) (unionTy (typeAt T t)) n path s ]
         go none = alternative-finished (recordFields (nodeAt T n)) (unionTy (typeAt T t))
         go (some c) = refl
 
@@ -230,7 +230,7 @@ module _ (T : Tables) (t n : ℕ) (s : State) (p : Payload) where
   alternative-lower (some fields) (some alts) u S h q = only-lower alts u S h (onlyField fields) q
 
   abbrev chosen : File.FieldPath → Option Const → Choosing
-  chosen path o = elim o [ some c ↦ Begin.unchosen (narrowBy (ops T) T c path s) | none ↦ alternativeChoice (recordFields (nodeAt T n)) (unionTy (typeAt T t)) n s ]
+  chosen path o = elim o [ some c ↦ Begin.unchosen (narrowBy (ops T) T n c path s) | none ↦ alternativeChoice (recordFields (nodeAt T n)) (unionTy (typeAt T t)) n s ]
 
   pub choosing-lower : (path : File.FieldPath) → Sound T → t < length (T .types) → choosing T n t path s .payload ≡ some p → Lower T t (p .type)
   unfolding choosing

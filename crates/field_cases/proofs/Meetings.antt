@@ -49,13 +49,13 @@ module _ (p q : MaybePredicate) (a : PredicateId) (e : p ≡ Mp.Just a) where
 module _ (T : Tables) (a : ℕ) (below : FieldWalk State) (n from t : ℕ) (path : File.FieldPath) (s₀ : State) where
   module _ (p : Option ℕ) (b : Bool) (q : Option ℕ) (eb : b ≡ refersTo p q) (eq : q ≡ factTy (typeAt T t)) where
     abbrev refers : Bool → State
-    refers x = elim x [ true ↦ narrow path (Narrowing.FactId from) s₀ | false ↦ report n Code.RejectTypeMismatch s₀ ]
+    refers x = elim x [ true ↦ narrow n path (Narrowing.FactId from) s₀ | false ↦ report n Code.RejectTypeMismatch s₀ ]
 
     row-is : (x : Bool) → b ≡ x → refers x ≡ matched (ops T) T a below n (File.Slot.Row from p) t path s₀
     unfolding matched
     row-is x e = ap refers (sym e ∙ eb ∙ ap (refersTo p) eq)
 
-    pub row-refers : b ≡ true → (s : State) → s ≡ narrow path (Narrowing.FactId from) s₀ → s ≡ matched (ops T) T a below n (File.Slot.Row from p) t path s₀
+    pub row-refers : b ≡ true → (s : State) → s ≡ narrow n path (Narrowing.FactId from) s₀ → s ≡ matched (ops T) T a below n (File.Slot.Row from p) t path s₀
     row-refers e s g = g ∙ row-is true e
 
     pub row-other : b ≡ false → (s : State) → s ≡ report n Code.RejectTypeMismatch s₀ → s ≡ matched (ops T) T a below n (File.Slot.Row from p) t path s₀
@@ -63,13 +63,13 @@ module _ (T : Tables) (a : ℕ) (below : FieldWalk State) (n from t : ℕ) (path
 
   module _ (at : File.FieldPath) (u : ℕ) where
     abbrev own : Bool → State
-    own x = elim x [ true ↦ report n Code.NyiRepeatedVariable s₀ | false ↦ narrow path (Narrowing.RegisterField from at) s₀ ]
+    own x = elim x [ true ↦ report n Code.NyiRepeatedVariable s₀ | false ↦ narrow n path (Narrowing.RegisterField from at) s₀ ]
 
     pub field-own : from ≡ a → (s : State) → s ≡ report n Code.NyiRepeatedVariable s₀ → s ≡ matched (ops T) T a below n (File.Slot.Field from at u) t path s₀
     unfolding matched
     field-own e s g = g ∙ ap own (sym (eq-eqb _ _ e))
 
-    pub field-other : (from ≡ a → ⊥) → (s : State) → s ≡ narrow path (Narrowing.RegisterField from at) s₀ → s ≡ matched (ops T) T a below n (File.Slot.Field from at u) t path s₀
+    pub field-other : (from ≡ a → ⊥) → (s : State) → s ≡ narrow n path (Narrowing.RegisterField from at) s₀ → s ≡ matched (ops T) T a below n (File.Slot.Field from at u) t path s₀
     unfolding matched
     field-other e s g = g ∙ ap own (sym (ne-eqb _ _ e))
 
@@ -79,17 +79,17 @@ settled-is T r w work plan e = ap (λ (x : Met). meetingOf x (walkState T (x .wa
 
 module _ (T : Tables) (a n t : ℕ) (path : File.FieldPath) (s₀ : State) where
   -- a constant: its bytes, or its pieces
-  module _ (folded : ℕ) (b : Bool) (s : State) (told : b ≡ isSome (constant T folded t)) (is : s ≡ narrowedBy T (constant T folded t) path s₀) where
+  module _ (folded : ℕ) (b : Bool) (s : State) (told : b ≡ isSome (constant T folded t)) (is : s ≡ narrowedBy T n (constant T folded t) path s₀) where
     abbrev pieces : State → Meeting
     pieces x = record { opens = some folded; state = x }
 
     pub const-bytes : b ≡ true → settled s ≡ meeting T a n (File.Slot.Const folded) t path s₀
     unfolding meeting
-    const-bytes e = after-constant T folded t path s₀ b s told is settled pieces e
+    const-bytes e = after-constant T n folded t path s₀ b s told is settled pieces e
 
     pub const-pieces : b ≡ false → record { opens = some folded; state = s } ≡ meeting T a n (File.Slot.Const folded) t path s₀
     unfolding meeting
-    const-pieces e = after-none T folded t path s₀ b s told is settled pieces e
+    const-pieces e = after-none T n folded t path s₀ b s told is settled pieces e
 
   -- the slot by its kind
   module _ (slot : Slot) where

@@ -136,7 +136,7 @@ meeting T address n (File.Slot.Field from at u) t path s = settled (matched (ops
 meeting T address n (File.Slot.Value from u) t path s = settled (matched (ops T) T address still n (File.Slot.Value from u) t path s)
 meeting T address n (File.Slot.Const folded) t path s =
     elim (constant T folded t) [
-      | some c ↦ settled (narrowBy (ops T) T c path s)
+      | some c ↦ settled (narrowBy (ops T) T n c path s)
       | none ↦ record { opens = some folded; state = s }
     ]
 
@@ -179,7 +179,7 @@ alternativeChoice (some fields) (some alts) n s = onlyChoice (onlyField fields) 
 unfoldable pub choosing : Tables → ℕ → ℕ → File.FieldPath → State → Choosing
 choosing T n t path s =
     elim (constant T n t) [
-      | some c ↦ unchosen (narrowBy (ops T) T c path s)
+      | some c ↦ unchosen (narrowBy (ops T) T n c path s)
       | none ↦ alternativeChoice (recordFields (nodeAt T n)) (unionTy (typeAt T t)) n s
     ]
 
@@ -193,6 +193,6 @@ module _ (T : Tables) (address : ℕ) (below : FieldWalk State) where
   unfoldable pub injectAt : FieldWalk State
   injectAt n t path s =
       elim (constant T n t) [
-        | some c ↦ narrowBy (ops T) T c path s
+        | some c ↦ narrowBy (ops T) T n c path s
         | none ↦ injectFields (recordFields (nodeAt T n)) (unionTy (typeAt T t)) n path s
       ]

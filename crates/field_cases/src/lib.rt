@@ -409,7 +409,7 @@ fn meet_row(
 {
     let referenced = fact_ty(file, index, ty);
     if refers_to(predicate, referenced) {
-        return w.fact_id(path, from, plan);
+        return w.fact_id(path, from, node, plan);
     }
     w.diagnose(work, node, Code::RejectTypeMismatch, false)
 }
@@ -436,7 +436,7 @@ fn meet_field(
     if from.0 == address.0 {
         return w.diagnose(work, node, Code::NyiRepeatedVariable, false);
     }
-    w.register_field(path, from, at, plan)
+    w.register_field(path, from, at, node, plan)
 }
 
 fn unopened(w: Walk) -> Met
@@ -453,6 +453,7 @@ fn meet_const(
     file: &[u8],
     index: &[u16],
     plan: &mut [u8],
+    node: usize,
     folded: usize,
     ty: usize,
     path: FieldPath,
@@ -461,14 +462,14 @@ fn meet_const(
     requires { ⌜ AcceptedFile (now file) (now index) ⌝ }
     requires { ⌜ ty < length (tablesOf (now file) .types) ⌝ }
     ensures { λ r. ⌜ (
-        (address node : ℕ) (work : List ℕ) →
+        (address : ℕ) (work : List ℕ) →
         let T = tablesOf (now (file .entry)) in
         let before = walkState T w work (now (plan .entry)) in
         let after = walkState T (r .walk) work (now (plan .exit)) in
         meetingOf r after ≡ meeting T address node (File.Slot.Const folded) ty (pathOf path) before
         ) ⌝ }
 {
-    let n = narrow(file, index, plan, folded, ty, path, w);
+    let n = narrow(file, index, plan, node, folded, ty, path, w);
     let walk = n.walk;
     if n.some {
         return unopened(walk);
@@ -509,7 +510,7 @@ pub fn meet(
         SlotKind::Derived(_) => unopened(w.diagnose(work, node, Code::NyiValueMatch, true)),
         SlotKind::Field(a, _) => unopened(meet_field(work, plan, node, a, at, address, path, w)),
         SlotKind::Value(_, _) => unopened(w.diagnose(work, node, Code::NyiValueMatch, false)),
-        SlotKind::Const(n) => meet_const(file, index, plan, n, ty, path, w),
+        SlotKind::Const(n) => meet_const(file, index, plan, node, n, ty, path, w),
     }
 }
 
@@ -578,7 +579,7 @@ pub fn choose(
         choosingOf r after ≡ choosing T node ty (pathOf path) before
         ) ⌝ }
 {
-    let n = narrow(file, index, plan, node, ty, path, w);
+    let n = narrow(file, index, plan, node, node, ty, path, w);
     let walk = n.walk;
     if n.some {
         return unchosen(walk);

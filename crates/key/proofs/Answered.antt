@@ -10,7 +10,7 @@ use Rattle.rules.specs.File as File
 use Rattle.rules.specs.File.{Tables, FieldTy}
 use Rattle.rules.specs.Resolve as ResolveRules
 use Rattle.rules.specs.Resolve.{Resolver, resolve, fieldSlot}
-use Rattle.rules.specs.Walk.{matched, field, wholeFields, wholeRead}
+use Rattle.rules.specs.Walk.{wholeNode, matched, field, wholeFields, wholeRead}
 use Rattle.state.specs.State.{State}
 use Rattle.state.specs.Ops.{ops, skip}
 use Rattle.slots.specs.Slots.{slotOf, maybe}
@@ -46,8 +46,8 @@ module _ (T : Tables) (w r : Walk) (ans : Answer) (work work′ plan : List ℕ)
   module _ (a n : ℕ) (slot : File.Slot) (name t : ℕ) (path : File.FieldPath) (k : Answers (fieldSlot (ops T) T n slot name) l work ans work′) where
     pub field-none : ans .some ≡ false → s ≡ skip (walkState T r work′ plan) → s ≡ wholeField T a n slot name t path (walkState T w work plan)
     unfolding wholeField
-    field-none e q = q ∙ answered (λ found x. matched (ops T) T a (field (ops T) T a) n found t path x) (fieldSlot (ops T) T n slot name) k false e
+    field-none e q = q ∙ answered (λ found x. matched (ops T) T a (field (ops T) T a) (wholeNode n found) found t path x) (fieldSlot (ops T) T n slot name) k false e
 
-    pub field-some : ans .some ≡ true → t < length (T .types) → Gives T a t (λ below. matched (ops T) T a below n (slotOf (ans .slot)) t path (walkState T r work′ plan)) s → s ≡ wholeField T a n slot name t path (walkState T w work plan)
+    pub field-some : ans .some ≡ true → t < length (T .types) → Gives T a t (λ below. matched (ops T) T a below (wholeNode n (slotOf (ans .slot))) (slotOf (ans .slot)) t path (walkState T r work′ plan)) s → s ≡ wholeField T a n slot name t path (walkState T w work plan)
     unfolding wholeField field
-    field-some e h q = q .is (length (T .types)) (omega arith) ∙ answered (λ found x. matched (ops T) T a (field (ops T) T a) n found t path x) (fieldSlot (ops T) T n slot name) k true e
+    field-some e h q = q .is (length (T .types)) (omega arith) ∙ answered (λ found x. matched (ops T) T a (field (ops T) T a) (wholeNode n found) found t path x) (fieldSlot (ops T) T n slot name) k true e

@@ -92,10 +92,10 @@ module _ (T : Tables) (a n : ℕ) (slot : File.Slot) (t : ℕ) (path : File.Fiel
 -- `inject`
 module _ (T : Tables) (a n t : ℕ) (path : File.FieldPath) (s₀ s₁ : State) (r : Chosen) (b : choosingOf r s₁ ≡ choosing T n t path s₀) where
   abbrev by-choice : ℕ → Choice → State
-  by-choice m x = injected T a (below T a m) (record { payload = payloadOf x; state = s₁ }) path
+  by-choice m x = injected T a (below T a m) n (record { payload = payloadOf x; state = s₁ }) path
 
   inject-is : (m : ℕ) (x : Choice) → r .choice ≡ x → by-choice m x ≡ injectAt T a (below T a m) n t path s₀
-  inject-is m x e = sym (ap (by-choice m) e) ∙ ap (λ (y : Choosing). injected T a (below T a m) y path) b ∙ choosing-finished T a (below T a m) n path s₀ t
+  inject-is m x e = sym (ap (by-choice m) e) ∙ ap (λ (y : Choosing). injected T a (below T a m) n y path) b ∙ choosing-finished T a (below T a m) n path s₀ t
 
   pub inject-done : r .choice ≡ Ch.Nothing → Gives T a t (λ g. injectAt T a g n t path s₀) s₁
   unfolding injected
@@ -105,13 +105,13 @@ module _ (T : Tables) (a n t : ℕ) (path : File.FieldPath) (s₀ s₁ : State) 
     pub inject-lower : Sound T → t < length (T .types) → Lower T t c
     inject-lower S h = choosing-lower T t n s₀ (record { disc = d; node = k; type = c }) path S h (ap (λ (x : Choosing). x .payload) (sym b) ∙ ap payloadOf e)
 
-    pub inject-goes : Lower T t c → (q : FieldPath) → Holds q (payload path d) → (s₂ s₃ s₄ : State) → s₂ ≡ narrow path (Narrowing.Tag d) s₁ → Walks T a k c (pathOf q) s₂ s₃ → s₄ ≡ closer s₁ s₃ → Gives T a t (λ g. injectAt T a g n t path s₀) s₄
+    pub inject-goes : Lower T t c → (q : FieldPath) → Holds q (payload path d) → (s₂ s₃ s₄ : State) → s₂ ≡ narrow n path (Narrowing.Tag d) s₁ → Walks T a k c (pathOf q) s₂ s₃ → s₄ ≡ closer n s₁ s₃ → Gives T a t (λ g. injectAt T a g n t path s₀) s₄
     unfolding injected
     inject-goes l q o s₂ s₃ s₄ tag w close =
         record {
           is = λ m h.
               close
-              ∙ ap (closer s₁)
+              ∙ ap (closer n s₁)
               (w .is m (omega (arith, l .lower))
               ∙ ap (λ (p : File.FieldPath). fieldBelow (ops T) T a m k c p s₂) (o .is)
               ∙ ap (fieldBelow (ops T) T a m k c (payload path d)) tag)

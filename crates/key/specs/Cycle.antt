@@ -6,7 +6,7 @@ use mathlib.Core.Option.{none, some, Option·getD}
 use Rattle.rules.specs.File as File
 use Rattle.rules.specs.File.{Tables, FieldTy, typeAt, recordTy}
 use Rattle.rules.specs.Resolve.{fieldSlot}
-use Rattle.rules.specs.Walk.{FieldWalk, fieldBelow, field, matched}
+use Rattle.rules.specs.Walk.{FieldWalk, wholeNode, fieldBelow, field, matched}
 use Rattle.state.specs.State.{State}
 use Rattle.state.specs.Ops.{ops, skip}
 
@@ -28,5 +28,5 @@ wholeField T address n slot name t path s =
     let a = fieldSlot (ops T) T n slot name s in
     elim (a .slot) [
       | none ↦ skip (a .walk)
-      | some found ↦ matched (ops T) T address (field (ops T) T address) n found t path (a .walk)
+      | some found ↦ matched (ops T) T address (field (ops T) T address) (wholeNode n found) found t path (a .walk)
     ]

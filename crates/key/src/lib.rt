@@ -181,9 +181,9 @@ pub fn inject(
     };
     let level = open.level;
     let q = path.payload(disc);
-    let tagged = open.tag(path, disc, plan);
+    let tagged = open.tag(path, disc, node, plan);
     let walked = field(file, index, work, plan, n, t, address, q, tagged);
-    walked.closer(level.building, plan)
+    walked.closer(level.building, node, plan)
 }
 
 // A Record against a Record type: a field that no pattern names closes the seek.
@@ -224,6 +224,17 @@ fn record_key(
     l
 }
 
+// The node of a whole key's field: the level's own, but of a Const the field's own.
+fn whole_node(node: usize, slot: Slot) -> usize
+    ensures { λ r. ⌜ r ≡ WalkRules.wholeNode node (slotOf slot) ⌝ }
+{
+    if let SlotKind::Const(n) = slot.kind {
+        n
+    } else {
+        node
+    }
+}
+
 // One field of a slot, matched against the key's field of its name.
 fn whole_field(
     file: &[u8],
@@ -255,7 +266,7 @@ fn whole_field(
             index,
             work,
             plan,
-            node,
+            whole_node(node, a.slot),
             a.slot,
             field.ty,
             address,

@@ -3,8 +3,8 @@ use mathlib.Core.Bool.{true, false}
 use mathlib.Core.List.{List}
 use Prim.Native.Nat.{ℕ, _+_, min}
 use lib.ListN.{length}
-use Rattle.state.specs.State.{Level}
-use Rattle.state.specs.Levels.{joining, rangeOrEdges, partsAt, middleAt, middle, tail}
+use Rattle.state.specs.State.{Level, joinedBytes}
+use Rattle.state.specs.Levels.{joining, rangeOrEdges, partsAt, nodesAt, middleAt, middle, tail}
 use Rattle.constant.specs.Sizes.{cap}
 use Rattle.level_frame.specs.declared.Frame.{Frame}
 
@@ -12,13 +12,13 @@ use Rattle.level_frame.specs.declared.Frame.{Frame}
 abbrev pub betweenOf : Level → List ℕ
 betweenOf l = rangeOrEdges (l .range) (l .edges .lo) (l .edges .hi)
 
--- the bytes of the parts: joined in a Prefix, else in the plan's form
+-- the bytes of the parts: in a Prefix joined, with a node for each, else in the plan's form
 abbrev pub partsLen : Level → ℕ
-partsLen l = elim (joining l) [ true ↦ l .counts .joined | false ↦ l .counts .parted ]
+partsLen l = elim (joining l) [ true ↦ joinedBytes (l .counts) | false ↦ l .counts .parted ]
 
 -- A middle that is capped makes the level too long.
 unfoldable pub frameOf : ℕ → Level → Frame
 frameOf at l =
     let rest = middleAt at l + min cap (length (middle l)) in
     let after = rest + l .counts .rest in
-    record { parts = partsAt at l; middle = middleAt at l; rest = rest; tail = after; end = after + length (tail l) }
+    record { parts = partsAt at l; nodes = nodesAt at l; middle = middleAt at l; rest = rest; tail = after; end = after + length (tail l) }

@@ -28,9 +28,10 @@ use texts::prefix_text_len;
 use texts::put_edge;
 use texts::put_prefix_text;
 
-// Where a level's parts, middle, residuals and tail begin, and where it ends.
+// Where a level's parts, the nodes of parts that are joined, middle, residuals and tail begin, and where it ends.
 pub struct Frame {
     pub parts: usize,
+    pub nodes: usize,
     pub middle: usize,
     pub rest: usize,
     pub tail: usize,
@@ -79,14 +80,14 @@ fn put_head(plan: &mut [u8], at: usize, l: SeekBuilder)
     }
 }
 
-// The bytes of the parts: joined in a Prefix, else in the plan's form.
+// The bytes of the parts: in a Prefix joined, with a node for each, else in the plan's form.
 fn parts_len(l: SeekBuilder) -> usize
-    ensures { λ r. ⌜ ((T : Tables) → r ≡ partsLen (levelOf T l)) × (r < 8589934592) ⌝ }
+    ensures { λ r. ⌜ ((T : Tables) → r ≡ partsLen (levelOf T l)) × (r < 34359738368) ⌝ }
 {
     let c = l.counts;
     let joined = wide32(c.joined);
     if seek_number(l) == 0 {
-        joined
+        joined + 2 * (wide32(c.closers) + wide32(c.others))
     } else {
         joined + wide32(c.framed)
     }
@@ -94,11 +95,11 @@ fn parts_len(l: SeekBuilder) -> usize
 
 // The length of the guide in the plan; a level without one has a single byte there.
 fn guide_len(l: SeekBuilder) -> usize
-    ensures { λ r. ⌜ (r ≡ length (Plan.guide (guideOf l))) × (r ≤ 68) ⌝ }
+    ensures { λ r. ⌜ (r ≡ length (Plan.guide (guideOf l))) × (r ≤ 70) ⌝ }
 {
     let g = l.guide;
     if kept(l.building, g.set) {
-        path_size(l.path) + 5
+        path_size(l.path) + 7
     } else {
         1
     }
@@ -116,7 +117,8 @@ fn put_guide(plan: &mut [u8], at: usize, l: SeekBuilder) -> usize
         put16(plan, p, g.term);
         put8(plan, p + 2, g.distance);
         put8(plan, p + 3, anchor_byte(anchor));
-        p + 4
+        put16(plan, p + 4, g.node);
+        p + 6
     } else {
         put8(plan, at, 0);
         at + 1
@@ -159,7 +161,7 @@ fn put_tail(plan: &mut [u8], at: usize, l: SeekBuilder)
     put16(plan, at + 4, f.second as usize);
 }
 
-// A range's text and path, or the two edges, up to the cap.
+// A range's text, path and node, or the two edges, up to the cap.
 fn between_len(file: &[u8], index: &[u16], l: SeekBuilder) -> usize
     requires { ⌜ AcceptedFile (now file) (now index) ⌝ }
     ensures { λ r. ⌜ r ≡ min cap (length (betweenOf (levelOf (tablesOf (now (file .entry))) l))) ⌝ }
@@ -174,7 +176,7 @@ fn between_len(file: &[u8], index: &[u16], l: SeekBuilder) -> usize
         let range = l.range;
         return capped(
             prefix_text_len(file, index, range.name as usize),
-            path_size(l.path),
+            path_size(l.path) + 2,
         );
     }
     0
@@ -195,7 +197,9 @@ fn put_between(file: &[u8], index: &[u16], plan: &mut [u8], at: usize, l: SeekBu
     if seek == 2 {
         let range = l.range;
         let p = put_prefix_text(file, index, plan, at, range.name as usize);
-        return put_path(plan, p, l.path);
+        let q = put_path(plan, p, l.path);
+        put16(plan, q, range.node);
+        return q + 2;
     }
     at
 }
@@ -219,7 +223,7 @@ fn put_middle(file: &[u8], index: &[u16], plan: &mut [u8], at: usize, l: SeekBui
     put16(plan, q, wide32(c.residuals));
 }
 
-// Where a level that begins at a place has its parts, middle, residuals and tail, and where it ends.
+// Where a level that begins at a place has its parts, their nodes, middle, residuals and tail, and where it ends.
 pub fn measure(file: &[u8], index: &[u16], at: usize, l: SeekBuilder) -> Frame
     requires { ⌜ AcceptedFile (now file) (now index) ⌝ }
     requires { ⌜ at ≤ planLimit ⌝ }
@@ -227,12 +231,14 @@ pub fn measure(file: &[u8], index: &[u16], at: usize, l: SeekBuilder) -> Frame
 {
     let c = l.counts;
     let parts = at + head_len(l);
+    let nodes = parts + wide32(c.joined);
     let middle = parts + parts_len(l);
     let rest = middle + middle_len(file, index, l);
     let tail = rest + wide32(c.rest);
     let end = tail + tail_len(l);
     Frame {
         parts,
+        nodes,
         middle,
         rest,
         tail,

@@ -72,17 +72,18 @@ fn walked(file: &[u8], index: &[u16], work: &mut [u8], plan: &mut [u8], k: usize
 
 // A level's place in the plan, as it was measured.
 fn writing(f: Frame, l: SeekBuilder) -> Target
-    requires { ⌜ (f .parts < 65536) × (f .rest < 65536) ⌝ }
+    requires { ⌜ (f .parts < 65536) × (f .nodes < 65536) × (f .rest < 65536) ⌝ }
     ensures { λ r. ⌜ (
         (T : Tables) →
         let joining = StateLevels.joining (levelOf T l) in
-        targetOf r ≡ record { writing = true; joining = joining; partsAt = f .parts; restAt = f .rest }
+        targetOf r ≡ record { writing = true; joining = joining; partsAt = f .parts; nodesAt = f .nodes; restAt = f .rest }
         ) ⌝ }
 {
     Target {
         writing: true,
         joining: seek_number(l) == 0,
         parts: f.parts as u32,
+        nodes: f.nodes as u32,
         rest: f.rest as u32,
     }
 }
@@ -205,6 +206,7 @@ fn level(
         writing: false,
         joining: false,
         parts: 0,
+        nodes: 0,
         rest: 0,
     };
     let m = walked(file, index, work, plan, k, begun(lists.over, ends, t));

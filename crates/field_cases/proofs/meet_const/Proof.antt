@@ -14,13 +14,13 @@ same-length : tie.Need-same-length
 same-length c = search needs
 
 returns : tie.Need-returns
-returns c = λ a node work. settled-is _ _ _ work _ (c .unopened .ensures) ∙ const-bytes _ a node _ _ _ _ _ _ (c .before .before .before .before .before .narrow .ensures .0) (c .before .before .before .before .before .narrow .ensures .1 work) (c .before .if1 .taken)
+returns c = λ a work. settled-is _ _ _ work _ (c .unopened .ensures) ∙ const-bytes _ a _ _ _ _ _ _ _ (c .before .before .before .before .before .narrow .ensures .0) (c .before .before .before .before .before .narrow .ensures .1 work) (c .before .if1 .taken)
 
 same-length-2 : tie.Need-same-length-2
 same-length-2 c = search needs
 
 returns-2 : tie.Need-returns-2
-returns-2 c = λ a node work. const-pieces _ a node _ _ _ _ _ _ (c .before .before .before .before .narrow .ensures .0) (c .before .before .before .before .narrow .ensures .1 work) (c .if1 .left)
+returns-2 c = λ a work. const-pieces _ a _ _ _ _ _ _ _ (c .before .before .before .before .narrow .ensures .0) (c .before .before .before .before .narrow .ensures .1 work) (c .if1 .left)
 
 pub meet-const-spec : {M : Type 1} → statement M
 meet-const-spec =
