@@ -7,47 +7,45 @@ use Prim.Native.Nat.{ℕ, suc, _+_, _<_}
 use native.Mathlib.Omega.{arith}
 use lib.ListN.{length, getD}
 use Rattle.rules.specs.Base.{Each, done, more}
-use Rattle.rules.specs.Placement.{SeekKeyPart, Range, RangeEdge, SeekKey, joined, unranged, seek, seekKey}
+use Rattle.rules.specs.Placement.{Part, Range, RangeEdge, SeekKey, joined, nodesOf, unranged, seek, seekKey}
 use Rattle.rules.specs.File.{Tables}
 use Rattle.rules.specs.Levels.{Level}
 use Rattle.rules.specs.Plan.{planLevel}
-use Rattle.rules.specs.Demand3.{number, edges, Kept, levelAt, startOf, Demand3, seekParts, seekRange, seekEdges, WellFormed, AddsUp}
-use Rattle.rules.proofs.Cases.{by-option, some≢none, some-injective}
+use Rattle.rules.specs.Demand3.{number, edges, Kept, levelAt, startOf, Demand3, seekNodes, seekRange, seekEdges, WellFormed, AddsUp}
+use Rattle.rules.proofs.Cases.{by-option}
 use Rattle.rules.proofs.Each.{each-map}
 
--- a seek without a range or an edge
-record Plain (parts : List SeekKeyPart) (s : SeekKey) : Type 0 where
-  range : seekRange s ≡ none
-  edges : seekEdges s ≡ 0
-  held : (ps : List SeekKeyPart) → seekParts s ≡ some ps → ps ≡ parts
-  formed : WellFormed s
+-- a node for each part
+pub nodes-count : (parts : List Part) → length (nodesOf parts) ≡ length parts
+unfolding nodesOf
+nodes-count [] = refl
+nodes-count (part ∷ parts) = ap suc (nodes-count parts)
 
-plain : (parts : List SeekKeyPart) → Plain parts (unranged parts)
-unfolding unranged seekRange seekEdges seekParts
-plain parts =
-    by-option (Plain parts) (joined parts)
-    (λ e. record { range = refl; edges = refl; held = λ ps q. sym (some-injective parts ps q); formed = e })
-    (λ bytes e. record { range = refl; edges = refl; held = λ ps q. absurd (some≢none ps (sym q)); formed = tt })
-
--- a seek tells the range, the edges and the parts that it was made of
-record Tells (parts : List SeekKeyPart) (range : Option Range) (n : ℕ) (s : SeekKey) : Type 0 where
+-- a seek tells the range, the edges and the nodes of the parts that it was made of
+record Tells (parts : List Part) (range : Option Range) (n : ℕ) (s : SeekKey) : Type 0 where
   range-is : seekRange s ≡ range
   edges-are : seekEdges s ≡ n
-  held : (ps : List SeekKeyPart) → seekParts s ≡ some ps → ps ≡ parts
+  nodes-are : seekNodes s ≡ nodesOf parts
   formed : WellFormed s
 
-tells : (parts : List SeekKeyPart) (range : Option Range) (lo hi : Option RangeEdge) → (0 < number lo + number hi → range ≡ none) → Tells parts range (number lo + number hi) (seek parts range lo hi)
-unfolding seek seekRange seekEdges seekParts number
+-- a seek without a range or an edge
+plain : (parts : List Part) → Tells parts none 0 (unranged parts)
+unfolding unranged seekRange seekEdges seekNodes
+plain parts =
+    by-option (Tells parts none 0) (joined parts)
+    (λ e. record { range-is = refl; edges-are = refl; nodes-are = refl; formed = e })
+    (λ bytes e. record { range-is = refl; edges-are = refl; nodes-are = refl; formed = tt })
+
+tells : (parts : List Part) (range : Option Range) (lo hi : Option RangeEdge) → (0 < number lo + number hi → range ≡ none) → Tells parts range (number lo + number hi) (seek parts range lo hi)
+unfolding seek seekRange seekEdges seekNodes number
 tells parts range (some lo) hi h =
     let edge : 0 < 1 + number hi = omega arith in
-    record { range-is = sym (h edge); edges-are = refl; held = λ ps q. sym (some-injective parts ps q); formed = edge }
+    record { range-is = sym (h edge); edges-are = refl; nodes-are = refl; formed = edge }
 tells parts range none (some hi) h =
     let edge : 0 < 0 + 1 = omega arith in
-    record { range-is = sym (h edge); edges-are = refl; held = λ ps q. sym (some-injective parts ps q); formed = edge }
-tells parts (some range) none none h = record { range-is = refl; edges-are = refl; held = λ ps q. sym (some-injective parts ps q); formed = tt }
-tells parts none none none h =
-    let p = plain parts in
-    record { range-is = p .range; edges-are = p .edges; held = p .held; formed = p .formed }
+    record { range-is = sym (h edge); edges-are = refl; nodes-are = refl; formed = edge }
+tells parts (some range) none none h = record { range-is = refl; edges-are = refl; nodes-are = refl; formed = tt }
+tells parts none none none h = plain parts
 
 module _ (l : Level) where
   -- what one level keeps, said of its items in the plan
@@ -63,7 +61,7 @@ module _ (l : Level) where
         edges-folded = t .edges-are ∙ k .edges-folded;
         edge-excludes = λ h. let e = k .edge-excludes (omega (arith, h, t .edges-are)) in (t .range-is ∙ e .0, e .1);
         guide-path = λ g r p q. k .guide-path g r p (sym (t .range-is) ∙ q);
-        parts-held = λ ps q. ap length (t .held ps q);
+        parts-held = ap length (t .nodes-are) ∙ nodes-count (b .parts);
         well-formed = t .formed;
       }
 

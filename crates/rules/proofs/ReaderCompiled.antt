@@ -32,29 +32,29 @@ use Rattle.rules.proofs.Paths.{NarrowingShort, EventShort, StillShort, 
 use Rattle.rules.proofs.Demand1.{ended}
 use Rattle.rules.proofs.AddsUp.{adds-up}
 use Rattle.rules.proofs.Demand3.{one-level, outcome-kept, returned-front}
-use Rattle.rules.proofs.ReaderReads.{PathFits, SlotFits, BindingFits, SelectFits, LevelFits, PlanFits, takes-plan}
+use Rattle.rules.proofs.ReaderReads.{PathFits, SlotFits, BindingFits, SelectFits, NarrowingFits, LevelFits, PlanFits, takes-plan}
 use Rattle.rules.proofs.ReaderTables.{PathWithin, SlotWithin, BindingWithin, EntryWithin, TablesWithin, tables-within}
 use Rattle.rules.proofs.ReaderWithin.{SelectWithin, NarrowingWithin, EventWithin, ListsWithin, level-within}
-use Rattle.rules.proofs.ReaderPlaced.{NarrowingMade, EventMade, Made, made-new, place-all}
+use Rattle.rules.proofs.ReaderPlaced.{EventFits, Made, made-new, place-all}
 use Rattle.rules.proofs.ReaderLevels.{level-rules, level-fits}
 
 -- numbers within their fields and no more steps than a path holds
 path-fits : (p : FieldPath) → PathWithin p → Short p → PathFits p
 path-fits p h s = record { field = h .field; count = s; steps = h .steps }
 
-narrowing-made : (x : Narrowing) → NarrowingWithin x → NarrowingShort x → NarrowingMade x
-narrowing-made (Narrowing.Bytes bytes) h s = h
-narrowing-made (Narrowing.Tag d) h s = h
-narrowing-made (Narrowing.RegisterField a p) h s = (h .0, path-fits p (h .1) s)
-narrowing-made (Narrowing.FactId a) h s = h
-narrowing-made (Narrowing.Prefix bytes) h s = tt
-narrowing-made (Narrowing.Fuzzy x d a) h s = h
+narrowing-fits : (x : Narrowing) → NarrowingWithin x → NarrowingShort x → NarrowingFits x
+narrowing-fits (Narrowing.Bytes bytes) h s = tt
+narrowing-fits (Narrowing.Tag d) h s = h
+narrowing-fits (Narrowing.RegisterField a p) h s = (h .0, path-fits p (h .1) s)
+narrowing-fits (Narrowing.FactId a) h s = h
+narrowing-fits (Narrowing.Prefix bytes) h s = tt
+narrowing-fits (Narrowing.Fuzzy x d a) h s = h
 
-event-made : (e : Event) → EventWithin e → EventShort e → EventMade e
-event-made (Event.narrow p x) h s = (path-fits p (h .0) (s .0), narrowing-made x (h .1) (s .1))
-event-made Event.skip h s = tt
-event-made Event.closer h s = tt
-event-made (Event.bound x t) h s = tt
+event-fits : (e : Event) → EventWithin e → EventShort e → EventFits e
+event-fits (Event.narrow n p x) h s = (h .0, path-fits p (h .1) (s .0), narrowing-fits x (h .2) (s .1))
+event-fits Event.skip h s = tt
+event-fits (Event.closer n) h s = h
+event-fits (Event.bound x t) h s = tt
 
 select-fits : (s : Select) → SelectWithin s → Short (s .path) → SelectFits s
 select-fits s h l = record { address = h .address; path = path-fits (s .path) (h .path) l; disc = h .disc }
@@ -110,7 +110,7 @@ module _ (T : Tables) (S : Sound T) (N : TablesWithin T) where
         let short = level-short T S e p start (s .fit) (s .short) .0 in
         record {
           kept = one-level T S e p start (s .fit) .kept;
-          made = place-all T (N .comparisons) new (each-both event-made (level-within T N e h start (s .within) .events) (short .events)) made-new;
+          made = place-all T (N .comparisons) new (each-both event-fits (level-within T N e h start (s .within) .events) (short .events)) made-new;
         }
 
     leaves : Lent T (level T e start .left)

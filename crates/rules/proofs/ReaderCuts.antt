@@ -129,13 +129,17 @@ steady-diagnostic : Steady Reader.diagnostic
 unfolding Reader.diagnostic
 steady-diagnostic = steady-bind _ steady-u16 λ n. steady-bind _ steady-code λ c. steady-pure _
 
-steady-part : Steady Reader.part
-unfolding Reader.part Reader.bytesPart Reader.registerPart Reader.factPart
-steady-part =
+steady-key : Steady Reader.partKey
+unfolding Reader.partKey Reader.bytesPart Reader.registerPart Reader.factPart
+steady-key =
     steady-kind
     (more (steady-bind _ steady-text λ bytes. steady-pure _)
     (more (steady-bind _ steady-u16 λ a. steady-bind _ steady-path λ p. steady-pure _)
     (more (steady-bind _ steady-u16 λ a. steady-pure _) done)))
+
+steady-part : Steady Reader.part
+unfolding Reader.part
+steady-part = steady-bind _ steady-key λ k. steady-bind _ steady-u16 λ n. steady-pure _
 
 steady-edge : Steady Reader.edge
 unfolding Reader.edge Reader.edgeThat
@@ -149,9 +153,9 @@ steady-seek : (n : ℕ) → Steady (Reader.seek n)
 unfolding Reader.seek Reader.prefixSeek Reader.compositeSeek Reader.rangeSeek Reader.boundedSeek
 steady-seek n =
     steady-kind
-    (more (steady-bind _ steady-text λ bytes. steady-pure _)
+    (more (steady-bind _ steady-text λ bytes. steady-bind _ (steady-many n steady-u16) λ nodes. steady-pure _)
     (more (steady-bind _ parts λ ps. steady-pure _)
-    (more (steady-bind _ parts λ ps. steady-bind _ steady-text λ prefix. steady-bind _ steady-path λ p. steady-pure _)
+    (more (steady-bind _ parts λ ps. steady-bind _ steady-text λ prefix. steady-bind _ steady-path λ p. steady-bind _ steady-u16 λ node. steady-pure _)
     (more (steady-bind _ parts λ ps. steady-bind _ steady-edge λ lo. steady-bind _ steady-edge λ hi. steady-pure _) done))))
   where
     parts : Steady (many n Reader.part)
@@ -162,7 +166,13 @@ unfolding Reader.guide Reader.guideThat
 steady-guide =
     steady-kind
     (more (steady-pure _)
-    (more (steady-bind _ steady-path λ p. steady-bind _ steady-u16 λ x. steady-bind _ steady-u8 λ d. steady-bind _ steady-anchor λ a. steady-pure _) done))
+    (more
+    (steady-bind _ steady-path λ p.
+    steady-bind _ steady-u16 λ x.
+    steady-bind _ steady-u8 λ d.
+    steady-bind _ steady-anchor λ a.
+    steady-bind _ steady-u16 λ n.
+    steady-pure _) done))
 
 steady-op : Steady Reader.op
 unfolding Reader.op Reader.bytesOp Reader.prefixOp Reader.registerOp Reader.factOp Reader.tagOp Reader.fuzzyOp
@@ -177,7 +187,7 @@ steady-op =
 
 steady-residual : Steady Reader.residual
 unfolding Reader.residual
-steady-residual = steady-bind _ steady-path λ p. steady-bind _ steady-op λ o. steady-pure _
+steady-residual = steady-bind _ steady-path λ p. steady-bind _ steady-op λ o. steady-bind _ steady-u16 λ n. steady-pure _
 
 steady-level : Steady Reader.level
 unfolding Reader.level

@@ -6,38 +6,23 @@ use native.Mathlib.Omega.{arith}
 use lib.ListN.{length}
 use Rattle.rules.specs.Base.{Each, done, more, both}
 use Rattle.rules.specs.File.{Tables, FieldPath, CompareOp, Comparison}
-use Rattle.rules.specs.Constant.{unionTag, term}
 use Rattle.rules.specs.Events.{Narrowing, Event}
-use Rattle.rules.specs.Placement.{SeekKeyPart, Guide, Range, Edges, SeekBuilder, new, withPart, withResidual, withGuide, withRange, withEdges, withCloser, withOpened, fall, placePart, placePrefix, attachable, placeFuzzy, placeNarrowing, closePart, placeCloser, takeHi, takeLo, takeEdge, sided, foldFrom, placeBound, place, placeAll}
+use Rattle.rules.specs.Placement.{SeekKeyPart, Part, Residual, Guide, Range, Edges, SeekBuilder, new, withPart, withResidual, withGuide, withRange, withEdges, withCloser, withOpened, fall, placePart, placePrefix, attachable, placeFuzzy, placeNarrowing, closePart, placeCloser, takeHi, takeLo, takeEdge, sided, foldFrom, placeBound, place, placeAll}
 use Rattle.rules.proofs.Cases.{by-test, by-option}
 use Rattle.rules.proofs.Each.{Perhaps, nothing, just, each-snoc}
-use Rattle.rules.proofs.ReaderReads.{PathFits, GuideFits, ResidualFits, NarrowingFits}
+use Rattle.rules.proofs.ReaderReads.{PathFits, KeyFits, PartFits, RangeFits, GuideFits, ResidualFits, NarrowingFits}
 
--- a narrowing of a walk, and a part: bytes are not none
-abbrev pub NarrowingMade : Narrowing → Type 0
-NarrowingMade (Narrowing.Bytes bytes) = 1 ≤ length bytes
-NarrowingMade (Narrowing.Tag d) = d < 4294967296
-NarrowingMade (Narrowing.RegisterField a p) = (a < 65536) × PathFits p
-NarrowingMade (Narrowing.FactId a) = a < 65536
-NarrowingMade (Narrowing.Prefix bytes) = Unit {0}
-NarrowingMade (Narrowing.Fuzzy x distance a) = x < 65536
-
-abbrev pub EventMade : Event → Type 0
-EventMade (Event.narrow p x) = PathFits p × NarrowingMade x
-EventMade Event.skip = Unit {0}
-EventMade Event.closer = Unit {0}
-EventMade (Event.bound x t) = Unit {0}
-
-abbrev pub PartMade : SeekKeyPart → Type 0
-PartMade (SeekKeyPart.Bytes bytes) = 1 ≤ length bytes
-PartMade (SeekKeyPart.RegisterField a p) = (a < 65536) × PathFits p
-PartMade (SeekKeyPart.RegisterFactId a) = a < 65536
+abbrev pub EventFits : Event → Type 0
+EventFits (Event.narrow n p x) = (n < 65536) × PathFits p × NarrowingFits x
+EventFits Event.skip = Unit {0}
+EventFits (Event.closer n) = n < 65536
+EventFits (Event.bound x t) = Unit {0}
 
 pub record Made (b : SeekBuilder) : Type 0 where
-  pub parts : Each PartMade (b .parts)
+  pub parts : Each PartFits (b .parts)
   pub residuals : Each ResidualFits (b .residuals)
   pub guide : Perhaps GuideFits (b .guide)
-  pub range : Perhaps (λ r. PathFits (r .path)) (b .range)
+  pub range : Perhaps RangeFits (b .range)
   pub folded : Each (λ i. i < 65536) (b .edges .folded)
 
 pub made-new : Made new
@@ -45,19 +30,19 @@ unfolding new
 made-new = record { parts = done; residuals = done; guide = nothing; range = nothing; folded = done }
 
 -- One change each.
-with-part : (part : SeekKeyPart) (b : SeekBuilder) → PartMade part → Made b → Made (withPart part b)
+with-part : (part : Part) (b : SeekBuilder) → PartFits part → Made b → Made (withPart part b)
 unfolding withPart
 with-part part b h g = record { parts = each-snoc (g .parts) h; residuals = g .residuals; guide = g .guide; range = g .range; folded = g .folded }
 
-with-residual : (path : FieldPath) (op : Narrowing) (b : SeekBuilder) → PathFits path → NarrowingFits op → Made b → Made (withResidual path op b)
+with-residual : (residual : Residual) (b : SeekBuilder) → ResidualFits residual → Made b → Made (withResidual residual b)
 unfolding withResidual
-with-residual path op b p h g = record { parts = g .parts; residuals = each-snoc (g .residuals) (record { path = p; op = h }); guide = g .guide; range = g .range; folded = g .folded }
+with-residual residual b h g = record { parts = g .parts; residuals = each-snoc (g .residuals) h; guide = g .guide; range = g .range; folded = g .folded }
 
 with-guide : (guide : Guide) (b : SeekBuilder) → GuideFits guide → Made b → Made (withGuide guide b)
 unfolding withGuide
 with-guide guide b h g = record { parts = g .parts; residuals = g .residuals; guide = just h; range = g .range; folded = g .folded }
 
-with-range : (range : Range) (b : SeekBuilder) → PathFits (range .path) → Made b → Made (withRange range b)
+with-range : (range : Range) (b : SeekBuilder) → RangeFits range → Made b → Made (withRange range b)
 unfolding withRange
 with-range range b h g = record { parts = g .parts; residuals = g .residuals; guide = g .guide; range = just h; folded = g .folded }
 
@@ -81,32 +66,31 @@ either : {A : Type 0} (P : A → Type 0) (t : Bool) {x y : A} → P x → P y �
 either P t h k = by-test P t (λ _. h) (λ _. k)
 
 -- Each kind of event.
-place-part : (part : SeekKeyPart) (path : FieldPath) (op : Narrowing) (b : SeekBuilder) → PartMade part → PathFits path → NarrowingFits op → Made b → Made (placePart part path op b)
+place-part : (n : ℕ) (key : SeekKeyPart) (path : FieldPath) (op : Narrowing) (b : SeekBuilder) → n < 65536 → KeyFits key → PathFits path → NarrowingFits op → Made b
+    → Made (placePart n key path op b)
 unfolding placePart
-place-part part path op b h p k g = either Made (b .building) (with-part part b h g) (with-residual path op b p k g)
+place-part n key path op b l h p k g =
+    either Made (b .building) (with-part _ b (record { key = h; node = l }) g) (with-residual _ b (record { path = p; op = k; node = l }) g)
 
-tag-least : (d : ℕ) → 1 ≤ length (unionTag d)
-unfolding unionTag
-tag-least d = omega arith
-
-place-narrowing : (path : FieldPath) (x : Narrowing) (b : SeekBuilder) → PathFits path → NarrowingMade x → Made b → Made (placeNarrowing path x b)
+place-narrowing : (n : ℕ) (path : FieldPath) (x : Narrowing) (b : SeekBuilder) → n < 65536 → PathFits path → NarrowingFits x → Made b → Made (placeNarrowing n path x b)
 unfolding placeNarrowing placePrefix placeFuzzy
-place-narrowing path (Narrowing.Bytes bytes) b p h g = place-part (SeekKeyPart.Bytes bytes) path (Narrowing.Bytes bytes) b h p tt g
-place-narrowing path (Narrowing.Tag disc) b p h g = place-part (SeekKeyPart.Bytes _) path (Narrowing.Tag disc) _ (tag-least disc) p h (with-opened _ b g)
-place-narrowing path (Narrowing.RegisterField address at) b p h g = place-part (SeekKeyPart.RegisterField address at) path (Narrowing.RegisterField address at) b h p h g
-place-narrowing path (Narrowing.FactId address) b p h g = place-part (SeekKeyPart.RegisterFactId address) path (Narrowing.FactId address) b h p h g
-place-narrowing path (Narrowing.Prefix prefix) b p h g = either Made (b .building) (falls _ (with-range _ b p g)) (with-residual path (Narrowing.Prefix prefix) b p tt g)
-place-narrowing path (Narrowing.Fuzzy x distance anchor) b p h g =
-    either Made (attachable b path) (falls _ (with-guide _ b (record { path = p; term = h }) g)) (with-residual path (Narrowing.Fuzzy x distance anchor) b p h g)
+place-narrowing n path (Narrowing.Bytes bytes) b l p h g = place-part n (SeekKeyPart.Bytes bytes) path (Narrowing.Bytes bytes) b l tt p tt g
+place-narrowing n path (Narrowing.Tag disc) b l p h g = place-part n (SeekKeyPart.Bytes _) path (Narrowing.Tag disc) _ l tt p h (with-opened _ b g)
+place-narrowing n path (Narrowing.RegisterField address at) b l p h g = place-part n (SeekKeyPart.RegisterField address at) path (Narrowing.RegisterField address at) b l h p h g
+place-narrowing n path (Narrowing.FactId address) b l p h g = place-part n (SeekKeyPart.RegisterFactId address) path (Narrowing.FactId address) b l h p h g
+place-narrowing n path (Narrowing.Prefix prefix) b l p h g =
+    either Made (b .building) (falls _ (with-range _ b (record { path = p; node = l }) g)) (with-residual _ b (record { path = p; op = tt; node = l }) g)
+place-narrowing n path (Narrowing.Fuzzy x distance anchor) b l p h g =
+    either Made (attachable b path) (falls _ (with-guide _ b (record { path = p; term = h; node = l }) g)) (with-residual _ b (record { path = p; op = h; node = l }) g)
 
-close-part : (held : Bool) (b : SeekBuilder) → Made b → Made (closePart held b)
+close-part : (n : ℕ) (held : Bool) (b : SeekBuilder) → n < 65536 → Made b → Made (closePart n held b)
 unfolding closePart
-close-part held b g = either Made (both held (b .building)) (with-closer _ (with-part (SeekKeyPart.Bytes term) b (omega arith) g)) g
+close-part n held b l g = either Made (both held (b .building)) (with-closer _ (with-part _ b (record { key = tt; node = l }) g)) g
 
-place-closer : (opened : List Bool) (b : SeekBuilder) → Made b → Made (placeCloser opened b)
+place-closer : (n : ℕ) (opened : List Bool) (b : SeekBuilder) → n < 65536 → Made b → Made (placeCloser n opened b)
 unfolding placeCloser
-place-closer [] b g = g
-place-closer (held ∷ outer) b g = close-part held _ (with-opened outer b g)
+place-closer n [] b l g = g
+place-closer n (held ∷ outer) b l g = close-part n held _ l (with-opened outer b g)
 
 -- the edges: the index of a comparison is below their number
 abbrev Folds : Edges → Type 0
@@ -126,14 +110,14 @@ module _ (T : Tables) (few : length (T .comparisons) ≤ 256) where
   fold-from x t i (c ∷ cs) e h g =
       fold-from x t (suc i) cs _ (omega arith) (by-option Folds (sided T x t c) (λ _. g) (λ s _. take-edge i (s .op) (s .value) e (omega arith) g))
 
-  place-event : (e : Event) (b : SeekBuilder) → EventMade e → Made b → Made (place T e b)
+  place-event : (e : Event) (b : SeekBuilder) → EventFits e → Made b → Made (place T e b)
   unfolding place placeBound
-  place-event (Event.narrow path x) b h g = place-narrowing path x b (h .0) (h .1) g
+  place-event (Event.narrow n path x) b h g = place-narrowing n path x b (h .0) (h .1) (h .2) g
   place-event Event.skip b h g = falls b g
-  place-event Event.closer b h g = place-closer (b .opened) b g
+  place-event (Event.closer n) b h g = place-closer n (b .opened) b h g
   place-event (Event.bound x t) b h g = either Made (b .building) (with-edges _ b (fold-from x t 0 (T .comparisons) (b .edges) (omega arith) (g .folded)) g) g
 
-  pub place-all : {es : List Event} (b : SeekBuilder) → Each EventMade es → Made b → Made (placeAll T es b)
+  pub place-all : {es : List Event} (b : SeekBuilder) → Each EventFits es → Made b → Made (placeAll T es b)
   unfolding placeAll
   place-all b done g = g
   place-all b (more {x = e} h hs) g = place-all _ hs (place-event e b h g)

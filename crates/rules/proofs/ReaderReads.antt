@@ -13,7 +13,7 @@ use Rattle.rules.specs.File.{Anchor, FieldPath, Slot, Binding}
 use Rattle.rules.specs.Read
 use Rattle.rules.specs.Read.{Read, got, refused, Reader, follow, _>>=_, pure, refuse, u8, many, kind, end}
 use Rattle.rules.specs.Events.{Code, codeNumber, Select, Diagnostic, Narrowing}
-use Rattle.rules.specs.Placement.{SeekKeyPart, Residual, Guide, RangeEdge, SeekKey}
+use Rattle.rules.specs.Placement.{SeekKeyPart, Part, Residual, Guide, Range, RangeEdge, SeekKey}
 use Rattle.rules.specs.Plan
 use Rattle.rules.specs.Plan.{PlanLevel, Plan, planBytes}
 use Rattle.rules.specs.Reader
@@ -46,21 +46,30 @@ pub record SelectFits (s : Select) : Type 0 where
 abbrev pub DiagnosticFits : Diagnostic → Type 0
 DiagnosticFits d = d .node < 65536
 
-abbrev pub PartFits : SeekKeyPart → Type 0
-PartFits (SeekKeyPart.Bytes bytes) = Unit {0}
-PartFits (SeekKeyPart.RegisterField a p) = (a < 65536) × PathFits p
-PartFits (SeekKeyPart.RegisterFactId a) = a < 65536
+abbrev pub KeyFits : SeekKeyPart → Type 0
+KeyFits (SeekKeyPart.Bytes bytes) = Unit {0}
+KeyFits (SeekKeyPart.RegisterField a p) = (a < 65536) × PathFits p
+KeyFits (SeekKeyPart.RegisterFactId a) = a < 65536
+
+pub record PartFits (p : Part) : Type 0 where
+  pub key : KeyFits (p .key)
+  pub node : p .node < 65536
+
+pub record RangeFits (r : Range) : Type 0 where
+  pub path : PathFits (r .path)
+  pub node : r .node < 65536
 
 -- n is the level's number of parts
 abbrev pub SeekFits : ℕ → SeekKey → Type 0
-SeekFits n (SeekKey.Prefix bytes) = Unit {0}
+SeekFits n (SeekKey.Prefix bytes nodes) = (length nodes ≡ n) × Each (λ k. k < 65536) nodes
 SeekFits n (SeekKey.Composite parts) = (length parts ≡ n) × Each PartFits parts
-SeekFits n (SeekKey.PrefixRange parts range) = (length parts ≡ n) × Each PartFits parts × PathFits (range .path)
+SeekFits n (SeekKey.PrefixRange parts range) = (length parts ≡ n) × Each PartFits parts × RangeFits range
 SeekFits n (SeekKey.Bounded parts lo hi) = (length parts ≡ n) × Each PartFits parts
 
 pub record GuideFits (g : Guide) : Type 0 where
   pub path : PathFits (g .path)
   pub term : g .term < 65536
+  pub node : g .node < 65536
 
 abbrev pub NarrowingFits : Narrowing → Type 0
 NarrowingFits (Narrowing.Bytes bytes) = Unit {0}
@@ -73,6 +82,7 @@ NarrowingFits (Narrowing.Fuzzy x distance a) = x < 65536
 pub record ResidualFits (r : Residual) : Type 0 where
   pub path : PathFits (r .path)
   pub op : NarrowingFits (r .op)
+  pub node : r .node < 65536
 
 pub record LevelFits (l : PlanLevel) : Type 0 where
   pub narrowings : l .narrowings < 65536
@@ -138,6 +148,10 @@ module _ {A : Type 0} (r : Reader A) (encode : A → List ℕ) where
   unfolding many concatMap pure
   takes-many done = record { reads = λ l rest. refl }
   takes-many (more {x} {xs} h hs) = step _ h (last _ (takes-many hs) (λ rest. refl))
+
+  -- as many as a number that was read before says
+  takes-exactly : (n : ℕ) {xs : List A} → length xs ≡ n → Each (λ x. Takes r (encode x) x) xs → Takes (many n r) (concatMap encode xs) xs
+  takes-exactly n {xs} e h = subst (λ k. Takes (many k r) (concatMap encode xs) xs) e (takes-many h)
 
   takes-counted : ((x : A) → 1 ≤ length (encode x)) → {xs : List A} → Each (λ x. Takes r (encode x) x) xs → Takes (Reader.counted r) (Plan.counted encode xs) xs
   unfolding Reader.counted Plan.counted
@@ -235,11 +249,15 @@ unfolding Reader.diagnostic Plan.diagnostic pure
 takes-diagnostic d h = step _ (takes-u16 _ h) (last _ (takes-code (d .code)) (λ rest. refl))
 
 -- A level.
-takes-part : (p : SeekKeyPart) → PartFits p → Takes Reader.part (Plan.part p) p
-unfolding Reader.part Plan.part Reader.bytesPart Reader.registerPart Reader.factPart pure
-takes-part (SeekKeyPart.Bytes bytes) h = takes-kind _ 0 (last _ (takes-text bytes) (λ rest. refl))
-takes-part (SeekKeyPart.RegisterField a p) h = takes-kind _ 1 (step _ (takes-u16 a (h .0)) (last _ (takes-path p (h .1)) (λ rest. refl)))
-takes-part (SeekKeyPart.RegisterFactId a) h = takes-kind _ 2 (last _ (takes-u16 a h) (λ rest. refl))
+takes-key : (k : SeekKeyPart) → KeyFits k → Takes Reader.partKey (Plan.partKey k) k
+unfolding Reader.partKey Plan.partKey Reader.bytesPart Reader.registerPart Reader.factPart pure
+takes-key (SeekKeyPart.Bytes bytes) h = takes-kind _ 0 (last _ (takes-text bytes) (λ rest. refl))
+takes-key (SeekKeyPart.RegisterField a p) h = takes-kind _ 1 (step _ (takes-u16 a (h .0)) (last _ (takes-path p (h .1)) (λ rest. refl)))
+takes-key (SeekKeyPart.RegisterFactId a) h = takes-kind _ 2 (last _ (takes-u16 a h) (λ rest. refl))
+
+takes-part : (p : Part) → PartFits p → Takes Reader.part (Plan.part p) p
+unfolding Reader.part Plan.part pure
+takes-part p h = step _ (takes-key (p .key) (h .key)) (last _ (takes-u16 (p .node) (h .node)) (λ rest. refl))
 
 takes-edge : (e : Option RangeEdge) → Takes Reader.edge (Plan.edge e) e
 unfolding Reader.edge Plan.edge Reader.edgeThat Plan.inclusive pure
@@ -250,28 +268,38 @@ takes-edge (some e) = go e (e .inclusive) refl
     go e false q = takes-kind _ 1 (last _ (takes-text (e .value)) (λ rest. refl))
     go e true q = takes-kind _ 2 (last _ (takes-text (e .value)) (λ rest. refl))
 
-takes-parts : (n : ℕ) (parts : List SeekKeyPart) → length parts ≡ n → Each PartFits parts → Takes (many n Reader.part) (concatMap Plan.part parts) parts
-takes-parts n parts e h = subst (λ k. Takes (many k Reader.part) (concatMap Plan.part parts) parts) e (takes-many Reader.part Plan.part (each-imply takes-part h))
+takes-parts : (n : ℕ) (parts : List Part) → length parts ≡ n → Each PartFits parts → Takes (many n Reader.part) (concatMap Plan.part parts) parts
+takes-parts n parts e h = takes-exactly Reader.part Plan.part n e (each-imply takes-part h)
 
 takes-seek : (n : ℕ) (s : SeekKey) → SeekFits n s → Takes (Reader.seek n) (Plan.seek s) s
 unfolding Reader.seek Plan.seek Reader.prefixSeek Reader.compositeSeek Reader.rangeSeek Reader.boundedSeek pure
-takes-seek n (SeekKey.Prefix bytes) h = takes-kind _ 0 (last _ (takes-text bytes) (λ rest. refl))
+takes-seek n (SeekKey.Prefix bytes nodes) h =
+    takes-kind _ 0 (step _ (takes-text bytes) (last _ (takes-exactly Read.u16 Plan.u16 n (h .0) (each-imply takes-u16 (h .1))) (λ rest. refl)))
 takes-seek n (SeekKey.Composite parts) h = takes-kind _ 1 (last _ (takes-parts n parts (h .0) (h .1)) (λ rest. refl))
 takes-seek n (SeekKey.PrefixRange parts range) h =
     takes-kind _ 2
-    (same (append-assoc (concatMap Plan.part parts) (Plan.text (range .prefix)) (Plan.path (range .path)))
-    (step _ (takes-parts n parts (h .0) (h .1)) (step _ (takes-text (range .prefix)) (last _ (takes-path (range .path) (h .2)) (λ rest. refl)))))
+    (same (append-assoc (concatMap Plan.part parts ++ Plan.text (range .prefix)) (Plan.path (range .path)) (Plan.u16 (range .node))
+    ∙ append-assoc (concatMap Plan.part parts) (Plan.text (range .prefix)) (Plan.path (range .path) ++ Plan.u16 (range .node)))
+    (step _ (takes-parts n parts (h .0) (h .1))
+    (step _ (takes-text (range .prefix))
+    (step _ (takes-path (range .path) (h .2 .path))
+    (last _ (takes-u16 (range .node) (h .2 .node)) (λ rest. refl))))))
 takes-seek n (SeekKey.Bounded parts lo hi) h =
     takes-kind _ 3
     (same (append-assoc (concatMap Plan.part parts) (Plan.edge lo) (Plan.edge hi))
     (step _ (takes-parts n parts (h .0) (h .1)) (step _ (takes-edge lo) (last _ (takes-edge hi) (λ rest. refl)))))
 
 takes-guide : {g : Option Guide} → Perhaps GuideFits g → Takes Reader.guide (Plan.guide g) g
-unfolding Reader.guide Plan.guide Reader.guideThat Plan.fuzzy pure
+unfolding Reader.guide Plan.guide Reader.guideThat Plan.fuzzy Plan.u16 pure
 takes-guide nothing = takes-kind _ 0 (takes-pure none)
 takes-guide (just {x = g} h) =
     takes-kind _ 1
-    (step _ (takes-path (g .path) (h .path)) (step _ (takes-u16 (g .term) (h .term)) (step _ (takes-u8 (g .distance)) (last _ (takes-anchor (g .anchor)) (λ rest. refl)))))
+    (same (append-assoc (Plan.path (g .path)) (Plan.fuzzy (g .term) (g .distance) (g .anchor)) (Plan.u16 (g .node)))
+    (step _ (takes-path (g .path) (h .path))
+    (step _ (takes-u16 (g .term) (h .term))
+    (step _ (takes-u8 (g .distance))
+    (step _ (takes-anchor (g .anchor))
+    (last _ (takes-u16 (g .node) (h .node)) (λ rest. refl)))))))
 
 takes-op : (x : Narrowing) → NarrowingFits x → Takes Reader.op (Plan.op x) x
 unfolding Reader.op Plan.op Reader.bytesOp Reader.prefixOp Reader.registerOp Reader.factOp Reader.tagOp Reader.fuzzyOp Plan.fuzzy pure
@@ -285,24 +313,22 @@ takes-op (Narrowing.Fuzzy x distance a) h =
 
 takes-residual : (r : Residual) → ResidualFits r → Takes Reader.residual (Plan.residual r) r
 unfolding Reader.residual Plan.residual pure
-takes-residual r h = step _ (takes-path (r .path) (h .path)) (last _ (takes-op (r .op) (h .op)) (λ rest. refl))
+takes-residual r h =
+    same (append-assoc (Plan.path (r .path)) (Plan.op (r .op)) (Plan.u16 (r .node)))
+    (step _ (takes-path (r .path) (h .path)) (step _ (takes-op (r .op) (h .op)) (last _ (takes-u16 (r .node) (h .node)) (λ rest. refl))))
 
 -- each item has a byte at least
 least-u16 : (n : ℕ) (more′ : List ℕ) → 1 ≤ length (Plan.u16 n ++ more′)
 unfolding Plan.u16
 least-u16 n more′ = omega arith
 
-least-number : (n : ℕ) → 1 ≤ length (Plan.u16 n)
+pub least-number : (n : ℕ) → 1 ≤ length (Plan.u16 n)
 unfolding Plan.u16
 least-number n = omega arith
 
-least-path : (p : FieldPath) (more′ : List ℕ) → 1 ≤ length (Plan.path p ++ more′)
-unfolding Plan.path Plan.u16
-least-path p more′ = omega arith
-
 pub least-residual : (r : Residual) → 1 ≤ length (Plan.residual r)
-unfolding Plan.residual
-least-residual r = least-path (r .path) (Plan.op (r .op))
+unfolding Plan.residual Plan.path Plan.u16
+least-residual r = omega arith
 
 takes-level : (l : PlanLevel) → LevelFits l → Takes Reader.level (Plan.levelBytes l) l
 unfolding Reader.level Plan.levelBytes pure

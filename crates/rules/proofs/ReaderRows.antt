@@ -43,7 +43,17 @@ row-every-slot : read (bytes 51 0x06000000000000ffff0000010000000000000200000000
 unfolding openRows
 row-every-slot = refl
 
+-- a node after each entry: the nodes of a Prefix seek's two parts, then those of a part, a range, a guide and a residual
+row-nodes : read (bytes 72 0x020002000000020000020061620500060100000000000400000001000202030001000100700100000200010100000000010003000100020000030400ffff00000000000000000000) ≡ Outcome.planned (bytes 72 0x020002000000020000020061620500060100000000000400000001000202030001000100700100000200010100000000010003000100020000030400ffff00000000000000000000)
+unfolding openRows
+row-nodes = refl
+
 -- 16
+
+-- two parts, and the second one's node is cut
+early-nodes : read (bytes 16 0x01000200000002000002006162050006) ≡ Outcome.refused 16
+unfolding openRows
+early-nodes = refl
 
 -- fifteen steps, and none of them there
 early-fifteen-steps : read (bytes 15 0x01000100000000000000000100000f) ≡ Outcome.refused 16
@@ -135,17 +145,17 @@ unfolding openRows
 broken-no-edge = refl
 
 -- a guide beside an edge
-broken-edge-and-guide : read (bytes 35 0x0100010000000000030100000001000000000000000000010000000000000000000000) ≡ Outcome.refused 18
+broken-edge-and-guide : read (bytes 37 0x01000100000000000301000000010000000000000000000000010000000000000000000000) ≡ Outcome.refused 18
 unfolding openRows
 broken-edge-and-guide = refl
 
 -- a guide beside a range of another path
-broken-guide-elsewhere : read (bytes 34 0x01000200000000000200000000000101000000000000000000000000000000000000) ≡ Outcome.refused 18
+broken-guide-elsewhere : read (bytes 38 0x0100020000000000020000000000000001010000000000000000000000000000000000000000) ≡ Outcome.refused 18
 unfolding openRows
 broken-guide-elsewhere = refl
 
 -- Composite where every part is bytes
-broken-composite : read (bytes 26 0x0100010000000100010001000200000000000000000000000000) ≡ Outcome.refused 18
+broken-composite : read (bytes 28 0x01000100000001000100010002000000000000000000000000000000) ≡ Outcome.refused 18
 unfolding openRows
 broken-composite = refl
 

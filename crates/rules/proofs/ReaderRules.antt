@@ -34,7 +34,7 @@ number-most (some a) = omega arith
 
 edges-most : (s : SeekKey) → seekEdges s ≤ 2
 unfolding seekEdges
-edges-most (SeekKey.Prefix bytes) = omega arith
+edges-most (SeekKey.Prefix bytes nodes) = omega arith
 edges-most (SeekKey.Composite parts) = omega arith
 edges-most (SeekKey.PrefixRange parts range) = omega arith
 edges-most (SeekKey.Bounded parts lo hi) = omega (arith, number-most lo, number-most hi)
@@ -46,7 +46,7 @@ number-none (some a) e = absurd (omega arith)
 
 seek-kept : (s : SeekKey) (g : Option Guide) → Reader.seekKeeps s g ≡ true → SeekKept s g
 unfolding Reader.seekKeeps
-seek-kept (SeekKey.Prefix bytes) g e = tt
+seek-kept (SeekKey.Prefix bytes nodes) g e = tt
 seek-kept (SeekKey.Composite parts) g e =
     by-option (λ r. r ≡ true → joined parts ≡ none) (joined parts) (λ q _. q) (λ bytes q r. absurd (true≢false (sym r))) e
 seek-kept (SeekKey.PrefixRange parts range) none e = λ h q. absurd (some≢none h (sym q))

@@ -2,7 +2,7 @@
 use mathlib.Core.Bool.{Bool, true, false}
 use mathlib.Core.List.{List, [], _∷_}
 use mathlib.Core.Option.{Option, none, some}
-use Prim.Native.Nat.{ℕ, zero, suc, _+_, _≤_, _<_}
+use Prim.Native.Nat.{ℕ, zero, suc, _+_, _<_}
 use native.Mathlib.Omega.{arith}
 use lib.Dec.{eqb}
 use lib.ListN.{length}
@@ -10,12 +10,12 @@ use Rattle.rules.specs.Base.{Each, done, more, first, filter, lastOr}
 use Rattle.rules.specs.File.{Tables, FieldTy, Alternative, Ty, FieldPattern, Node, FieldPath, Slot, Binding, Constraint, LevelEntry, typeAt, predicateAt, nodeAt, recordFields, factTy, recordTy, unionTy, fieldPath, then, payload, isConstant}
 use Rattle.rules.specs.Constant
 use Rattle.rules.specs.Constant.{Const, constant, fieldPattern, alternativeOf, onlyField, lookup}
-use Rattle.rules.specs.Lookup.{FieldAt, hoistedSlot, fetchedRegister, fieldFrom, fieldOf, slotAt, rowField, rowValue, foldedSlot}
+use Rattle.rules.specs.Lookup.{FieldAt, hoistedSlot, fetchedRegister, fieldFrom, fieldOf, slotAt, rowField, rowValue, foldedField, foldedSlot}
 use Rattle.rules.specs.Events.{Code, Select, Narrowing, Event, Lists, Walk, walkOps, bind, constrained, select, report, emit}
 use Rattle.rules.specs.Resolve
 use Rattle.rules.specs.Resolve.{Answer, Resolver, follow, give}
 use Rattle.rules.specs.Walk
-use Rattle.rules.specs.Walk.{narrowing, FieldWalk, eachField, refersTo, deferred, constraintsOf, ranked, walkLevel}
+use Rattle.rules.specs.Walk.{narrowing, wholeNode, FieldWalk, eachField, refersTo, deferred, constraintsOf, ranked, walkLevel}
 use Rattle.rules.proofs.Cases.{by-test}
 use Rattle.rules.proofs.Each.{Perhaps, nothing, just, perhaps-bind, perhaps-any, each-append, each-snoc, each-getD}
 use Rattle.rules.proofs.Scalars.{at-int, at-str, at-bytes}
@@ -26,9 +26,8 @@ pub record SelectWithin (s : Select) : Type 0 where
   pub path : PathWithin (s .path)
   pub disc : s .disc < 4294967296
 
--- bytes are never none: a level has no more such parts than its plan has bytes
 abbrev pub NarrowingWithin : Narrowing → Type 0
-NarrowingWithin (Narrowing.Bytes bytes) = 1 ≤ length bytes
+NarrowingWithin (Narrowing.Bytes bytes) = Unit {0}
 NarrowingWithin (Narrowing.Tag d) = d < 4294967296
 NarrowingWithin (Narrowing.RegisterField a p) = (a < 65536) × PathWithin p
 NarrowingWithin (Narrowing.FactId a) = a < 65536
@@ -36,9 +35,9 @@ NarrowingWithin (Narrowing.Prefix bytes) = Unit {0}
 NarrowingWithin (Narrowing.Fuzzy x distance a) = x < 65536
 
 abbrev pub EventWithin : Event → Type 0
-EventWithin (Event.narrow p x) = PathWithin p × NarrowingWithin x
+EventWithin (Event.narrow n p x) = (n < 65536) × PathWithin p × NarrowingWithin x
 EventWithin Event.skip = Unit {0}
-EventWithin Event.closer = Unit {0}
+EventWithin (Event.closer n) = n < 65536
 EventWithin (Event.bound x t) = Unit {0}
 
 pub record ListsWithin (l : Lists) : Type 0 where
@@ -94,14 +93,14 @@ emits e w h k = record { lists = k .lists; events = each-snoc (k .events) h }
 skips : (w : Walk) → Within w → Within (emit Event.skip w)
 skips w k = emits Event.skip w tt k
 
--- a slot that a read gives: its address and path
+-- a slot that a read gives: its address and path, or its node
 abbrev Reached : Slot → Type 0
 Reached (Slot.Row a p) = a < 65536
 Reached (Slot.Key a t) = a < 65536
 Reached (Slot.Derived a) = Unit {0}
 Reached (Slot.Field a p t) = (a < 65536) × PathWithin p
 Reached (Slot.Value a t) = Unit {0}
-Reached (Slot.Const n) = Unit {0}
+Reached (Slot.Const n) = n < 65536
 
 reached : (s : Slot) → SlotWithin s → Reached s
 reached (Slot.Row a p) h = h .0
@@ -109,7 +108,7 @@ reached (Slot.Key a t) h = h .0
 reached (Slot.Derived a) h = tt
 reached (Slot.Field a p t) h = (h .0, h .1)
 reached (Slot.Value a t) h = tt
-reached (Slot.Const n) h = tt
+reached (Slot.Const n) h = h
 
 -- What a type or a node names, by the forms that the walk asks for.
 record-within : (ty : Ty) → TypeWithin ty → Perhaps FieldsWithin (recordTy ty)
@@ -185,37 +184,37 @@ slot-at : (a : ℕ) (place : ℕ → FieldPath) {o : Option FieldAt} → a < 655
 unfolding slotAt
 slot-at a place h g f = perhaps-bind f λ k l. just (h, g _ (l .index))
 
--- Constants: their bytes are not none, a fuzzy text is a name.
+-- Constants: a fuzzy text is a name.
 abbrev ConstWithin : Const → Type 0
-ConstWithin (Const.Bytes bytes) = 1 ≤ length bytes
+ConstWithin (Const.Bytes bytes) = Unit {0}
 ConstWithin (Const.Prefix bytes) = Unit {0}
 ConstWithin (Const.Fuzzy x d a) = x < 65536
 
 narrowing-within : (c : Const) → ConstWithin c → NarrowingWithin (narrowing c)
 unfolding narrowing
-narrowing-within (Const.Bytes bytes) h = h
+narrowing-within (Const.Bytes bytes) h = tt
 narrowing-within (Const.Prefix bytes) h = tt
 narrowing-within (Const.Fuzzy x d a) h = h
 
 constant-record : (below : ℕ → ℕ → Option Const) (fs : List FieldPattern) (ty : Ty) → Perhaps ConstWithin (Constant.constantRecord below fs ty)
-unfolding Constant.constantRecord Constant.encodeRecord Constant.encodeUnion Constant.unionTag
+unfolding Constant.constantRecord
 constant-record below fs Ty.Int = nothing
 constant-record below fs Ty.Str = nothing
 constant-record below fs Ty.Bytes = nothing
 constant-record below fs (Ty.Fact p) = nothing
-constant-record below fs (Ty.Record gs) = perhaps-bind (perhaps-any (Constant.constantFields below fs gs)) λ bytes _. just (omega arith)
+constant-record below fs (Ty.Record gs) = perhaps-bind (perhaps-any (Constant.constantFields below fs gs)) λ bytes _. just tt
 constant-record below fs (Ty.Union alts) =
     perhaps-bind (perhaps-any (onlyField fs)) λ f _.
     perhaps-bind (perhaps-any (alternativeOf alts (f .name))) λ alt _.
     perhaps-bind (perhaps-any (below (f .node) (alt .type))) λ c _.
     perhaps-bind (perhaps-any (Constant.bytesOnly c)) λ bytes _.
-    just (omega arith)
+    just tt
 
 constant-node : (T : Tables) (below : ℕ → ℕ → Option Const) (node : Node) → NodeWithin node → (ty : Ty) → Perhaps ConstWithin (Constant.constantNode T below node ty)
-unfolding Constant.constantNode Constant.encodeInt Constant.encodeStr Constant.encodePrefix Constant.encodeBytes
-constant-node T below (Node.Int bytes) h ty = at-int ConstWithin ty _ (omega arith)
-constant-node T below (Node.Str x) h ty = at-str ConstWithin ty _ (omega arith)
-constant-node T below (Node.Bytes bytes) h ty = at-bytes ConstWithin ty _ (omega arith)
+unfolding Constant.constantNode
+constant-node T below (Node.Int bytes) h ty = at-int ConstWithin ty _ tt
+constant-node T below (Node.Str x) h ty = at-str ConstWithin ty _ tt
+constant-node T below (Node.Bytes bytes) h ty = at-bytes ConstWithin ty _ tt
 constant-node T below (Node.Var x) h ty = nothing
 constant-node T below Node.Wildcard h ty = nothing
 constant-node T below Node.Never h ty = nothing
@@ -302,7 +301,7 @@ module _ (T : Tables) (N : TablesWithin T) where
   dereferences n (Slot.Field a p t) h g =
       by-perhaps Resolves (perhaps-any (factTy (typeAt T t))) (gives (just g)) (λ q _. fetched-resolves n q h (register-within a p))
   dereferences n (Slot.Value a t) h g = by-perhaps Resolves (perhaps-any (factTy (typeAt T t))) (gives (just tt)) (λ q _. declines n _ h)
-  dereferences n (Slot.Const c) h g = gives (just tt)
+  dereferences n (Slot.Const c) h g = gives (just g)
 
   row-field : (a : ℕ) (p : Option ℕ) (x : ℕ) → a < 65536 → Perhaps Reached (rowField T a p x)
   unfolding rowField
@@ -318,8 +317,8 @@ module _ (T : Tables) (N : TablesWithin T) where
   row-fields x (Slot.Const c) h = gives nothing
 
   folded-slot : (c x : ℕ) → Perhaps Reached (foldedSlot T c x)
-  unfolding foldedSlot
-  folded-slot c x = perhaps-bind (perhaps-any _) λ n _. just tt
+  unfolding foldedSlot foldedField
+  folded-slot c x = perhaps-bind (perhaps-bind (fields-within _ (node-at c)) λ fs h. pattern-within fs x h) λ n h. just h
 
   field-slots : (n : ℕ) (s : Slot) (x : ℕ) → n < 65536 → Reached s → Resolves (Resolve.fieldSlot (walkOps T) T n s x)
   unfolding Resolve.fieldSlot
@@ -400,23 +399,23 @@ module _ (T : Tables) (N : TablesWithin T) where
   unfolding Resolve.resolveBelow
   below-resolves zero n l = gives nothing
   below-resolves (suc limit) n l =
-      either Resolves (isConstant T n) (gives (just tt)) (node-resolves (Resolve.resolveBelow (walkOps T) T limit) (below-resolves limit) n l (nodeAt T n) (node-at n))
+      either Resolves (isConstant T n) (gives (just l)) (node-resolves (Resolve.resolveBelow (walkOps T) T limit) (below-resolves limit) n l (nodeAt T n) (node-at n))
 
   resolves : (n : ℕ) → n < 65536 → Resolves (Resolve.resolve (walkOps T) T n)
   unfolding Resolve.resolve
   resolves n l = below-resolves (length (T .nodes)) n l
 
   -- The walk.
-  narrows : (c : Const) (p : FieldPath) (w : Walk) → ConstWithin c → PathWithin p → Within w → Within (Walk.narrowBy (walkOps T) T c p w)
+  narrows : (n : ℕ) (c : Const) (p : FieldPath) (w : Walk) → n < 65536 → ConstWithin c → PathWithin p → Within w → Within (Walk.narrowBy (walkOps T) T n c p w)
   unfolding Walk.narrowBy
-  narrows c p w h g k = emits (Event.narrow p (narrowing c)) w (g, narrowing-within c h) k
+  narrows n c p w l h g k = emits (Event.narrow n p (narrowing c)) w (l, g, narrowing-within c h) k
 
   constrains-each : {ks : List Constraint} (t : ℕ) (p : FieldPath) (w : Walk) → Each (λ k. k .node < 65536) ks → PathWithin p → Within w → Within (Walk.constrainEach (walkOps T) T ks t p w)
   unfolding Walk.constrainEach
   constrains-each t p w done g v = v
   constrains-each t p w (more {x = k} h hs) g v =
       constrains-each t p _ hs g
-      (by-perhaps Within (constant-within (k .node) t) (reports _ _ _ h (skips w v)) (λ c q. narrows c p w q g v))
+      (by-perhaps Within (constant-within (k .node) t) (reports _ _ _ h (skips w v)) (λ c q. narrows (k .node) c p w h q g v))
 
   constrains-by : {ks : List Constraint} (x t : ℕ) (p : FieldPath) (w : Walk) → x < 65536 → Each (λ k. k .node < 65536) ks → PathWithin p → Within w → Within (Walk.constrainBy (walkOps T) T ks x t p w)
   unfolding Walk.constrainBy
@@ -465,18 +464,18 @@ module _ (T : Tables) (N : TablesWithin T) where
 
     matches : (n : ℕ) (s : Slot) (t : ℕ) (p : FieldPath) (w : Walk) → n < 65536 → Reached s → PathWithin p → Within w → Within (Walk.matched (walkOps T) T address below n s t p w)
     unfolding Walk.matched
-    matches n (Slot.Row from q) t p w l r g v = either Within (refersTo q (factTy (typeAt T t))) (emits (Event.narrow p (Narrowing.FactId from)) w (g, r) v) (reports n Code.RejectTypeMismatch w l v)
+    matches n (Slot.Row from q) t p w l r g v = either Within (refersTo q (factTy (typeAt T t))) (emits (Event.narrow n p (Narrowing.FactId from)) w (l, g, r) v) (reports n Code.RejectTypeMismatch w l v)
     matches n (Slot.Key from ty) t p w l r g v = reports n _ _ l (skips w v)
     matches n (Slot.Derived from) t p w l r g v = reports n _ _ l (skips w v)
-    matches n (Slot.Field from at ty) t p w l r g v = either Within (eqb from address) (reports n Code.NyiRepeatedVariable w l v) (emits (Event.narrow p (Narrowing.RegisterField from at)) w (g, r) v)
+    matches n (Slot.Field from at ty) t p w l r g v = either Within (eqb from address) (reports n Code.NyiRepeatedVariable w l v) (emits (Event.narrow n p (Narrowing.RegisterField from at)) w (l, g, r) v)
     matches n (Slot.Value from ty) t p w l r g v = reports n _ w l v
-    matches n (Slot.Const folded) t p w l r g v = by-perhaps Within (constant-within folded t) (partials folded t p w g v) (λ c q. narrows c p w q g v)
+    matches n (Slot.Const folded) t p w l r g v = by-perhaps Within (constant-within folded t) (partials folded t p w g v) (λ c q. narrows n c p w l q g v)
 
     injects-alternative : (n : ℕ) (f : FieldPattern) {o : Option Alternative} (p : FieldPath) (w : Walk) → n < 65536 → f .node < 65536 → Perhaps AlternativeWithin o → PathWithin p → Within w → Within (Walk.injectAlternative (walkOps T) T address below n f o p w)
     unfolding Walk.injectAlternative
     injects-alternative n f p w l k nothing g v = reports n _ _ l (skips w v)
     injects-alternative n f p w l k (just {x = alt} q) g v =
-        emits Event.closer _ tt (h (f .node) (alt .type) _ _ k (q .type) (payload-within p (alt .disc) g (q .disc)) (emits (Event.narrow p (Narrowing.Tag (alt .disc))) w (g, q .disc) v))
+        emits (Event.closer n) _ l (h (f .node) (alt .type) _ _ k (q .type) (payload-within p (alt .disc) g (q .disc)) (emits (Event.narrow n p (Narrowing.Tag (alt .disc))) w (l, g, q .disc) v))
 
     injects-only : (n : ℕ) {o : Option FieldPattern} (alts : List Alternative) (p : FieldPath) (w : Walk) → n < 65536 → Perhaps (λ f. f .node < 65536) o → Each AlternativeWithin alts → PathWithin p → Within w → Within (Walk.injectOnly (walkOps T) T address below n o alts p w)
     unfolding Walk.injectOnly alternativeOf
@@ -492,7 +491,7 @@ module _ (T : Tables) (N : TablesWithin T) where
     injects : (fs : List FieldPattern) (alts : List Alternative) → Patterns fs → Each AlternativeWithin alts → Walks (Walk.inject (walkOps T) T address below fs alts)
     unfolding Walk.inject
     injects fs alts k q n t p w l m g v =
-        by-perhaps Within (constant-within n t) (injects-only n alts p w l (only-within fs k) q g v) (λ c r. narrows c p w r g v)
+        by-perhaps Within (constant-within n t) (injects-only n alts p w l (only-within fs k) q g v) (λ c r. narrows n c p w l r g v)
 
     reads-answer : (n : ℕ) {o : Option Slot} (t : ℕ) (p : FieldPath) (before w : Walk) → n < 65536 → Perhaps Reached o → PathWithin p → Within w → Within (Walk.readAnswer (walkOps T) T address below n o t p before w)
     unfolding Walk.readAnswer
@@ -506,7 +505,7 @@ module _ (T : Tables) (N : TablesWithin T) where
 
     ranges : Walks (Walk.ranged (walkOps T) T address below)
     unfolding Walk.ranged
-    ranges n t p w l m g v = by-perhaps Within (constant-within n t) (reports n _ w l v) (λ c q. narrows c p w q g v)
+    ranges n t p w l m g v = by-perhaps Within (constant-within n t) (reports n _ w l v) (λ c q. narrows n c p w l q g v)
 
     variables : (x : ℕ) → x < 65536 → Walks (Walk.variable (walkOps T) T address below x)
     unfolding Walk.variable
@@ -544,13 +543,22 @@ module _ (T : Tables) (N : TablesWithin T) where
     unfolding Walk.field
     fields n t p w l m g v = fields-below (length (T .types)) n t p w l m g v
 
+    whole-node : (n : ℕ) (s : Slot) → n < 65536 → Reached s → wholeNode n s < 65536
+    unfolding wholeNode
+    whole-node n (Slot.Row from p) l r = l
+    whole-node n (Slot.Key from ty) l r = l
+    whole-node n (Slot.Derived from) l r = l
+    whole-node n (Slot.Field from at ty) l r = l
+    whole-node n (Slot.Value from ty) l r = l
+    whole-node n (Slot.Const folded) l r = r
+
     whole-fields : (n : ℕ) (s : Slot) (i : ℕ) (fs : List FieldTy) → n < 65536 → Reached s → i + length fs < 256 → (w : Walk) → Within w → Within (Walk.wholeFields (walkOps T) T address n s i fs w)
     unfolding Walk.wholeFields
     whole-fields n s i [] l r k w v = v
     whole-fields n s i (f ∷ fs) l r k w v =
         let b = field-slots n s (f .name) l r w v in
         whole-fields n s (suc i) fs l r (omega arith) _
-        (by-perhaps Within (b .slot) (skips _ (b .walk)) (λ z q. matches address a (Walk.field (walkOps T) T address) fields n z (f .type) (fieldPath i) _ l q (first-within i (omega arith)) (b .walk)))
+        (by-perhaps Within (b .slot) (skips _ (b .walk)) (λ z q. matches address a (Walk.field (walkOps T) T address) fields (wholeNode n z) z (f .type) (fieldPath i) _ (whole-node n z l q) q (first-within i (omega arith)) (b .walk)))
 
     whole-reads : (n : ℕ) (fs : List FieldTy) → n < 65536 → length fs < 256 → (w : Walk) → Within w → Within (Walk.wholeRead (walkOps T) T address n fs w)
     unfolding Walk.wholeRead

@@ -221,14 +221,18 @@ unfolding Reader.diagnostic Plan.diagnostic
 item-diagnostic = item item-u16 λ n _. item item-code λ c _. made _ (refl, tt)
 
 -- A level.
-item-part : Item Reader.part Plan.part Any
-unfolding Reader.part Plan.part Reader.bytesPart Reader.registerPart Reader.factPart
-item-part =
+item-key : Item Reader.partKey Plan.partKey Any
+unfolding Reader.partKey Plan.partKey Reader.bytesPart Reader.registerPart Reader.factPart
+item-key =
     item-kind
     ((item item-text λ bytes _. made _ (refl, tt))
     or (item item-u16 λ a _. item item-path λ p _. made _ (refl, tt))
     or (item item-u16 λ a _. made _ (refl, tt))
     or none-left)
+
+item-part : Item Reader.part Plan.part Any
+unfolding Reader.part Plan.part
+item-part = item item-key λ k _. item item-u16 λ n _. made _ (refl, tt)
 
 item-edge : Item Reader.edge Plan.edge Any
 unfolding Reader.edge Plan.edge Reader.edgeThat Plan.inclusive
@@ -238,9 +242,9 @@ item-seek : (n : ℕ) → Item (Reader.seek n) Plan.seek Any
 unfolding Reader.seek Plan.seek Reader.prefixSeek Reader.compositeSeek Reader.rangeSeek Reader.boundedSeek
 item-seek n =
     item-kind
-    ((item item-text λ bytes _. made _ (refl, tt))
+    ((item item-text λ bytes _. item (item-many item-u16 n) λ nodes _. made _ (refl, tt))
     or (item (item-many item-part n) λ parts _. made _ (refl, tt))
-    or (item (item-many item-part n) λ parts _. item item-text λ prefix _. item item-path λ p _. made _ (refl, tt))
+    or (item (item-many item-part n) λ parts _. item item-text λ prefix _. item item-path λ p _. item item-u16 λ node _. made _ (refl, tt))
     or (item (item-many item-part n) λ parts _. item item-edge λ lo _. item item-edge λ hi _. made _ (refl, tt))
     or none-left)
 
@@ -249,7 +253,7 @@ unfolding Reader.guide Plan.guide Reader.guideThat Plan.fuzzy Plan.u16
 item-guide =
     item-kind
     (made _ (refl, tt)
-    or (item item-path λ p _. item item-u16 λ x _. item item-u8 λ distance _. item item-anchor λ a _. made _ (simp append-assoc, tt))
+    or (item item-path λ p _. item item-u16 λ x _. item item-u8 λ distance _. item item-anchor λ a _. item item-u16 λ n _. made _ (simp append-assoc, tt))
     or none-left)
 
 item-op : Item Reader.op Plan.op Any
@@ -266,7 +270,7 @@ item-op =
 
 item-residual : Item Reader.residual Plan.residual Any
 unfolding Reader.residual Plan.residual
-item-residual = item item-path λ p _. item item-op λ o _. made _ (refl, tt)
+item-residual = item item-path λ p _. item item-op λ o _. item item-u16 λ n _. made _ (refl, tt)
 
 item-level : Item Reader.level Plan.levelBytes Any
 unfolding Reader.level Plan.levelBytes
