@@ -11,8 +11,10 @@ use Rattle.rules.specs.Constant.{encodePrefix}
 use Rattle.rules.specs.Placement.{Range, RangeEdge}
 use Rattle.rules.specs.Plan as Plan
 use Rattle.rules.specs.Plan.{u16}
+use Rattle.rules.proofs.Cases.{by-test}
+use Rattle.state.specs.State.{joinedBytes}
 use Rattle.state.specs.Levels as StateLevels
-use Rattle.state.specs.Levels.{seekOf, joining, head, rangeOrEdges, middle, tail, partsAt, middleAt, tailAt}
+use Rattle.state.specs.Levels.{seekOf, joining, head, rangeOrEdges, middle, tail, partsAt, nodesAt, middleAt, tailAt}
 use Rattle.paths.specs.Paths.{pathOf}
 use Rattle.constant.specs.Sizes.{cap}
 use Rattle.encode.specs.Written.{Wrote}
@@ -21,7 +23,7 @@ use Rattle.records.specs.Records.{put}
 use Rattle.records.proofs.Stores.{put-none}
 use Rattle.seek.specs.Seek.{sumsOf, countsOf, setIn, kept, guideOf, rangeOf, edgeOf, edgesOf, levelOf}
 use Rattle.seek.specs.declared.SeekBuilder.{SeekBuilder}
-use Rattle.level_frame.specs.LevelFrame.{betweenOf, frameOf}
+use Rattle.level_frame.specs.LevelFrame.{betweenOf, partsLen, frameOf}
 use Rattle.level_frame.specs.declared.Frame.{Frame}
 use Rattle.level_frame.proofs.Seeks.{seekBits, edge, seek-is}
 use Rattle.level_frame.proofs.Places as Places
@@ -38,7 +40,7 @@ module _ (r : Range) (e f : RangeEdge) where
   bounded true false false false false q = absurd (omega arith)
   bounded false false false false false q = absurd (omega arith)
 
-  ranged : (p b s lo hi : Bool) → seekBits p (kept b s) lo hi ≡ 2 → rangeOrEdges (setIn b s r) (edge lo e) (edge hi f) ≡ Plan.text (r .prefix) ++ Plan.path (r .path)
+  ranged : (p b s lo hi : Bool) → seekBits p (kept b s) lo hi ≡ 2 → rangeOrEdges (setIn b s r) (edge lo e) (edge hi f) ≡ Plan.text (r .prefix) ++ Plan.path (r .path) ++ u16 (r .node)
   unfolding seekBits kept setIn rangeOrEdges
   ranged p b s true hi q = absurd (omega arith)
   ranged p b s false true q = absurd (omega arith)
@@ -66,7 +68,7 @@ module _ (T : Tables) (l : SeekBuilder) (n : ℕ) (en : n ≡ seekOf (levelOf T 
   unfolding levelOf rangeOf edgesOf edgeOf
   with-edges z = sym (bounded _ _ _ (l .plain) (l .building) (l .range .set) (l .lo .set) (l .hi .set) (sym (seek-is l T) ∙ sym en ∙ z))
 
-  with-range : n ≡ 2 → Plan.text prefix ++ Plan.path (pathOf (l .path)) ≡ betweenOf (levelOf T l)
+  with-range : n ≡ 2 → Plan.text prefix ++ Plan.path (pathOf (l .path)) ++ u16 (l .range .node) ≡ betweenOf (levelOf T l)
   unfolding levelOf rangeOf edgesOf edgeOf prefix
   with-range z = sym (ranged _ _ _ (l .plain) (l .building) (l .range .set) (l .lo .set) (l .hi .set) (sym (seek-is l T) ∙ sym en ∙ z))
 
@@ -77,9 +79,10 @@ module _ (T : Tables) (l : SeekBuilder) (n : ℕ) (en : n ≡ seekOf (levelOf T 
   pub edges-size : (a b r : ℕ) → n ≡ 3 → a ≡ min cap (length (Plan.edge (edgeOf T (l .lo)))) → b ≡ min cap (length (Plan.edge (edgeOf T (l .hi)))) → r ≡ min cap (a + b) → r ≡ min cap (length (betweenOf (levelOf T l)))
   edges-size a b r z ea eb er = omega (arith, ea, eb, er, length-append (Plan.edge (edgeOf T (l .lo))) (Plan.edge (edgeOf T (l .hi))), ap length (with-edges z))
 
-  pub range-size : (a b r : ℕ) → n ≡ 2 → a ≡ length (Plan.text (encodePrefix (nameAt T (l .range .name)))) → b ≡ length (Plan.path (pathOf (l .path))) → r ≡ min cap (a + b) → r ≡ min cap (length (betweenOf (levelOf T l)))
-  unfolding prefix
-  range-size a b r z ea eb er = omega (arith, ea, eb, er, length-append (Plan.text prefix) (Plan.path (pathOf (l .path))), ap length (with-range z))
+  pub range-size : (a b r : ℕ) → n ≡ 2 → a ≡ length (Plan.text (encodePrefix (nameAt T (l .range .name)))) → b ≡ length (Plan.path (pathOf (l .path))) → r ≡ min cap (a + (b + 2)) → r ≡ min cap (length (betweenOf (levelOf T l)))
+  unfolding prefix u16
+  range-size a b r z ea eb er =
+      omega (arith, ea, eb, er, length-append (Plan.text prefix) (Plan.path (pathOf (l .path))), length-append (Plan.text prefix ++ Plan.path (pathOf (l .path))) (u16 (l .range .node)), ap length (with-range z))
 
   pub none-size : (n ≡ 3 → ⊥) → (n ≡ 2 → ⊥) → 0 ≡ min cap (length (betweenOf (levelOf T l)))
   none-size x y = let e : 0 ≡ length (betweenOf (levelOf T l)) = ap length (with-none x y) in omega arith
@@ -89,15 +92,19 @@ module _ (T : Tables) (l : SeekBuilder) (n : ℕ) (en : n ≡ seekOf (levelOf T 
 
   pub range-small : n ≡ 2 → length (betweenOf (levelOf T l)) ≤ cap → length (Plan.text (encodePrefix (nameAt T (l .range .name)))) ≤ cap
   unfolding prefix
-  range-small z h = omega (arith, h, length-append (Plan.text prefix) (Plan.path (pathOf (l .path))), ap length (with-range z))
+  range-small z h =
+      omega (arith, h, length-append (Plan.text prefix) (Plan.path (pathOf (l .path))), length-append (Plan.text prefix ++ Plan.path (pathOf (l .path))) (u16 (l .range .node)), ap length (with-range z))
 
   module _ (at : ℕ) (w : List ℕ) where
     pub put-edges : (p r : ℕ) (w1 w2 : List ℕ) → n ≡ 3 → Wrote (Plan.edge (edgeOf T (l .lo))) at w p w1 → Wrote (Plan.edge (edgeOf T (l .hi))) p w1 r w2 → Wrote (betweenOf (levelOf T l)) at w r w2
     put-edges p r w1 w2 z a b = wrote-as (Plan.edge (edgeOf T (l .lo)) ++ Plan.edge (edgeOf T (l .hi))) (betweenOf (levelOf T l)) at r w w2 (wrote-then a b) (with-edges z)
 
-    pub put-range : (p r : ℕ) (w1 w2 : List ℕ) → n ≡ 2 → Wrote (Plan.text (encodePrefix (nameAt T (l .range .name)))) at w p w1 → r ≡ p + length (Plan.path (pathOf (l .path))) → w2 ≡ put w1 p (Plan.path (pathOf (l .path))) → Wrote (betweenOf (levelOf T l)) at w r w2
-    unfolding prefix
-    put-range p r w1 w2 z a er e = wrote-as (Plan.text prefix ++ Plan.path (pathOf (l .path))) (betweenOf (levelOf T l)) at r w w2 (wrote-then a (record { place = er; is = e })) (with-range z)
+    pub put-range : (p r : ℕ) (w1 w2 w3 : List ℕ) → n ≡ 2 → Wrote (Plan.text (encodePrefix (nameAt T (l .range .name)))) at w p w1 → r ≡ p + length (Plan.path (pathOf (l .path))) → w2 ≡ put w1 p (Plan.path (pathOf (l .path)))
+        → w3 ≡ put w2 r (u16 (l .range .node)) → Wrote (betweenOf (levelOf T l)) at w (r + 2) w3
+    unfolding prefix u16
+    put-range p r w1 w2 w3 z a er e f =
+        wrote-as (Plan.text prefix ++ Plan.path (pathOf (l .path)) ++ u16 (l .range .node)) (betweenOf (levelOf T l)) at (r + 2) w w3
+        (wrote-then (wrote-then a (record { place = er; is = e })) (record { place = refl; is = f })) (with-range z)
 
     pub put-bare : (n ≡ 3 → ⊥) → (n ≡ 2 → ⊥) → Wrote (betweenOf (levelOf T l)) at w at w
     put-bare x y = wrote-as [] (betweenOf (levelOf T l)) at at w w (record { place = omega arith; is = sym (put-none w at) }) (with-none x y)
@@ -132,12 +139,21 @@ module _ (T : Tables) (l : SeekBuilder) where
       wrote-then (wrote-then b g) a .is ∙ ap (put w at) middle-is
 
   -- the places
-  pub framed : (at h p m r t : ℕ) → h ≡ length (head (levelOf T l)) → p ≡ elim (joining (levelOf T l)) [ true ↦ levelOf T l .counts .joined | false ↦ levelOf T l .counts .parted ]
+  pub framed : (at h p j m r t : ℕ) → h ≡ length (head (levelOf T l)) → p ≡ partsLen (levelOf T l) → j ≡ l .counts .joined
       → m ≡ min cap (length (middle (levelOf T l))) → r ≡ l .counts .rest → t ≡ length (tail (levelOf T l))
-      → record { parts = at + h; middle = at + h + p; rest = at + h + p + m; tail = at + h + p + m + r; end = at + h + p + m + r + t } ≡ frameOf at (levelOf T l)
-  unfolding frameOf partsAt middleAt levelOf countsOf sumsOf
-  framed at h p m r t eh ep em er et = λ i.
-      record { parts = at + eh i; middle = at + eh i + ep i; rest = at + eh i + ep i + em i; tail = at + eh i + ep i + em i + er i; end = at + eh i + ep i + em i + er i + et i }
+      → record { parts = at + h; nodes = at + h + j; middle = at + h + p; rest = at + h + p + m; tail = at + h + p + m + r; end = at + h + p + m + r + t } ≡ frameOf at (levelOf T l)
+  unfolding frameOf partsAt nodesAt middleAt levelOf countsOf sumsOf
+  framed at h p j m r t eh ep ej em er et = λ i.
+      record { parts = at + eh i; nodes = at + eh i + ej i; middle = at + eh i + ep i; rest = at + eh i + ep i + em i; tail = at + eh i + ep i + em i + er i; end = at + eh i + ep i + em i + er i + et i }
+
+  -- the nodes of joined parts begin before the middle
+  joined-before : l .counts .joined ≤ partsLen (levelOf T l)
+  unfolding levelOf countsOf sumsOf joinedBytes
+  joined-before = by-test (λ (n : ℕ). l .counts .joined ≤ n) (joining (levelOf T l)) (λ _. omega arith) (λ _. omega arith)
+
+  pub nodes-near : (at : ℕ) (f : Frame) → f ≡ frameOf at (levelOf T l) → f .end ≤ planLimit → f .nodes ≤ planLimit
+  unfolding nodesAt middleAt levelOf countsOf sumsOf
+  nodes-near at f ef h = omega (arith, Places.nodes-is at (levelOf T l) f ef, Places.middle-is at (levelOf T l) f ef, Places.middle-near at (levelOf T l) f ef h, joined-before)
 
   pub put-frame : (at : ℕ) (f : Frame) → f ≡ frameOf at (levelOf T l) → f .end ≤ planLimit → (w w1 w2 w3 : List ℕ) → w1 ≡ put w at (head (levelOf T l))
       → w2 ≡ put w1 (f .middle) (middle (levelOf T l)) → w3 ≡ put w2 (f .tail) (tail (levelOf T l)) → w3 ≡ StateLevels.frame at (levelOf T l) w

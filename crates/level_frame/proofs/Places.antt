@@ -8,7 +8,7 @@ use lib.ListN.{length}
 use borrow.Author.Tests.{le-leb, lt-leb}
 use Rattle.rules.specs.Limits.{planLimit}
 use Rattle.state.specs.State.{Level}
-use Rattle.state.specs.Levels.{middle, tail, partsAt, middleAt, restAt, tailAt, levelEnd}
+use Rattle.state.specs.Levels.{middle, tail, partsAt, nodesAt, middleAt, restAt, tailAt, levelEnd}
 use Rattle.constant.specs.Sizes.{cap}
 use Rattle.level_frame.specs.LevelFrame.{frameOf}
 use Rattle.level_frame.specs.declared.Frame.{Frame}
@@ -17,6 +17,10 @@ module _ (at : ℕ) (l : Level) (f : Frame) (ef : f ≡ frameOf at l) where
   pub parts-is : f .parts ≡ partsAt at l
   unfolding frameOf
   parts-is = ap (λ (x : Frame). x .parts) ef
+
+  pub nodes-is : f .nodes ≡ nodesAt at l
+  unfolding frameOf
+  nodes-is = ap (λ (x : Frame). x .nodes) ef
 
   pub middle-is : f .middle ≡ middleAt at l
   unfolding frameOf

@@ -13,6 +13,7 @@ use Rattle.rules.specs.File.{Tables}
 use Rattle.rules.specs.Placement.{Guide}
 use Rattle.rules.specs.Plan as Plan
 use Rattle.rules.specs.Plan.{u16}
+use Rattle.state.specs.State.{joinedBytes}
 use Rattle.state.specs.Levels.{seekOf, joining, head, tail}
 use Rattle.state.proofs.Seqs.{length-stride}
 use Rattle.paths.specs.Paths.{pathOf}
@@ -22,6 +23,7 @@ use Rattle.records.specs.Records.{put}
 use Rattle.records.proofs.Stores.{next}
 use Rattle.seek.specs.Seek.{sumsOf, countsOf, setIn, kept, guideOf, foldedOf, edgesOf, levelOf}
 use Rattle.seek.specs.declared.SeekBuilder.{SeekBuilder}
+use Rattle.level_frame.specs.LevelFrame.{partsLen}
 use Rattle.level_frame.proofs.Seeks.{joining-is}
 
 module _ (l : SeekBuilder) (T : Tables) where
@@ -64,19 +66,22 @@ module _ (l : SeekBuilder) (T : Tables) where
     pub put-joined : (j : ℕ) (w5 : List ℕ) → j ≡ l .counts .joined → w5 ≡ put w4 (at + 7) (u16 j) → s ≡ seekOf (levelOf T l) → s ≡ 0 → w5 ≡ put w at (head (levelOf T l))
     put-joined j w5 ej e5 e z = nine j w5 ej e5 ∙ ap (put w at) (sym (head-is s e true (eq-eqb s 0 z)))
 
-  -- the parts' bytes
-  pub parts-joined : (s j : ℕ) → s ≡ seekOf (levelOf T l) → s ≡ 0 → j ≡ l .counts .joined → j ≡ elim (joining (levelOf T l)) [ true ↦ levelOf T l .counts .joined | false ↦ levelOf T l .counts .parted ]
-  unfolding levelOf countsOf sumsOf
-  parts-joined s j e z ej = ej ∙ ap (λ (b : Bool). elim b [ true ↦ l .counts .joined | false ↦ l .counts .joined + l .counts .framed ]) (sym (joining-is l T ∙ ap (λ (x : ℕ). eqb x 0) (sym e) ∙ eq-eqb s 0 z))
+  -- the parts' bytes, joined with a node for each or in the plan's form
+  abbrev parts-by : Bool → ℕ
+  parts-by b = elim b [ true ↦ l .counts .joined + 2 * (l .counts .closers + l .counts .others) | false ↦ l .counts .joined + l .counts .framed ]
 
-  pub parts-other : (s j : ℕ) → s ≡ seekOf (levelOf T l) → (s ≡ 0 → ⊥) → j ≡ l .counts .joined + l .counts .framed → j ≡ elim (joining (levelOf T l)) [ true ↦ levelOf T l .counts .joined | false ↦ levelOf T l .counts .parted ]
-  unfolding levelOf countsOf sumsOf
-  parts-other s j e z ej = ej ∙ ap (λ (b : Bool). elim b [ true ↦ l .counts .joined | false ↦ l .counts .joined + l .counts .framed ]) (sym (joining-is l T ∙ ap (λ (x : ℕ). eqb x 0) (sym e) ∙ ne-eqb s 0 z))
+  pub parts-joined : (s j : ℕ) → s ≡ seekOf (levelOf T l) → s ≡ 0 → j ≡ l .counts .joined + 2 * (l .counts .closers + l .counts .others) → j ≡ partsLen (levelOf T l)
+  unfolding levelOf countsOf sumsOf joinedBytes
+  parts-joined s j e z ej = ej ∙ ap parts-by (sym (joining-is l T ∙ ap (λ (x : ℕ). eqb x 0) (sym e) ∙ eq-eqb s 0 z))
+
+  pub parts-other : (s j : ℕ) → s ≡ seekOf (levelOf T l) → (s ≡ 0 → ⊥) → j ≡ l .counts .joined + l .counts .framed → j ≡ partsLen (levelOf T l)
+  unfolding levelOf countsOf sumsOf joinedBytes
+  parts-other s j e z ej = ej ∙ ap parts-by (sym (joining-is l T ∙ ap (λ (x : ℕ). eqb x 0) (sym e) ∙ ne-eqb s 0 z))
 
 -- the guide
 module _ (l : SeekBuilder) where
   set-guide : Guide
-  set-guide = record { path = pathOf (l .path); term = l .guide .term; distance = l .guide .distance; anchor = anchorOf (l .guide .anchor) }
+  set-guide = record { path = pathOf (l .path); term = l .guide .term; distance = l .guide .distance; anchor = anchorOf (l .guide .anchor); node = l .guide .node }
 
   guided : Bool → List ℕ
   guided k = Plan.guide (elim k [ true ↦ some set-guide | false ↦ none ])
@@ -90,11 +95,14 @@ module _ (l : SeekBuilder) where
   unfolding guideOf guided set-guide
   guide-is k t e f = ap guided (sym f ∙ e) ∙ sym (ap Plan.guide (by-kept (l .building) (l .guide .set)))
 
+  guide-front : List ℕ
+  guide-front = 1 ∷ Plan.path (pathOf (l .path)) ++ Plan.fuzzy (l .guide .term) (l .guide .distance) (anchorOf (l .guide .anchor))
+
   guide-bytes : List ℕ
-  guide-bytes = 1 ∷ Plan.path (pathOf (l .path)) ++ Plan.fuzzy (l .guide .term) (l .guide .distance) (anchorOf (l .guide .anchor))
+  guide-bytes = guide-front ++ u16 (l .guide .node)
 
   some-guide : (k : Bool) → k ≡ kept (l .building) (l .guide .set) → k ≡ true → guide-bytes ≡ Plan.guide (guideOf l)
-  unfolding guided Plan.guide set-guide guide-bytes
+  unfolding guided Plan.guide set-guide guide-front guide-bytes
   some-guide k e f = guide-is k true e f
 
   no-guide : (k : Bool) → k ≡ kept (l .building) (l .guide .set) → k ≡ false → 0 ∷ [] ≡ Plan.guide (guideOf l)
@@ -104,20 +112,25 @@ module _ (l : SeekBuilder) where
   pub none-size : (k : Bool) → k ≡ kept (l .building) (l .guide .set) → k ≡ false → 1 ≡ length (Plan.guide (guideOf l))
   none-size k e f = ap length (no-guide k e f)
 
-  pub guide-size : (n : ℕ) (k : Bool) → k ≡ kept (l .building) (l .guide .set) → k ≡ true → n ≡ length (Plan.path (pathOf (l .path))) → n + 5 ≡ length (Plan.guide (guideOf l))
-  unfolding Plan.fuzzy u16 guide-bytes
+  pub guide-size : (n : ℕ) (k : Bool) → k ≡ kept (l .building) (l .guide .set) → k ≡ true → n ≡ length (Plan.path (pathOf (l .path))) → n + 7 ≡ length (Plan.guide (guideOf l))
+  unfolding Plan.fuzzy u16 guide-front guide-bytes
   guide-size n k e f h =
-      omega (arith, ap length (some-guide k e f), length-append (1 ∷ Plan.path (pathOf (l .path))) (Plan.fuzzy (l .guide .term) (l .guide .distance) (anchorOf (l .guide .anchor))))
+      omega (
+        arith,
+        ap length (some-guide k e f),
+        length-append guide-front (u16 (l .guide .node)),
+        length-append (1 ∷ Plan.path (pathOf (l .path))) (Plan.fuzzy (l .guide .term) (l .guide .distance) (anchorOf (l .guide .anchor))),
+      )
 
   module _ (at : ℕ) (w w1 : List ℕ) (k : Bool) (ek : k ≡ kept (l .building) (l .guide .set)) where
     pub put-unset : k ≡ false → w1 ≡ put w at (0 ∷ []) → Wrote (Plan.guide (guideOf l)) at w (at + 1) w1
     put-unset f e = record { place = ap (λ (x : List ℕ). at + length x) (no-guide k ek f); is = e ∙ ap (put w at) (no-guide k ek f) }
 
-    pub put-set : (p a : ℕ) (w2 w3 w4 w5 : List ℕ) → k ≡ true → w1 ≡ put w at (1 ∷ []) → p ≡ at + 1 + length (Plan.path (pathOf (l .path)))
+    pub put-set : (p a : ℕ) (w2 w3 w4 w5 w6 : List ℕ) → k ≡ true → w1 ≡ put w at (1 ∷ []) → p ≡ at + 1 + length (Plan.path (pathOf (l .path)))
         → w2 ≡ put w1 (at + 1) (Plan.path (pathOf (l .path))) → w3 ≡ put w2 p (u16 (l .guide .term)) → w4 ≡ put w3 (p + 2) (l .guide .distance ∷ []) → a ≡ Plan.anchor (anchorOf (l .guide .anchor))
-        → w5 ≡ put w4 (p + 3) (a ∷ []) → Wrote (Plan.guide (guideOf l)) at w (p + 4) w5
-    unfolding Plan.fuzzy u16 guide-bytes
-    put-set p a w2 w3 w4 w5 f e1 ep e2 e3 e4 ea e5 =
+        → w5 ≡ put w4 (p + 3) (a ∷ []) → w6 ≡ put w5 (p + 4) (u16 (l .guide .node)) → Wrote (Plan.guide (guideOf l)) at w (p + 6) w6
+    unfolding Plan.fuzzy u16 guide-front guide-bytes
+    put-set p a w2 w3 w4 w5 w6 f e1 ep e2 e3 e4 ea e5 e6 =
         let path = Plan.path (pathOf (l .path)) in
         let term = u16 (l .guide .term) in
         let whole = some-guide k ek f in
@@ -125,9 +138,11 @@ module _ (l : SeekBuilder) where
         let four : w4 ≡ put w2 p (term ++ (l .guide .distance ∷ [])) = next w2 w3 w4 p (p + 2) term (l .guide .distance ∷ []) e3 e4 refl in
         let five : w5 ≡ put w2 p (term ++ (l .guide .distance ∷ a ∷ [])) = next w2 w4 w5 p (p + 3) (term ++ (l .guide .distance ∷ [])) (a ∷ []) four e5 refl in
         let all : w5 ≡ put w at ((1 ∷ path) ++ (term ++ (l .guide .distance ∷ a ∷ []))) = next w w2 w5 at p (1 ∷ path) (term ++ (l .guide .distance ∷ a ∷ [])) two five (omega arith) in
+        let front : w5 ≡ put w at guide-front = all ∙ ap (λ (x : ℕ). put w at ((1 ∷ path) ++ (term ++ (l .guide .distance ∷ x ∷ [])))) ea in
+        let size = length-append (1 ∷ path) (term ++ (l .guide .distance ∷ Plan.anchor (anchorOf (l .guide .anchor)) ∷ [])) in
         record {
-          place = omega (arith, ap length whole, length-append (1 ∷ path) (term ++ (l .guide .distance ∷ Plan.anchor (anchorOf (l .guide .anchor)) ∷ [])));
-          is = all ∙ ap (λ (x : ℕ). put w at ((1 ∷ path) ++ (term ++ (l .guide .distance ∷ x ∷ [])))) ea ∙ ap (put w at) whole;
+          place = omega (arith, ap length whole, size, length-append guide-front (u16 (l .guide .node)));
+          is = next w w5 w6 at (p + 4) guide-front (u16 (l .guide .node)) front e6 (omega (arith, size)) ∙ ap (put w at) whole;
         }
 
 -- the folded comparisons

@@ -37,11 +37,11 @@ use Rattle.walk.specs.declared.Walk.{Walk}
 use Rattle.level_frame.specs.LevelFrame.{frameOf}
 use Rattle.level_frame.specs.declared.Frame.{Frame}
 use Rattle.level_frame.proofs.Seeks.{joining-is}
-use Rattle.level_frame.proofs.Places.{parts-is, rest-is}
+use Rattle.level_frame.proofs.Places.{parts-is, nodes-is, rest-is}
 use Rattle.levels.specs.Written.{unleveled}
 
-abbrev place : Bool → ℕ → ℕ → Memory.Target
-place j p r = record { writing = true; joining = j; partsAt = p; restAt = r }
+abbrev place : Bool → ℕ → ℕ → ℕ → Memory.Target
+place j p n r = record { writing = true; joining = j; partsAt = p; nodesAt = n; restAt = r }
 
 -- the key type of a level's predicate is the file's
 key-sound : (T : Tables) → Sound T → (k : ℕ) → k < length (T .levels) → predicateAt T (levelEntryAt T k .predicate) .key < length (T .types)
@@ -69,9 +69,9 @@ begun-is T o e b t w p q =
     ∙ ap (λ (s : State). state o (endsOf e) (s .level) (s .target) w p) q
 
 -- a level's place in the plan
-pub target-is : (T : Tables) (l : SeekBuilder) (s parts rest : ℕ) → s ≡ StateLevels.seekOf (levelOf T l) → place (eqb s 0) parts rest ≡ place (StateLevels.joining (levelOf T l)) parts rest
-target-is T l s parts rest e =
-    ap (λ (j : Bool). place j parts rest) (ap (λ (n : ℕ). eqb n 0) e ∙ sym (joining-is l T))
+pub target-is : (T : Tables) (l : SeekBuilder) (s parts nodes rest : ℕ) → s ≡ StateLevels.seekOf (levelOf T l) → place (eqb s 0) parts nodes rest ≡ place (StateLevels.joining (levelOf T l)) parts nodes rest
+target-is T l s parts nodes rest e =
+    ap (λ (j : Bool). place j parts nodes rest) (ap (λ (n : ℕ). eqb n 0) e ∙ sym (joining-is l T))
 
 -- no level is kept of a walk that is done
 pub lists-left : (T : Tables) (r : Walk) (l : Lists) (work plan : List ℕ) → l ≡ listsOf r → stateWith l newLevel measuring work plan ≡ unleveled (walkState T r work plan)
@@ -108,11 +108,11 @@ module _ (T : Tables) (at : ℕ) (m : Walk) (f : Frame) (ef : f ≡ frameOf at (
   l = levelOf T (m .level)
 
   pub rewritten-is : (v : File.LevelEntry) (e : Memory.Ends) (work plan plan₁ : List ℕ) → plan₁ ≡ StateLevels.frame at l plan → StateLevels.bare l ≡ false
-      → (t : Memory.Target) → t ≡ place (StateLevels.joining l) (f .parts) (f .rest) → (b r : State) → b ≡ state (m .level .over) e newLevel t work plan₁ → r ≡ StateLevels.walked T v b
+      → (t : Memory.Target) → t ≡ place (StateLevels.joining l) (f .parts) (f .nodes) (f .rest) → (b r : State) → b ≡ state (m .level .over) e newLevel t work plan₁ → r ≡ StateLevels.walked T v b
       → unleveled r ≡ unleveled (StateLevels.rewritten T v e at (walkState T m work plan))
-  unfolding StateLevels.rewritten StateLevels.framed StateLevels.begin walkState stateOf
+  unfolding StateLevels.rewritten StateLevels.writingAt StateLevels.framed StateLevels.begin walkState stateOf
   rewritten-is v e work plan plan₁ ep q t et b r eb er =
       ap unleveled (er ∙ ap (StateLevels.walked T v) (eb ∙ ap (λ (x : Memory.Target). state (m .level .over) e newLevel x work plan₁)
-      (et ∙ ap (λ (k : ℕ). place (StateLevels.joining l) k (f .rest)) (parts-is at l f ef) ∙ ap (λ (k : ℕ). place (StateLevels.joining l) (StateLevels.partsAt at l) k) (rest-is at l f ef h))
-      ∙ ap (λ (p : List ℕ). state (m .level .over) e newLevel (place (StateLevels.joining l) (StateLevels.partsAt at l) (StateLevels.restAt at l)) work p) ep)
-      ∙ by-test (λ (x : State). StateLevels.walked T v (state (m .level .over) e newLevel (place (StateLevels.joining l) (StateLevels.partsAt at l) (StateLevels.restAt at l)) work (StateLevels.frame at l plan)) ≡ x) (StateLevels.bare l) (λ p. absurd (true≢false (sym p ∙ q))) (λ _. refl))
+      (et ∙ (λ i. place (StateLevels.joining l) (parts-is at l f ef i) (nodes-is at l f ef i) (rest-is at l f ef h i)))
+      ∙ ap (λ (p : List ℕ). state (m .level .over) e newLevel (StateLevels.writingAt at l) work p) ep)
+      ∙ by-test (λ (x : State). StateLevels.walked T v (state (m .level .over) e newLevel (StateLevels.writingAt at l) work (StateLevels.frame at l plan)) ≡ x) (StateLevels.bare l) (λ p. absurd (true≢false (sym p ∙ q))) (λ _. refl))

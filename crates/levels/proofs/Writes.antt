@@ -88,7 +88,7 @@ module _ (T : Tables) (v : LevelEntry) (e : Memory.Ends) (at : ℕ) where
           ∙ ap betweenLevels (sym (measured-fits seen (over-of false o) b))
 
 -- a level from what the one before left
-pub level-is : (T : Tables) (v : LevelEntry) (w : Written) (work plan : List ℕ) (b m : State) (r : StateLevels.Written) → b ≡ state (w .lists .over) (endsOf (w .lists .ends)) newLevel (record { writing = false; joining = false; partsAt = 0; restAt = 0 }) work plan → m ≡ StateLevels.walked T v b
+pub level-is : (T : Tables) (v : LevelEntry) (w : Written) (work plan : List ℕ) (b m : State) (r : StateLevels.Written) → b ≡ state (w .lists .over) (endsOf (w .lists .ends)) newLevel (record { writing = false; joining = false; partsAt = 0; nodesAt = 0; restAt = 0 }) work plan → m ≡ StateLevels.walked T v b
     → r ≡ betweenLevels (StateLevels.measured T v (endsOf (w .lists .ends)) (w .at) m) → r ≡ betweenLevels (StateLevels.level T v (writtenOf w work plan))
 unfolding StateLevels.level StateLevels.begin writtenOf measuring
 level-is T v w work plan b m r eb em er =

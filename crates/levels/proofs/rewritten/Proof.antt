@@ -5,6 +5,7 @@ use Rattle.file.specs.Tables.{tablesOf}
 use Rattle.views.specs.Views.{levelEntryAt}
 use Rattle.seek.specs.Seek.{levelOf}
 use Rattle.lists.specs.Lists.{endsOf}
+use Rattle.level_frame.proofs.Middles.{nodes-near}
 use Rattle.level_frame.proofs.Places.{parts-near, rest-near}
 use Rattle.levels.proofs.Walks.{framed-is, rewritten-is, lists-left}
 use borrow.Author.Needs.{needs}
@@ -34,7 +35,7 @@ writing-requires : tie.Need-writing-requires
 writing-requires c κs =
     let s = c .before .before .before .before .before .before .before .before .before .before .before in
     let L = levelOf (tablesOf (now (s .args .file))) (s .args .m .level) in
-    (omega (arith, parts-near (s .args .at) L (s .args .f) (s .pre .1 .1 .0) (s .pre .1 .1 .1)), omega (arith, rest-near (s .args .at) L (s .args .f) (s .pre .1 .1 .0) (s .pre .1 .1 .1)))
+    (omega (arith, parts-near (s .args .at) L (s .args .f) (s .pre .1 .1 .0) (s .pre .1 .1 .1)), omega (arith, nodes-near (tablesOf (now (s .args .file))) (s .args .m .level) (s .args .at) (s .args .f) (s .pre .1 .1 .0) (s .pre .1 .1 .1)), omega (arith, rest-near (s .args .at) L (s .args .f) (s .pre .1 .1 .0) (s .pre .1 .1 .1)))
 
 begun-requires : tie.Need-begun-requires
 begun-requires c κs = search needs

@@ -15,8 +15,11 @@ cast-t5 c = search needs
 cast-t6 : tie.Need-cast-t6
 cast-t6 c = search needs
 
+cast-t7 : tie.Need-cast-t7
+cast-t7 c = search needs
+
 returns : tie.Need-returns
-returns c T = target-is T _ _ _ _ (c .before .before .seek-number .ensures T)
+returns c T = target-is T _ _ _ _ _ (c .before .before .before .seek-number .ensures T)
 
 pub writing-spec : {M : Type 1} → statement M
-writing-spec = tie.close (tie.spec seek-number-requires cast-t5 cast-t6 returns)
+writing-spec = tie.close (tie.spec seek-number-requires cast-t5 cast-t6 cast-t7 returns)
