@@ -1,88 +1,83 @@
 -- A walk of the written rules only grows: its lists and its level never come to fewer bytes, its tags are closed as they were opened, and its level stays sane.
 use mathlib.Core.Bool.{Bool, true, false}
 use mathlib.Core.List.{List, [], _∷_, _++_}
-use mathlib.Core.Option.{none, some}
+use mathlib.Core.Option.{none}
 use mathlib.Core.Path.{_≡_, refl, sym, ap, _∙_, subst, subst₂}
 use Prim.Native.Nat.{ℕ, suc, _+_, _≤_}
 use native.Mathlib.Nat.{suc-add, zero-add, add-zero}
 use native.Mathlib.Omega.{arith}
 use lib.ListN.{length, drop, length-append}
-use Rattle.rules.specs.Base.{Each, both, concatMap}
+use Rattle.rules.specs.Base.{both, concatMap}
 use Rattle.rules.specs.File.{Tables, FieldPath, Slot, Anchor}
-use Rattle.rules.specs.Constant.{Const, unionTag, term, constant}
+use Rattle.rules.specs.Constant.{Const, unionTag, term}
 use Rattle.rules.specs.Events.{Code, Narrowing, Event, Lists, Walk, bind, constrained, select, report, emit}
 use Rattle.rules.specs.Walk.{narrowing}
-use Rattle.rules.specs.Placement.{SeekKeyPart, Guide, Range, Edges, SeekBuilder, new, withPart, withResidual, withGuide, withRange, withEdges, withCloser, withOpened, fall, placePart, placePrefix, attachable, placeFuzzy, placeNarrowing, closePart, placeCloser, placeBound, place, placeAll}
+use Rattle.rules.specs.Placement.{SeekKeyPart, Part, Residual, Guide, Range, Edges, SeekBuilder, new, withPart, withResidual, withGuide, withRange, withEdges, withCloser, withOpened, fall, placePart, placePrefix, attachable, placeFuzzy, placeNarrowing, closePart, placeCloser, placeBound, place, placeAll}
 use Rattle.rules.specs.Levels.{narrowings}
 use Rattle.rules.specs.Plan as Plan
 use Rattle.rules.specs.Demand3.{number}
 use Rattle.rules.proofs.Cases.{by-test, by-option, true≢false, some≢none}
-use Rattle.rules.proofs.Each.{each-snoc}
 use Rattle.rules.proofs.Keeps.{Keeps, narrow, skip}
 use Rattle.rules.proofs.Kept.{placeAll-append}
 use Rattle.state.proofs.Seqs.{length-snoc, length-drop-append}
-use Rattle.state.proofs.Solid.{ConstSolid, constant-solid}
-use Rattle.state.proofs.Sizes.{weight, Solid, partSize-snoc, Sane}
+use Rattle.state.proofs.Sizes.{weight, partSize-snoc, Sane}
 
 -- One change each.
-weight-part : (p : SeekKeyPart) (b : SeekBuilder) → weight b ≤ weight (withPart p b)
+weight-part : (p : Part) (b : SeekBuilder) → weight b ≤ weight (withPart p b)
 unfolding weight withPart
 weight-part p b = omega (arith, partSize-snoc (b .parts) p)
 
-weight-residual : (path : FieldPath) (op : Narrowing) (b : SeekBuilder) → weight b ≤ weight (withResidual path op b)
+weight-residual : (r : Residual) (b : SeekBuilder) → weight b ≤ weight (withResidual r b)
 unfolding weight withResidual
-weight-residual path op b = omega (arith, length-snoc Plan.residual (b .residuals) (record { path = path; op = op }))
+weight-residual r b = omega (arith, length-snoc Plan.residual (b .residuals) r)
 
-sane-part : (n m : ℕ) (p : SeekKeyPart) (b : SeekBuilder) → Solid p → m ≤ n + 1 → Sane n b → Sane m (withPart p b)
+sane-part : (n m : ℕ) (p : Part) (b : SeekBuilder) → m ≤ n + 1 → Sane n b → Sane m (withPart p b)
 unfolding withPart
-sane-part n m p b h l s =
-    record { clean = s .clean; no-range = s .no-range; no-guide = s .no-guide; solid = each-snoc (s .solid) h; counted = omega (arith, s .counted, length-append (b .parts) (p ∷ [])) }
+sane-part n m p b l s = record { clean = s .clean; no-range = s .no-range; no-guide = s .no-guide; counted = omega (arith, s .counted, length-append (b .parts) (p ∷ [])) }
 
-sane-residual : (n : ℕ) (path : FieldPath) (op : Narrowing) (b : SeekBuilder) → b .building ≡ false → Sane n b → Sane (n + 1) (withResidual path op b)
+sane-residual : (n : ℕ) (r : Residual) (b : SeekBuilder) → b .building ≡ false → Sane n b → Sane (n + 1) (withResidual r b)
 unfolding withResidual
-sane-residual n path op b e s =
+sane-residual n r b e s =
     record {
       clean = λ q. absurd (true≢false (sym q ∙ e));
       no-range = s .no-range;
       no-guide = s .no-guide;
-      solid = s .solid;
-      counted = omega (arith, s .counted, length-append (b .residuals) (record { path = path; op = op } ∷ []));
+      counted = omega (arith, s .counted, length-append (b .residuals) (r ∷ []));
     }
 
 sane-opened : (n : ℕ) (opened : List Bool) (b : SeekBuilder) → Sane n b → Sane n (withOpened opened b)
 unfolding withOpened
-sane-opened n opened b s = record { clean = s .clean; no-range = s .no-range; no-guide = s .no-guide; solid = s .solid; counted = s .counted }
+sane-opened n opened b s = record { clean = s .clean; no-range = s .no-range; no-guide = s .no-guide; counted = s .counted }
 
 sane-closer : (n : ℕ) (b : SeekBuilder) → Sane n b → Sane n (withCloser b)
 unfolding withCloser
-sane-closer n b s = record { clean = s .clean; no-range = s .no-range; no-guide = s .no-guide; solid = s .solid; counted = s .counted }
+sane-closer n b s = record { clean = s .clean; no-range = s .no-range; no-guide = s .no-guide; counted = s .counted }
 
 sane-edges : (n : ℕ) (edges : Edges) (b : SeekBuilder) → Sane n b → Sane n (withEdges edges b)
 unfolding withEdges
-sane-edges n edges b s = record { clean = s .clean; no-range = s .no-range; no-guide = s .no-guide; solid = s .solid; counted = s .counted }
+sane-edges n edges b s = record { clean = s .clean; no-range = s .no-range; no-guide = s .no-guide; counted = s .counted }
 
--- a level that has fallen, of one whose parts and residuals it has
-fallen : (n m : ℕ) (b b′ : SeekBuilder) → b′ .building ≡ false → b′ .parts ≡ b .parts → m ≤ length (b′ .parts) + length (b′ .residuals) + number (b′ .range) + number (b′ .guide) → Sane n b → Sane m b′
-fallen n m b b′ e p c s =
+-- a level that has fallen
+fallen : (m : ℕ) (b : SeekBuilder) → b .building ≡ false → m ≤ length (b .parts) + length (b .residuals) + number (b .range) + number (b .guide) → Sane m b
+fallen m b e c =
     record {
       clean = λ q. absurd (true≢false (sym q ∙ e));
       no-range = λ q. absurd (true≢false (sym q ∙ e));
       no-guide = λ q. absurd (true≢false (sym q ∙ e));
-      solid = subst (Each Solid) (sym p) (s .solid);
       counted = c;
     }
 
 sane-fall : (n : ℕ) (b : SeekBuilder) → Sane n b → Sane n (fall b)
 unfolding fall
-sane-fall n b s = fallen n n b (fall b) refl refl (s .counted) s
+sane-fall n b s = fallen n (fall b) refl (s .counted)
 
 sane-range : (n : ℕ) (range : Range) (b : SeekBuilder) → b .building ≡ true → Sane n b → Sane (n + 1) (fall (withRange range b))
 unfolding fall withRange number
-sane-range n range b e s = fallen n (n + 1) b (fall (withRange range b)) refl refl (omega (arith, s .counted, ap number (s .no-range e))) s
+sane-range n range b e s = fallen (n + 1) (fall (withRange range b)) refl (omega (arith, s .counted, ap number (s .no-range e)))
 
 sane-guide : (n : ℕ) (guide : Guide) (b : SeekBuilder) → b .guide ≡ none → Sane n b → Sane (n + 1) (fall (withGuide guide b))
 unfolding fall withGuide number
-sane-guide n guide b e s = fallen n (n + 1) b (fall (withGuide guide b)) refl refl (omega (arith, s .counted, ap number e)) s
+sane-guide n guide b e s = fallen (n + 1) (fall (withGuide guide b)) refl (omega (arith, s .counted, ap number e))
 
 -- One event: n narrowings and what they made, before and after.
 pub record Step (n : ℕ) (b : SeekBuilder) (m : ℕ) (b′ : SeekBuilder) : Type 0 where
@@ -90,23 +85,24 @@ pub record Step (n : ℕ) (b : SeekBuilder) (m : ℕ) (b′ : SeekBuilder) : Typ
   pub opened : b′ .opened ≡ b .opened
   pub weight : weight b ≤ weight b′
 
-step-residual : (n : ℕ) (path : FieldPath) (op : Narrowing) (b : SeekBuilder) → (Sane n b → b .building ≡ false) → Step n b (n + 1) (withResidual path op b)
+step-residual : (n : ℕ) (r : Residual) (b : SeekBuilder) → (Sane n b → b .building ≡ false) → Step n b (n + 1) (withResidual r b)
 unfolding withResidual
-step-residual n path op b e = record { sane = λ s. sane-residual n path op b (e s) s; opened = refl; weight = weight-residual path op b }
+step-residual n r b e = record { sane = λ s. sane-residual n r b (e s) s; opened = refl; weight = weight-residual r b }
 
-step-part : (n : ℕ) (part : SeekKeyPart) (path : FieldPath) (op : Narrowing) (b : SeekBuilder) → Solid part → Step n b (n + 1) (placePart part path op b)
+step-part : (n node : ℕ) (key : SeekKeyPart) (path : FieldPath) (op : Narrowing) (b : SeekBuilder) → Step n b (n + 1) (placePart node key path op b)
 unfolding placePart withPart
-step-part n part path op b h =
+step-part n node key path op b =
+    let p : Part = record { key = key; node = node } in
     by-test (Step n b (n + 1)) (b .building)
-    (λ e. record { sane = sane-part n (n + 1) part b h (omega arith); opened = refl; weight = weight-part part b })
-    (λ e. step-residual n path op b (λ s. e))
+    (λ e. record { sane = sane-part n (n + 1) p b (omega arith); opened = refl; weight = weight-part p b })
+    (λ e. step-residual n (record { path = path; op = op; node = node }) b (λ s. e))
 
-step-prefix : (n : ℕ) (path : FieldPath) (prefix : List ℕ) (b : SeekBuilder) → Step n b (n + 1) (placePrefix path prefix b)
+step-prefix : (n node : ℕ) (path : FieldPath) (prefix : List ℕ) (b : SeekBuilder) → Step n b (n + 1) (placePrefix node path prefix b)
 unfolding placePrefix fall withRange weight
-step-prefix n path prefix b =
+step-prefix n node path prefix b =
     by-test (Step n b (n + 1)) (b .building)
-    (λ e. record { sane = sane-range n (record { path = path; prefix = prefix }) b e; opened = refl; weight = omega arith })
-    (λ e. step-residual n path (Narrowing.Prefix prefix) b (λ s. e))
+    (λ e. record { sane = sane-range n (record { path = path; prefix = prefix; node = node }) b e; opened = refl; weight = omega arith })
+    (λ e. step-residual n (record { path = path; op = Narrowing.Prefix prefix; node = node }) b (λ s. e))
 
 -- a guide is attached only where none is, and always while building holds
 attaches : (b : SeekBuilder) (path : FieldPath) → attachable b path ≡ true → b .guide ≡ none
@@ -124,18 +120,18 @@ refuses-guide n b path f s =
     (λ e. by-test (λ r. r ≡ false → b .building ≡ false) (b .building) (λ q r. absurd (true≢false r)) (λ q r. q))
     (λ g e q. not-true (b .building) (λ t. some≢none g (sym e ∙ s .no-guide t))) f
 
-step-fuzzy : (n : ℕ) (path : FieldPath) (x d : ℕ) (a : Anchor) (b : SeekBuilder) → Step n b (n + 1) (placeFuzzy path x d a b)
+step-fuzzy : (n node : ℕ) (path : FieldPath) (x d : ℕ) (a : Anchor) (b : SeekBuilder) → Step n b (n + 1) (placeFuzzy node path x d a b)
 unfolding placeFuzzy fall withGuide weight
-step-fuzzy n path x d a b =
+step-fuzzy n node path x d a b =
     by-test (Step n b (n + 1)) (attachable b path)
-    (λ e. record { sane = sane-guide n (record { path = path; term = x; distance = d; anchor = a }) b (attaches b path e); opened = refl; weight = omega arith })
-    (λ e. step-residual n path (Narrowing.Fuzzy x d a) b (refuses-guide n b path e))
+    (λ e. record { sane = sane-guide n (record { path = path; term = x; distance = d; anchor = a; node = node }) b (attaches b path e); opened = refl; weight = omega arith })
+    (λ e. step-residual n (record { path = path; op = Narrowing.Fuzzy x d a; node = node }) b (refuses-guide n b path e))
 
-step-constant : (n : ℕ) (path : FieldPath) (c : Const) (b : SeekBuilder) → ConstSolid c → Step n b (n + 1) (placeNarrowing path (narrowing c) b)
+step-constant : (n node : ℕ) (path : FieldPath) (c : Const) (b : SeekBuilder) → Step n b (n + 1) (placeNarrowing node path (narrowing c) b)
 unfolding placeNarrowing narrowing
-step-constant n path (Const.Bytes bytes) b h = step-part n _ path _ b h
-step-constant n path (Const.Prefix bytes) b h = step-prefix n path bytes b
-step-constant n path (Const.Fuzzy x d a) b h = step-fuzzy n path x d a b
+step-constant n node path (Const.Bytes bytes) b = step-part n node _ path _ b
+step-constant n node path (Const.Prefix bytes) b = step-prefix n node path bytes b
+step-constant n node path (Const.Fuzzy x d a) b = step-fuzzy n node path x d a b
 
 step-fall : (n : ℕ) (b : SeekBuilder) → Step n b n (fall b)
 unfolding fall weight
@@ -154,11 +150,11 @@ record Opens (n : ℕ) (b : SeekBuilder) (m : ℕ) (b′ : SeekBuilder) : Type 0
   opened : b′ .opened ≡ b .building ∷ b .opened
   weight : weight b ≤ weight b′
 
-opens-tag : (n : ℕ) (path : FieldPath) (d : ℕ) (b : SeekBuilder) → Opens n b (n + 1) (placeNarrowing path (Narrowing.Tag d) b)
-unfolding placeNarrowing withOpened weight unionTag
-opens-tag n path d b =
+opens-tag : (n node : ℕ) (path : FieldPath) (d : ℕ) (b : SeekBuilder) → Opens n b (n + 1) (placeNarrowing node path (Narrowing.Tag d) b)
+unfolding placeNarrowing withOpened weight
+opens-tag n node path d b =
     let o = withOpened (b .building ∷ b .opened) b in
-    let r = step-part n (SeekKeyPart.Bytes (unionTag d)) path (Narrowing.Tag d) o (omega arith) in
+    let r = step-part n node (SeekKeyPart.Bytes (unionTag d)) path (Narrowing.Tag d) o in
     record { sane = λ s. r .sane (sane-opened n (b .building ∷ b .opened) b s); opened = r .opened; weight = r .weight }
 
 record Closes (n : ℕ) (b : SeekBuilder) (outer : List Bool) (b′ : SeekBuilder) : Type 0 where
@@ -166,18 +162,19 @@ record Closes (n : ℕ) (b : SeekBuilder) (outer : List Bool) (b′ : SeekBuilde
   opened : b′ .opened ≡ outer
   weight : weight b ≤ weight b′
 
-pub closer-as : (b : SeekBuilder) (held : Bool) (outer : List Bool) → b .opened ≡ held ∷ outer → placeCloser (b .opened) b ≡ closePart held (withOpened outer b)
+pub closer-as : (node : ℕ) (b : SeekBuilder) (held : Bool) (outer : List Bool) → b .opened ≡ held ∷ outer → placeCloser node (b .opened) b ≡ closePart node held (withOpened outer b)
 unfolding placeCloser
-closer-as b held outer e = ap (λ (o : List Bool). placeCloser o b) e
+closer-as node b held outer e = ap (λ (o : List Bool). placeCloser node o b) e
 
-closes-part : (n : ℕ) (b : SeekBuilder) (held : Bool) (outer : List Bool) → Closes n b outer (closePart held (withOpened outer b))
+closes-part : (n node : ℕ) (b : SeekBuilder) (held : Bool) (outer : List Bool) → Closes n b outer (closePart node held (withOpened outer b))
 unfolding closePart withOpened withCloser withPart weight
-closes-part n b held outer =
+closes-part n node b held outer =
+    let p : Part = record { key = SeekKeyPart.Bytes term; node = node } in
     by-test (Closes n b outer) (both held (b .building))
     (λ e. record {
-      sane = λ s. sane-closer n _ (sane-part n n (SeekKeyPart.Bytes term) (withOpened outer b) (omega arith) (omega arith) (sane-opened n outer b s));
+      sane = λ s. sane-closer n _ (sane-part n n p (withOpened outer b) (omega arith) (sane-opened n outer b s));
       opened = refl;
-      weight = weight-part (SeekKeyPart.Bytes term) b;
+      weight = weight-part p b;
     })
     (λ e. record { sane = sane-opened n outer b; opened = refl; weight = omega arith })
 
@@ -191,9 +188,9 @@ met w = narrowings (w .events)
 narrowings-append : (es fs : List Event) → narrowings (es ++ fs) ≡ narrowings es + narrowings fs
 unfolding narrowings
 narrowings-append [] fs = sym (zero-add (narrowings fs))
-narrowings-append (Event.narrow path x ∷ es) fs = ap suc (narrowings-append es fs) ∙ sym (suc-add (narrowings es) (narrowings fs))
+narrowings-append (Event.narrow n path x ∷ es) fs = ap suc (narrowings-append es fs) ∙ sym (suc-add (narrowings es) (narrowings fs))
 narrowings-append (Event.skip ∷ es) fs = narrowings-append es fs
-narrowings-append (Event.closer ∷ es) fs = narrowings-append es fs
+narrowings-append (Event.closer n ∷ es) fs = narrowings-append es fs
 narrowings-append (Event.bound x t ∷ es) fs = narrowings-append es fs
 
 pub built-emit : (T : Tables) (e : Event) (w : Walk) → built T (emit e w) ≡ place T e (built T w)
@@ -276,50 +273,54 @@ pub grew-bound : (T : Tables) (x t : ℕ) (w : Walk) → Grew T w (emit (Event.b
 unfolding place narrowings
 grew-bound T x t w = grew-emit T (Event.bound x t) w (rw add-zero (step-bound T x t (met w) (built T w)))
 
-grew-narrow : (T : Tables) (path : FieldPath) (x : Narrowing) (w : Walk) → Step (met w) (built T w) (met w + 1) (placeNarrowing path x (built T w)) → Grew T w (narrow path x w)
+grew-narrow : (T : Tables) (m : ℕ) (path : FieldPath) (x : Narrowing) (w : Walk) → Step (met w) (built T w) (met w + 1) (placeNarrowing m path x (built T w)) → Grew T w (narrow m path x w)
 unfolding place narrowings
-grew-narrow T path x w s = grew-emit T (Event.narrow path x) w s
+grew-narrow T m path x w s = grew-emit T (Event.narrow m path x) w s
 
-pub grew-constant : (T : Tables) (n t : ℕ) (c : Const) (path : FieldPath) (w : Walk) → constant T n t ≡ some c → Grew T w (narrow path (narrowing c) w)
-grew-constant T n t c path w e = grew-narrow T path (narrowing c) w (step-constant (met w) path c (built T w) (constant-solid T n t c e))
+pub grew-constant : (T : Tables) (m : ℕ) (c : Const) (path : FieldPath) (w : Walk) → Grew T w (narrow m path (narrowing c) w)
+grew-constant T m c path w = grew-narrow T m path (narrowing c) w (step-constant (met w) m path c (built T w))
 
-pub grew-register : (T : Tables) (a : ℕ) (at path : FieldPath) (w : Walk) → Grew T w (narrow path (Narrowing.RegisterField a at) w)
+pub grew-register : (T : Tables) (m a : ℕ) (at path : FieldPath) (w : Walk) → Grew T w (narrow m path (Narrowing.RegisterField a at) w)
 unfolding placeNarrowing
-grew-register T a at path w = grew-narrow T path (Narrowing.RegisterField a at) w (step-part (met w) _ path _ (built T w) tt)
+grew-register T m a at path w = grew-narrow T m path (Narrowing.RegisterField a at) w (step-part (met w) m _ path _ (built T w))
 
-pub grew-fact : (T : Tables) (a : ℕ) (path : FieldPath) (w : Walk) → Grew T w (narrow path (Narrowing.FactId a) w)
+pub grew-fact : (T : Tables) (m a : ℕ) (path : FieldPath) (w : Walk) → Grew T w (narrow m path (Narrowing.FactId a) w)
 unfolding placeNarrowing
-grew-fact T a path w = grew-narrow T path (Narrowing.FactId a) w (step-part (met w) _ path _ (built T w) tt)
+grew-fact T m a path w = grew-narrow T m path (Narrowing.FactId a) w (step-part (met w) m _ path _ (built T w))
 
-pub larger-tag : (T : Tables) (d : ℕ) (p : FieldPath) (w : Walk) → Larger T w (narrow p (Narrowing.Tag d) w)
+pub larger-tag : (T : Tables) (m d : ℕ) (p : FieldPath) (w : Walk) → Larger T w (narrow m p (Narrowing.Tag d) w)
 unfolding place narrowings
-larger-tag T d p w = let o = opens-tag (met w) p d (built T w) in larger-emit T (Event.narrow p (Narrowing.Tag d)) w _ (built-emit T (Event.narrow p (Narrowing.Tag d)) w) (o .sane) (o .weight)
+larger-tag T m d p w =
+    let o = opens-tag (met w) m p d (built T w) in
+    larger-emit T (Event.narrow m p (Narrowing.Tag d)) w _ (built-emit T (Event.narrow m p (Narrowing.Tag d)) w) (o .sane) (o .weight)
 
 -- a tag's opened, of the walk after it
-tag-opened : (T : Tables) (d : ℕ) (p : FieldPath) (w : Walk) → built T (narrow p (Narrowing.Tag d) w) .opened ≡ built T w .building ∷ built T w .opened
+tag-opened : (T : Tables) (m d : ℕ) (p : FieldPath) (w : Walk) → built T (narrow m p (Narrowing.Tag d) w) .opened ≡ built T w .building ∷ built T w .opened
 unfolding place
-tag-opened T d p w = ap (λ (b : SeekBuilder). b .opened) (built-emit T (Event.narrow p (Narrowing.Tag d)) w) ∙ opens-tag (met w) p d (built T w) .opened
+tag-opened T m d p w = ap (λ (b : SeekBuilder). b .opened) (built-emit T (Event.narrow m p (Narrowing.Tag d)) w) ∙ opens-tag (met w) m p d (built T w) .opened
 
 -- what a closer makes of a walk that follows its tag
-pub built-closer : (T : Tables) (d : ℕ) (p : FieldPath) (w w′ : Walk) → Grew T (narrow p (Narrowing.Tag d) w) w′ → built T (emit Event.closer w′) ≡ closePart (built T w .building) (withOpened (built T w .opened) (built T w′))
-unfolding place
-built-closer T d p w w′ g = built-emit T Event.closer w′ ∙ closer-as (built T w′) (built T w .building) (built T w .opened) (g .opened ∙ tag-opened T d p w)
+module _ (T : Tables) (m d : ℕ) (p : FieldPath) (w w′ : Walk) (g : Grew T (narrow m p (Narrowing.Tag d) w) w′) where
+  pub built-closer : built T (emit (Event.closer m) w′) ≡ closePart m (built T w .building) (withOpened (built T w .opened) (built T w′))
+  unfolding place
+  built-closer = built-emit T (Event.closer m) w′ ∙ closer-as m (built T w′) (built T w .building) (built T w .opened) (g .opened ∙ tag-opened T m d p w)
 
-pub larger-closer : (T : Tables) (d : ℕ) (p : FieldPath) (w w′ : Walk) → Grew T (narrow p (Narrowing.Tag d) w) w′ → Larger T w′ (emit Event.closer w′)
-unfolding narrowings
-larger-closer T d p w w′ g =
-    let k = closes-part (met w′) (built T w′) (built T w .building) (built T w .opened) in
-    larger-emit T Event.closer w′ _ (built-closer T d p w w′ g) (λ s. rw add-zero (k .sane s)) (k .weight)
+  closes : Closes (met w′) (built T w′) (built T w .opened) (closePart m (built T w .building) (withOpened (built T w .opened) (built T w′)))
+  closes = closes-part (met w′) m (built T w′) (built T w .building) (built T w .opened)
 
-grew-union : (T : Tables) (d : ℕ) (p : FieldPath) (w w′ : Walk) → Grew T (narrow p (Narrowing.Tag d) w) w′ → Grew T w (emit Event.closer w′)
-grew-union T d p w w′ g =
-    let o = larger-tag T d p w in
-    let k = larger-closer T d p w w′ g in
-    record {
-      sane = λ s. k .sane (g .sane (o .sane s));
-      opened = ap (λ (b : SeekBuilder). b .opened) (built-closer T d p w w′ g) ∙ closes-part (met w′) (built T w′) (built T w .building) (built T w .opened) .opened;
-      size = omega (arith, o .size, g .size, k .size);
-    }
+  pub larger-closer : Larger T w′ (emit (Event.closer m) w′)
+  unfolding narrowings
+  larger-closer = larger-emit T (Event.closer m) w′ _ built-closer (λ s. rw add-zero (closes .sane s)) (closes .weight)
+
+  grew-union : Grew T w (emit (Event.closer m) w′)
+  grew-union =
+      let o = larger-tag T m d p w in
+      let k = larger-closer in
+      record {
+        sane = λ s. k .sane (g .sane (o .sane s));
+        opened = ap (λ (b : SeekBuilder). b .opened) built-closer ∙ closes .opened;
+        size = omega (arith, o .size, g .size, k .size);
+      }
 
 pub grew-keeps : (T : Tables) → Keeps T (Grew T)
 grew-keeps T =
@@ -332,8 +333,8 @@ grew-keeps T =
       reports = grew-report T;
       skips = grew-skip T;
       bounds = λ x t w. grew-next T w _ _ (grew-bound T x t w) (grew-skip T (emit (Event.bound x t) w));
-      constants = λ n t c p w e s. grew-constant T n t c p w e;
-      registers = λ a at p w s s′. grew-register T a at p w;
-      facts = λ a p w s. grew-fact T a p w;
-      unions = λ d p w w′ s g. grew-union T d p w w′ g;
+      constants = λ m n t c p w e s. grew-constant T m c p w;
+      registers = λ m a at p w s s′. grew-register T m a at p w;
+      facts = λ m a p w s. grew-fact T m a p w;
+      unions = λ m d p w w′ s g. grew-union T m d p w w′ g;
     }

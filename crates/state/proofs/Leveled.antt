@@ -9,7 +9,7 @@ use borrow.Author.Tests.{leb-false, eqb-true}
 use lib.Dec.{leb, eqb}
 use lib.ListN.{length, length-append}
 use lib.Seq.{sets, length-sets}
-use Rattle.rules.specs.Base.{Each, done, all, concatMap}
+use Rattle.rules.specs.Base.{Each, all, concatMap}
 use Rattle.rules.specs.Limits.{planLimit}
 use Rattle.rules.specs.File.{Tables, LevelEntry, predicateAt}
 use Rattle.rules.specs.Events.{Lists, Walk}
@@ -27,14 +27,14 @@ use Rattle.rules.proofs.Sound.{BindingOk, Sound}
 use Rattle.rules.proofs.ReaderTables.{PathWithin}
 use Rattle.state.specs.State.{Ends, Target, State, newLevel, measuring, stop}
 use Rattle.state.specs.Ops.{ops}
-use Rattle.state.specs.Levels.{levelEnd, frame, bare, framed, Written, writtenTo, begin, walked, rewritten, measured, level}
+use Rattle.state.specs.Levels.{levelEnd, frame, bare, framed, Written, writtenTo, begin, walked, writingAt, rewritten, measured, level}
 use Rattle.state.proofs.Seqs.{sets-append}
 use Rattle.state.proofs.Mem.{Mem, mem-back}
 use Rattle.state.proofs.Sizes.{summary, weight, Sane}
 use Rattle.state.proofs.Growth.{built, met, listSize, Grew, grew-keeps}
-use Rattle.state.proofs.Rel.{formAs, planAs, Good, Rel, of-good}
+use Rattle.state.proofs.Rel.{partsPut, planAs, Good, Rel, of-good}
 use Rattle.state.proofs.Sim.{Name, numbers, simulates}
-use Rattle.state.proofs.Frame.{leveled, writeAt, level-written, level-end, level-weight}
+use Rattle.state.proofs.Frame.{leveled, level-written, level-end, level-weight}
 
 -- an entry that an accepted file may have
 pub record EntryOk (T : Tables) (l : LevelEntry) : Type 0 where
@@ -44,14 +44,14 @@ pub record EntryOk (T : Tables) (l : LevelEntry) : Type 0 where
 -- a level begins
 sane-new : Sane 0 new
 unfolding new number
-sane-new = record { clean = λ e. refl; no-range = λ e. refl; no-guide = λ e. refl; solid = done; counted = omega arith }
+sane-new = record { clean = λ e. refl; no-range = λ e. refl; no-guide = λ e. refl; counted = omega arith }
 
 level-new : newLevel ≡ summary 0 new
 unfolding newLevel summary new all concatMap
 level-new = refl
 
 plan-new : (t : Target) (base : List ℕ) → base ≡ planAs t base new
-unfolding planAs new concatMap
+unfolding planAs partsPut new concatMap
 plan-new t base = by-test (λ (p : List ℕ). base ≡ p) (t .writing) (λ e. refl) (λ e. refl)
 
 abbrev fresh : Lists → Walk
@@ -72,12 +72,12 @@ none-of (x ∷ xs) e = absurd (omega (arith, eqb-true (length (x ∷ xs)) 0 e))
 
 -- what has no parts and no residuals writes nothing
 bare-plan : (t : Target) (base : List ℕ) (n : ℕ) (b : SeekBuilder) → bare (summary n b) ≡ true → base ≡ planAs t base b
-unfolding bare summary planAs concatMap
+unfolding bare summary planAs partsPut concatMap
 bare-plan t base n b e =
     let parts = none-of (b .parts) (both-left (eqb (length (b .parts)) 0) (eqb (length (b .residuals)) 0) e) in
     let rest = none-of (b .residuals) (both-right (eqb (length (b .parts)) 0) (eqb (length (b .residuals)) 0) e) in
     by-test (λ (p : List ℕ). base ≡ p) (t .writing)
-    (λ _. sym (λ i. sets (sets base (t .partsAt) (concatMap (formAs (t .joining)) (parts i))) (t .restAt) (concatMap Plan.residual (rest i))))
+    (λ _. sym (λ i. sets (partsPut t [] (parts i) base) (t .restAt) (concatMap Plan.residual (rest i))))
     (λ _. refl)
 
 -- Between levels: the lists in the work area, and the plan written up to `front`.
@@ -125,9 +125,9 @@ module _ (T : Tables) (S : Sound T) (bounded : Bounded T) where
       ends-at : levelEnd at (m .level) ≡ length (front ++ bytes)
       ends-at = omega (arith, eat, ap (levelEnd at) (g .level), level-end at (met W) (built T W), length-append front bytes)
 
-      whole-plan : planAs (writeAt at (m .level)) (frame at (m .level) (m .plan)) (built T W) ≡ sets base 0 (front ++ bytes)
+      whole-plan : planAs (writingAt at (m .level)) (frame at (m .level) (m .plan)) (built T W) ≡ sets base 0 (front ++ bytes)
       whole-plan =
-          (λ i. planAs (writeAt at (g .level i)) (frame at (g .level i) ((g .plan ∙ unmeasured (sets base 0 front) (built T W)) i)) (built T W))
+          (λ i. planAs (writingAt at (g .level i)) (frame at (g .level i) ((g .plan ∙ unmeasured (sets base 0 front) (built T W)) i)) (built T W))
           ∙ level-written (sets base 0 front) at (met W) (built T W)
           ∙ ap (λ (k : ℕ). sets (sets base 0 front) k bytes) (eat ∙ sym (zero-add (length front)))
           ∙ sym (sets-append base 0 front bytes)
@@ -137,15 +137,15 @@ module _ (T : Tables) (S : Sound T) (bounded : Bounded T) where
       unfolding framed
       ends-framed q =
           record {
-            live = λ _. record { mem = g .mem; at = ends-at; plan = bare-plan (writeAt at (m .level)) (frame at (m .level) (m .plan)) (met W) (built T W) (ap bare (sym (g .level)) ∙ q) ∙ whole-plan };
+            live = λ _. record { mem = g .mem; at = ends-at; plan = bare-plan (writingAt at (m .level)) (frame at (m .level) (m .plan)) (met W) (built T W) (ap bare (sym (g .level)) ∙ q) ∙ whole-plan };
             dead = λ p. absurd (true≢false (sym p ∙ o));
           }
 
-      again : Rel T (writeAt at (m .level)) (frame at (m .level) (m .plan)) W (walked T entry (begin e (writeAt at (m .level)) (framed at m)))
+      again : Rel T (writingAt at (m .level)) (frame at (m .level) (m .plan)) W (walked T entry (begin e (writingAt at (m .level)) (framed at m)))
       unfolding framed
       again =
-          walk-related entry ok (writeAt at (m .level)) (frame at (m .level) (m .plan)) l fit (begin e (writeAt at (m .level)) (framed at m))
-          (rel-begin T (writeAt at (m .level)) l e (framed at m) o (mem-back T l (W .lists) e (m .ends) work (m .work) mem (g .mem) adds))
+          walk-related entry ok (writingAt at (m .level)) (frame at (m .level) (m .plan)) l fit (begin e (writingAt at (m .level)) (framed at m))
+          (rel-begin T (writingAt at (m .level)) l e (framed at m) o (mem-back T l (W .lists) e (m .ends) work (m .work) mem (g .mem) adds))
 
       ends-rewritten : Ends′ (writtenTo (levelEnd at (m .level)) (rewritten T entry e at m))
       unfolding rewritten

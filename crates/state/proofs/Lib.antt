@@ -5,7 +5,6 @@ pub mod Seqs
 pub mod Made
 pub mod Mem
 -- A level, as the memory keeps it, and when it fits.
-pub mod Solid
 pub mod Sizes
 pub mod Growth
 -- The memory and the written rules' walk, side by side.

@@ -5,7 +5,7 @@ use Prim.Native.Nat.{ℕ, zero, suc, _+_, _*_, _≤_, _<_}
 use native.Mathlib.Nat.{add-zero, zero-add, add-suc, suc-add, mul-zero, mul-suc}
 use native.Mathlib.Omega.{arith}
 use lib.ListN.{length, take, drop, set, length-append}
-use lib.Seq.{sets, slice, sets-eq, take-set-le, take-set-lt, drop-set-lt, length-take-le, take-at, drop-append-le, take-nil, take-take}
+use lib.Seq.{sets, slice, set-comm, sets-eq, take-set-le, take-set-lt, drop-set-lt, length-take-le, take-at, drop-append-le, take-nil, take-take}
 use Rattle.rules.specs.Base.{Each, done, more, concatMap}
 
 module _ {A : Type 0} where
@@ -13,6 +13,23 @@ module _ {A : Type 0} where
   sets-append l i [] ys = ap (λ (k : ℕ). sets l k ys) (sym (add-zero i))
   sets-append l i (x ∷ xs) ys =
       sets-append (set l i x) (suc i) xs ys ∙ ap (λ (k : ℕ). sets (sets (set l i x) (suc i) xs) k ys) (suc-add i (length xs) ∙ sym (add-suc i (length xs)))
+
+  -- a run right after another
+  pub sets-then : (l : List A) (at : ℕ) (a b : List A) (k : ℕ) → k ≡ at + length a → sets (sets l at a) k b ≡ sets l at (a ++ b)
+  sets-then l at a b k e = ap (λ (j : ℕ). sets (sets l at a) j b) e ∙ sym (sets-append l at a b)
+
+  -- Writes at places that do not meet may change places.
+  set-sets : (l : List A) (i : ℕ) (x : A) (j : ℕ) (ys : List A) → i < j → sets (set l i x) j ys ≡ set (sets l j ys) i x
+  set-sets l i x j [] h = refl
+  set-sets l i x j (y ∷ ys) h = ap (λ (k : List A). sets k (suc j) ys) (set-comm l i j x y (omega arith)) ∙ set-sets (set l j y) i x (suc j) ys (omega arith)
+
+  pub sets-comm : (l : List A) (i : ℕ) (xs : List A) (j : ℕ) (ys : List A) → i + length xs ≤ j → sets (sets l i xs) j ys ≡ sets (sets l j ys) i xs
+  sets-comm l i [] j ys h = refl
+  sets-comm l i (x ∷ xs) j ys h = sets-comm (set l i x) (suc i) xs j ys (omega arith) ∙ ap (λ (k : List A). sets k (suc i) xs) (set-sets l i x j ys (omega arith))
+
+  -- the second of two neighbours written first
+  pub sets-before : (l : List A) (at : ℕ) (a b : List A) → sets (sets l (at + length a) b) at a ≡ sets l at (a ++ b)
+  sets-before l at a b = sym (sets-comm l at a (at + length a) b (omega arith)) ∙ sym (sets-append l at a b)
 
   -- a part in the middle, and a place that lies past it or before it
   slice-set-past : (f t : ℕ) (l : List A) (i : ℕ) (a : A) → t ≤ i → slice f t (set l i a) ≡ slice f t l

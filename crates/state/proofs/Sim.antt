@@ -157,18 +157,18 @@ module _ (T : Tables) (t : Target) (base : List ℕ) where
       rel-quiet (Event.bound x ty) w c (Ops.relevel (Ops.boundLevel T x ty)) (placeBound T x ty (built T w)) refl (built-emit T (Event.bound x ty) w) (larger (grew-bound T x ty w)) r λ e g s.
       rel-bound T t base (w .lists) (met w) (built T w) c e g x ty s
 
-  rel-narrow : (p : FieldPath) (x : Narrowing) (w : Walk) (c : State) → Larger T w (narrow p x w) → Rel T t base w c → Rel T t base (narrow p x w) (Ops.narrow p x c)
+  rel-narrow : (m : ℕ) (p : FieldPath) (x : Narrowing) (w : Walk) (c : State) → Larger T w (narrow m p x w) → Rel T t base w c → Rel T t base (narrow m p x w) (Ops.narrow m p x c)
   unfolding place narrowings Ops.narrow
-  rel-narrow p x w c g r =
-      rel-emit (Event.narrow p x) w c (Ops.narrowing p x) (placeNarrowing p x (built T w)) (built-emit T (Event.narrow p x) w) g r λ e good s.
-      rel-narrowing T t base (w .lists) (met w) (built T w) c e good (r .sane) p x s
+  rel-narrow m p x w c g r =
+      rel-emit (Event.narrow m p x) w c (Ops.narrowing m p x) (placeNarrowing m p x (built T w)) (built-emit T (Event.narrow m p x) w) g r λ e good s.
+      rel-narrowing T t base (w .lists) (met w) (built T w) c e good (r .sane) m p x s
 
-  rel-closer : (d : ℕ) (p : FieldPath) (w w′ : Walk) (c c′ : State) → Rel T t base w c → Grew T (narrow p (Narrowing.Tag d) w) w′ → (c′ .over ≡ false → c .over ≡ false) → Rel T t base w′ c′ → Rel T t base (emit Event.closer w′) (Ops.closer c c′)
+  rel-closer : (m d : ℕ) (p : FieldPath) (w w′ : Walk) (c c′ : State) → Rel T t base w c → Grew T (narrow m p (Narrowing.Tag d) w) w′ → (c′ .over ≡ false → c .over ≡ false) → Rel T t base w′ c′ → Rel T t base (emit (Event.closer m) w′) (Ops.closer m c c′)
   unfolding narrowings Ops.closer summary withOpened
-  rel-closer d p w w′ c c′ r g on r′ =
-      rel-quiet Event.closer w′ c′ (Ops.close (c .level .building)) (closePart (built T w .building) (withOpened (built T w .opened) (built T w′))) refl (built-closer T d p w w′ g) (larger-closer T d p w w′ g) r′ λ e good s.
+  rel-closer m d p w w′ c c′ r g on r′ =
+      rel-quiet (Event.closer m) w′ c′ (Ops.close m (c .level .building)) (closePart m (built T w .building) (withOpened (built T w .opened) (built T w′))) refl (built-closer T m d p w w′ g) (larger-closer T m d p w w′ g) r′ λ e good s.
       rel-close T t base (w′ .lists) (met w′) (withOpened (built T w .opened) (built T w′)) c′ e (good-opened T t base (w′ .lists) (met w′) (built T w′) c′ (built T w .opened) good)
-      (built T w .building) (c .level .building) (ap (λ (x : Level). x .building) (r .live (on e) .level)) (r′ .sane .clean) s
+      m (built T w .building) (c .level .building) (ap (λ (x : Level). x .building) (r .live (on e) .level)) (r′ .sane .clean) s
 
   -- All of it, for a level whose address is within its field.
   pub simulates : Sound T → Bounded T → (address : ℕ) → address < 65536 → Sim T PathWithin Name (ops T) (λ c. c .over) address (Grew T) (Rel T t base)
@@ -187,11 +187,11 @@ module _ (T : Tables) (t : Target) (base : List ℕ) where
         reports = rel-report;
         skips = rel-skip;
         bounds = λ x ty w c r. rel-skip _ _ (rel-bounds x ty w c r);
-        constants = λ n ty k p w c e s r. rel-narrow p (narrowing k) w c (larger (grew-constant T n ty k p w e)) r;
-        registers = λ n at p w c s s′ r. rel-narrow p (Narrowing.RegisterField n at) w c (larger (grew-register T n at p w)) r;
-        facts = λ n p w c s r. rel-narrow p (Narrowing.FactId n) w c (larger (grew-fact T n p w)) r;
-        tags = λ d p w c s r. rel-narrow p (Narrowing.Tag d) w c (larger-tag T d p w) r;
-        closers = λ d p w w′ c c′ s r g on r′. rel-closer d p w w′ c c′ r g on r′;
+        constants = λ m n ty k p w c e s r. rel-narrow m p (narrowing k) w c (larger (grew-constant T m k p w)) r;
+        registers = λ m n at p w c s s′ r. rel-narrow m p (Narrowing.RegisterField n at) w c (larger (grew-register T m n at p w)) r;
+        facts = λ m n p w c s r. rel-narrow m p (Narrowing.FactId n) w c (larger (grew-fact T m n p w)) r;
+        tags = λ m d p w c s r. rel-narrow m p (Narrowing.Tag d) w c (larger-tag T m d p w) r;
+        closers = λ m d p w w′ c c′ s r g on r′. rel-closer m d p w w′ c c′ r g on r′;
       }
     where
       path-numbers : (p : FieldPath) (ty : ℕ) → Stands T PathWithin p ty → PathNumbers p

@@ -23,8 +23,8 @@ stopped T s h =
       constrained = λ x. unless-over _ s h;
       select = λ a path disc. unless-over _ s h;
       report = λ n code. unless-over _ s h;
-      narrow = λ path x. unless-over _ s h;
+      narrow = λ n path x. unless-over _ s h;
       skip = unless-over _ s h;
-      closer = λ before. unless-over _ s h;
+      closer = λ n before. unless-over _ s h;
       bound = λ x t. unless-over _ s h;
     }

@@ -165,6 +165,6 @@ unfoldable pub writtenOutcome : Written → Outcome
 writtenOutcome w = elim (w .state .over) [ true ↦ Outcome.refused 15 | false ↦ Outcome.planned (take (w .at) (w .state .plan)) ]
 
 unfoldable pub openLevels : Unit {0}
-unfolding seekNumber seekOf joins joining head rangeOrEdges middle tail partsAt nodesAt middleAt restAt tailAt levelEnd begin walked frame bare framed
-    writingAt rewritten measured level levels lists finished started compiled writtenOutcome
+unfolding seekNumber seekOf joins joining head rangeOrEdges middle tail partsAt nodesAt middleAt restAt tailAt levelEnd begin walked frame
+    bare framed writingAt rewritten measured level levels lists finished started compiled writtenOutcome
 openLevels = tt

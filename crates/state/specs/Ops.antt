@@ -14,8 +14,8 @@ use Rattle.rules.specs.Constant.{lookup, constant, unionTag, term}
 use Rattle.rules.specs.Events.{Code, Narrowing, Ops}
 use Rattle.rules.specs.Placement.{SeekKeyPart, Part, Guide, Edges, rangeAt, foldFrom}
 use Rattle.rules.specs.Plan as Plan
-use Rattle.state.specs.State.{Ends, ends, Counts, counts, Level, State, state, constrainedAt, selectsAt, diagnosticsAt, runsEnd, stop}
-use Rattle.state.specs.State.{unless, made, fits}
+use Rattle.state.specs.State.{Ends, ends, Counts, counts, Level, Target, State, state, constrainedAt, selectsAt, diagnosticsAt}
+use Rattle.state.specs.State.{runsEnd, stop, unless, made, fits}
 
 -- A record at a list's end, if its run has room: where the list ends, where its run ends, the record, and the ends with that list's moved.
 unfoldable pub append : ℕ → ℕ → List ℕ → (ℕ → Ends) → State → State
@@ -123,7 +123,8 @@ putResidual n path op s =
     let form = Plan.path path ++ Plan.op op in
     let c = s .level .counts in
     let at = s .target .restAt + c .rest in
-    let after = counts (c .narrowings + 1) (c .closers) (c .parts) (c .residuals + 1) (c .joined) (c .parted) (c .rest + (length form + 2)) in
+    let rest = c .rest + (length form + 2) in
+    let after = counts (c .narrowings + 1) (c .closers) (c .parts) (c .residuals + 1) (c .joined) (c .parted) rest in
     grow (recount after (s .level)) (putMade at form (at + length form) n) s
 
 -- "The first four: a part while building .., else a residual."
@@ -197,7 +198,8 @@ unfoldable pub closed : Counts → Counts
 closed c = counts (c .narrowings) (c .closers + 1) (c .parts) (c .residuals) (c .joined) (c .parted) (c .rest)
 
 unfoldable pub close : ℕ → Bool → State → State
-close n held s = elim (both held (s .level .building)) [ true ↦ putPart n (SeekKeyPart.Bytes term) (closed (s .level .counts)) s | false ↦ s ]
+close n held s =
+    elim (both held (s .level .building)) [ true ↦ putPart n (SeekKeyPart.Bytes term) (closed (s .level .counts)) s | false ↦ s ]
 
 unfoldable pub closer : ℕ → State → State → State
 closer n before s = unless (close n (before .level .building)) s
@@ -252,7 +254,7 @@ ops T =
     }
 
 unfoldable pub openOps : Unit {0}
-unfolding append appendCounted bind constrained select report recount fall narrowed grow putMade partText isBytes withPart partAt partForm nodeAt partPut putPart
-    putResidual narrowPart withRange narrowPrefix attachable withGuide narrowFuzzy narrowing narrow relevel skip closed close closer
-    withEdges boundLevel bound roomy checkedSlot
+unfolding append appendCounted bind constrained select report recount fall narrowed grow putMade partText isBytes withPart partAt partForm
+    nodeAt partPut putPart putResidual narrowPart withRange narrowPrefix attachable withGuide narrowFuzzy narrowing narrow relevel skip
+    closed close closer withEdges boundLevel bound roomy checkedSlot
 openOps = tt

@@ -45,8 +45,8 @@ ends b bs c s ss d = record { bindings = b; bindingCount = bs; constrained = c; 
 unfoldable pub noEnds : Ends
 noEnds = ends bindingsAt 0 constrainedAt selectsAt 0 diagnosticsAt
 
--- Counts of a level's narrowings, closers that became parts, parts and residuals; the bytes of its parts' texts joined, of its parts in plan
--- form, and of its residuals in plan form.
+-- Counts of a level's narrowings, closers that became parts, parts and residuals; the bytes of its parts' texts joined, of its parts in
+-- plan form, and of its residuals in plan form.
 pub record Counts : Type 0 where
   pub narrowings : ℕ
   pub closers : ℕ
