@@ -17,12 +17,14 @@ use Rattle.rules.specs.Read.Read.{got, refused}
 use Rattle.rules.specs.Read as Read
 use Rattle.rules.specs.Reader as Reader
 use Rattle.file.specs.Steps.{word, readAt, stepAt, skim}
+use Rattle.file.specs.declared.Step.{Step}
 use Rattle.file.specs.declared.Step.the-variants.{Next, Refused}
 use Rattle.file.proofs.Readers.{lt-or-le, then-got, then-refused, byte-in, step-refused, step-same, Fixed, fixed-as, fixed-pure, fixed-many, fixed-u8, fixed-u16, fixed-u32, fixed-bytes, fixed-in, fixed-then, needs-fixed, needs-first, needs-bind, needs-kind, cut-short, SameSteps, alike-refl, alike-step, alike-value, alike-pure, alike-map, alike-fixed}
 use Rattle.file.proofs.Suffix.{Suffix, ended, faulted}
 use Rattle.file.proofs.Leaves.{slotReaders, kinded, kind-cut, kind-bad, kind-fixed}
 use Rattle.file.proofs.Sections.{word-then}
-use Rattle.plan_form.proofs.Forward.{suffix-path, suffix-registerPart}
+use Rattle.plan_form.specs.Pieces.{EndsIn, thenAt}
+use Rattle.plan_form.proofs.Forward.{suffix-path, suffix-registerPart, suffix-key, suffix-op, suffix-fuzzyNode}
 
 -- one reading after another
 module _ {A B C : Type 0} (f : List ℕ) (p : ℕ) (r : Reader A) (k : A → Reader B) where
@@ -34,8 +36,30 @@ module _ {A B C : Type 0} (f : List ℕ) (p : ℕ) (r : Reader A) (k : A → Rea
 pub seq-fault : {A B : Type 0} (f : List ℕ) (p : ℕ) (r : Reader A) (k : A → Reader B) (x : ℕ) → stepAt f r p ≡ Refused x → stepAt f (r >>= k) p ≡ Refused x
 seq-fault f p r k x e = step-refused f _ p x (then-refused f r k p x (faulted f r p x e))
 
+-- the same by how the first one ended
+module _ {A B C : Type 0} (f : List ℕ) (p : ℕ) (r : Reader A) (k : A → Reader B) (s : Reader C) (x : Suffix r) (y : (a : A) → SameSteps (k a) s) (h : p ≤ length f) where
+  pub seq-step : stepAt f (r >>= k) p ≡ thenAt f s (stepAt f r p)
+  unfolding thenAt
+  seq-step = go (stepAt f r p) refl
+    where
+      go : (z : Step) → stepAt f r p ≡ z → stepAt f (r >>= k) p ≡ thenAt f s z
+      go (Next q) e = seq-next f p r k s q x y h e
+      go (Refused n) e = seq-fault f p r k n e
+
 pub within : {A : Type 0} (f : List ℕ) {r : Reader A} → Suffix r → (p q : ℕ) → p ≤ length f → stepAt f r p ≡ Next q → q ≤ length f
 within f {r} x p q h e = ended f r p q x h e .within
+
+pub ends-in : {A : Type 0} (f : List ℕ) {r : Reader A} → Suffix r → (p : ℕ) (z : Step) → p ≤ length f → z ≡ stepAt f r p → EndsIn f z
+ends-in f x p (Next q) h e = within f x p q h (sym e)
+ends-in f x p (Refused n) h e = tt
+
+pub then-fault : {A : Type 0} (f : List ℕ) (r : Reader A) (z : Step) (n : ℕ) → z ≡ Refused n → Refused n ≡ thenAt f r z
+unfolding thenAt
+then-fault f r z n e = ap (thenAt f r) (sym e)
+
+pub then-next : {A : Type 0} (f : List ℕ) (r : Reader A) (z : Step) (q : ℕ) → z ≡ Next q → stepAt f r q ≡ thenAt f r z
+unfolding thenAt
+then-next f r z q e = ap (thenAt f r) (sym e)
 
 pub alike-same : {A : Type 0} (r s : Reader A) → ((l : List ℕ) → r l ≡ s l) → SameSteps r s
 unfolding skim _>>=_
@@ -43,6 +67,24 @@ alike-same {A} r s e = record { ends = λ l. ap (λ (x : Read A). follow x (λ a
 
 pub alike-trans : {A B C : Type 0} {r : Reader A} {s : Reader B} {t : Reader C} → SameSteps r s → SameSteps s t → SameSteps r t
 alike-trans x y = record { ends = λ l. x .ends l ∙ y .ends l }
+
+-- two bytes that are a number, and what is made of it
+pub alike-number : {B : Type 0} (g : ℕ → B) → SameSteps (u16 >>= λ n. pure (g n)) (many 2 u8)
+alike-number g = alike-map g (alike-fixed 2 fixed-u16 (fixed-bytes 2))
+
+-- readings in a row, of which the last is s, as one item and s behind it
+alike-then : {A B C D : Type 0} (r : Reader A) (k : A → Reader B) {j : A → Reader C} (s : Reader D) → ((a : A) → SameSteps (j a) (k a >>= λ b. s))
+    → SameSteps (r >>= j) ((r >>= k) >>= λ b. s)
+unfolding _>>=_ follow
+alike-then {A} r k s y = alike-trans (alike-value r y) (alike-same _ _ (λ l. go (r l)))
+  where
+    go : (u : Read A) → follow u (λ a. k a >>= λ b. s) ≡ follow (follow u k) (λ b. s)
+    go (got a m) = refl
+    go (refused n) = refl
+
+alike-made : {B C D : Type 0} (b : B) {j : Reader C} (s : Reader D) → SameSteps j s → SameSteps j (pure b >>= λ x. s)
+unfolding _>>=_ follow pure
+alike-made b s y = alike-trans y (alike-same _ _ (λ l. refl))
 
 bytes-alike : {A : Type 0} (f : List ℕ) (n : ℕ) {r : Reader A} → Fixed n r → (p : ℕ) → stepAt f r p ≡ stepAt f (many n u8) p
 bytes-alike f n x p = alike-step f (alike-fixed n x (fixed-bytes n)) p
@@ -69,11 +111,11 @@ module _ (f : List ℕ) (p : ℕ) where
   words-fixed : (n : ℕ) → Fixed (2 * n) (many n u16)
   words-fixed n = fixed-as (n * 2) (2 * n) (omega arith) (fixed-many 2 fixed-u16 n)
 
-  pub words-in : (n : ℕ) → p + 2 ≤ length f → n ≡ word f p → p + 2 + 2 * n ≤ length f → stepAt f (Reader.counted u16) p ≡ Next (p + 2 + 2 * n)
-  words-in n h e g = counted-in f u16 p n h e ∙ fixed-in f (2 * n) (p + 2) (words-fixed n) g
+  pub numbers-in : (n : ℕ) → p + 2 * n ≤ length f → stepAt f (many n u16) p ≡ Next (p + 2 * n)
+  numbers-in n g = fixed-in f (2 * n) p (words-fixed n) g
 
-  pub words-short : (n : ℕ) → p + 2 ≤ length f → n ≡ word f p → length f < p + 2 + 2 * n → stepAt f (Reader.counted u16) p ≡ Refused 3
-  words-short n h e g = counted-in f u16 p n h e ∙ cut-short f (2 * n) (p + 2) (needs-fixed (2 * n) (words-fixed n)) h g
+  pub numbers-short : (n : ℕ) → p ≤ length f → length f < p + 2 * n → stepAt f (many n u16) p ≡ Refused 3
+  numbers-short n h g = cut-short f (2 * n) p (needs-fixed (2 * n) (words-fixed n)) h g
 
   -- a path: its count of steps is judged first
   steps-fixed : (n : ℕ) → Fixed (4 * n) (many n u32)
@@ -133,37 +175,24 @@ module _ (f : List ℕ) (p : ℕ) where
 -- what begins with an address and a path
 alike-register : {B C : Type 0} (k : ℕ → FieldPath → Reader B) (s : Reader C) → ((a : ℕ) (q : FieldPath) → SameSteps (k a q) s)
     → SameSteps (u16 >>= λ a. Reader.path >>= λ q. k a q) (Reader.registerPart >>= λ x. s)
-unfolding Reader.registerPart _>>=_ follow pure
-alike-register {B} {C} k s y = alike-trans (alike-value u16 (λ a. alike-value Reader.path (λ q. y a q))) (alike-same _ _ (λ l. go (u16 l)))
-  where
-    inner : (a : ℕ) (v : Read FieldPath) → follow v (λ q. s) ≡ follow (follow v (λ q. pure (SeekKeyPart.RegisterField a q))) (λ x. s)
-    inner a (got q m) = refl
-    inner a (refused n) = refl
+unfolding Reader.registerPart
+alike-register k s y = alike-then u16 _ s (λ a. alike-then Reader.path _ s (λ q. alike-made _ s (y a q)))
 
-    go : (u : Read ℕ) → follow u (λ a. Reader.path >>= λ q. s) ≡ follow (follow u (λ a. Reader.path >>= λ q. pure (SeekKeyPart.RegisterField a q))) (λ x. s)
-    go (got a m) = inner a (Reader.path m)
-    go (refused n) = refl
+module _ (f : List ℕ) (p : ℕ) (h : p ≤ length f) where
+  register-then : {B : Type 0} (n : ℕ) (r : Reader B) → SameSteps r (Reader.registerPart >>= λ x. many n u8) → stepAt f r p ≡ thenAt f (many n u8) (stepAt f Reader.registerPart p)
+  register-then n r x = alike-step f x p ∙ seq-step f p Reader.registerPart _ (many n u8) suffix-registerPart (λ a. alike-refl _) h
 
-module _ (f : List ℕ) (p : ℕ) where
-  alike-fieldSlot : SameSteps Reader.fieldSlot (Reader.registerPart >>= λ x. many 2 u8)
+  pub fieldSlot-is : stepAt f Reader.fieldSlot p ≡ thenAt f (many 2 u8) (stepAt f Reader.registerPart p)
   unfolding Reader.fieldSlot
-  alike-fieldSlot = alike-register _ _ (λ a q. alike-map _ (alike-fixed 2 fixed-u16 (fixed-bytes 2)))
+  fieldSlot-is = register-then 2 Reader.fieldSlot (alike-register _ _ (λ a q. alike-number _))
 
-  alike-select : SameSteps Reader.select (Reader.registerPart >>= λ x. many 4 u8)
+  pub select-is : stepAt f Reader.select p ≡ thenAt f (many 4 u8) (stepAt f Reader.registerPart p)
   unfolding Reader.select
-  alike-select = alike-register _ _ (λ a q. alike-map _ (alike-fixed 4 fixed-u32 (fixed-bytes 4)))
+  select-is = register-then 4 Reader.select (alike-register _ _ (λ a q. alike-map _ (alike-fixed 4 fixed-u32 (fixed-bytes 4))))
 
-  pub fieldSlot-next : (q : ℕ) → p ≤ length f → stepAt f Reader.registerPart p ≡ Next q → stepAt f Reader.fieldSlot p ≡ stepAt f (many 2 u8) q
-  fieldSlot-next q h e = alike-step f alike-fieldSlot p ∙ seq-next f p Reader.registerPart _ (many 2 u8) q suffix-registerPart (λ a. alike-refl _) h e
-
-  pub fieldSlot-fault : (x : ℕ) → stepAt f Reader.registerPart p ≡ Refused x → stepAt f Reader.fieldSlot p ≡ Refused x
-  fieldSlot-fault x e = alike-step f alike-fieldSlot p ∙ seq-fault f p Reader.registerPart _ x e
-
-  pub select-next : (q : ℕ) → p ≤ length f → stepAt f Reader.registerPart p ≡ Next q → stepAt f Reader.select p ≡ stepAt f (many 4 u8) q
-  select-next q h e = alike-step f alike-select p ∙ seq-next f p Reader.registerPart _ (many 4 u8) q suffix-registerPart (λ a. alike-refl _) h e
-
-  pub select-fault : (x : ℕ) → stepAt f Reader.registerPart p ≡ Refused x → stepAt f Reader.select p ≡ Refused x
-  select-fault x e = alike-step f alike-select p ∙ seq-fault f p Reader.registerPart _ x e
+  pub part-is : stepAt f Reader.part p ≡ thenAt f (many 2 u8) (stepAt f Reader.partKey p)
+  unfolding Reader.part
+  part-is = seq-step f p Reader.partKey _ (many 2 u8) suffix-key (λ k. alike-number _) h
 
 -- the lists of readers of the kinds
 abbrev planSlots : List (Reader Slot)
@@ -175,8 +204,8 @@ codeReaders =
     pure Code.NyiValueMatch ∷ pure Code.NyiWholeKey ∷ pure Code.RejectTypeMismatch ∷ pure Code.RejectUnionArity ∷ pure Code.RejectUnknownAlternative ∷
     pure Code.RejectUnresolvedAccess ∷ []
 
-abbrev partReaders : List (Reader SeekKeyPart)
-partReaders = Reader.bytesPart ∷ Reader.registerPart ∷ Reader.factPart ∷ []
+abbrev keyReaders : List (Reader SeekKeyPart)
+keyReaders = Reader.bytesPart ∷ Reader.registerPart ∷ Reader.factPart ∷ []
 
 abbrev edgeReaders : List (Reader (Option RangeEdge))
 edgeReaders = pure none ∷ Reader.edgeThat false ∷ Reader.edgeThat true ∷ []
@@ -221,9 +250,9 @@ module _ (f : List ℕ) (p : ℕ) where
   unfolding Reader.slot
   slot-cut h = kind-cut f p planSlots h
 
-  pub part-cut : length f ≤ p → stepAt f Reader.part p ≡ Refused 3
-  unfolding Reader.part
-  part-cut h = kind-cut f p partReaders h
+  pub key-cut : length f ≤ p → stepAt f Reader.partKey p ≡ Refused 3
+  unfolding Reader.partKey
+  key-cut h = kind-cut f p keyReaders h
 
   pub edge-cut : length f ≤ p → stepAt f Reader.edge p ≡ Refused 3
   unfolding Reader.edge
@@ -260,21 +289,21 @@ module _ (f : List ℕ) (p : ℕ) where
         ∙ ap (λ (r : Reader Slot). stepAt f r (p + 1)) (slots-same (getD f p 0) n)
         ∙ sym (kinded f p slotReaders (getD f p 0) h refl)
 
-    pub part-bytes : getD f p 0 ≡ 0 → stepAt f Reader.part p ≡ stepAt f Reader.text (p + 1)
-    unfolding Reader.part Reader.bytesPart
-    part-bytes e = holds partReaders 0 h (sym e) (alike-map _ (alike-refl Reader.text))
+    pub key-bytes : getD f p 0 ≡ 0 → stepAt f Reader.partKey p ≡ stepAt f Reader.text (p + 1)
+    unfolding Reader.partKey Reader.bytesPart
+    key-bytes e = holds keyReaders 0 h (sym e) (alike-map _ (alike-refl Reader.text))
 
-    pub part-register : getD f p 0 ≡ 1 → stepAt f Reader.part p ≡ stepAt f Reader.registerPart (p + 1)
-    unfolding Reader.part
-    part-register e = holds partReaders 1 h (sym e) (alike-refl Reader.registerPart)
+    pub key-register : getD f p 0 ≡ 1 → stepAt f Reader.partKey p ≡ stepAt f Reader.registerPart (p + 1)
+    unfolding Reader.partKey
+    key-register e = holds keyReaders 1 h (sym e) (alike-refl Reader.registerPart)
 
-    pub part-fact : getD f p 0 ≡ 2 → stepAt f Reader.part p ≡ stepAt f (many 2 u8) (p + 1)
-    unfolding Reader.part Reader.factPart
-    part-fact e = holds partReaders 2 h (sym e) (alike-map _ (alike-fixed 2 fixed-u16 (fixed-bytes 2)))
+    pub key-fact : getD f p 0 ≡ 2 → stepAt f Reader.partKey p ≡ stepAt f (many 2 u8) (p + 1)
+    unfolding Reader.partKey Reader.factPart
+    key-fact e = holds keyReaders 2 h (sym e) (alike-map _ (alike-fixed 2 fixed-u16 (fixed-bytes 2)))
 
-    pub part-bad : 2 < getD f p 0 → stepAt f Reader.part p ≡ Refused 5
-    unfolding Reader.part
-    part-bad g = kind-bad f p partReaders (getD f p 0) h refl g
+    pub key-bad : 2 < getD f p 0 → stepAt f Reader.partKey p ≡ Refused 5
+    unfolding Reader.partKey
+    key-bad g = kind-bad f p keyReaders (getD f p 0) h refl g
 
     pub edge-none : getD f p 0 ≡ 0 → stepAt f Reader.edge p ≡ Next (p + 1)
     unfolding Reader.edge
@@ -363,20 +392,24 @@ module _ (f : List ℕ) (p : ℕ) where
         let g : p + 2 + 1 ≡ p + 3 = omega arith in
         diagnostic-code ∙ plain f (p + 2) codeReaders (getD f (p + 2) 0) (omega arith) refl (code-fixed (getD f (p + 2) 0) a (omega arith)) ∙ ap Next g
 
--- what begins with a path
+-- what begins with a path and ends in a node
 module _ (f : List ℕ) (p : ℕ) where
-  pub guideThat-next : (q : ℕ) → p ≤ length f → stepAt f Reader.path p ≡ Next q → stepAt f Reader.guideThat p ≡ stepAt f fuzzyNode q
+  pub guideThat-next : (q : ℕ) → p ≤ length f → stepAt f Reader.path p ≡ Next q → stepAt f Reader.guideThat p ≡ thenAt f (many 2 u8) (stepAt f fuzzyNode q)
   unfolding Reader.guideThat fuzzyNode
   guideThat-next q h e =
-      seq-next f p Reader.path _ fuzzyNode q suffix-path (λ t. alike-value u16 (λ x. alike-value u8 (λ d. alike-value anchor (λ a. alike-pure _ _)))) h e
+      seq-next f p Reader.path _ (fuzzyNode >>= λ n. many 2 u8) q suffix-path
+      (λ t. alike-then u16 _ _ (λ x. alike-then u8 _ _ (λ d. alike-then anchor _ _ (λ a. alike-made _ _ (alike-number _))))) h e
+      ∙ seq-step f q fuzzyNode _ (many 2 u8) suffix-fuzzyNode (λ n. alike-refl _) (within f suffix-path p q h e)
 
   pub guideThat-fault : (x : ℕ) → stepAt f Reader.path p ≡ Refused x → stepAt f Reader.guideThat p ≡ Refused x
   unfolding Reader.guideThat
   guideThat-fault x e = seq-fault f p Reader.path _ x e
 
-  pub residual-next : (q : ℕ) → p ≤ length f → stepAt f Reader.path p ≡ Next q → stepAt f Reader.residual p ≡ stepAt f Reader.op q
+  pub residual-next : (q : ℕ) → p ≤ length f → stepAt f Reader.path p ≡ Next q → stepAt f Reader.residual p ≡ thenAt f (many 2 u8) (stepAt f Reader.op q)
   unfolding Reader.residual
-  residual-next q h e = seq-next f p Reader.path _ Reader.op q suffix-path (λ t. alike-map _ (alike-refl Reader.op)) h e
+  residual-next q h e =
+      seq-next f p Reader.path _ (Reader.op >>= λ o. many 2 u8) q suffix-path (λ t. alike-value Reader.op (λ o. alike-number _)) h e
+      ∙ seq-step f q Reader.op _ (many 2 u8) suffix-op (λ o. alike-refl _) (within f suffix-path p q h e)
 
   pub residual-fault : (x : ℕ) → stepAt f Reader.path p ≡ Refused x → stepAt f Reader.residual p ≡ Refused x
   unfolding Reader.residual

@@ -5,7 +5,7 @@ use mathlib.Core.Bool.{Bool, true, false}
 use mathlib.Core.List.{List}
 use lib.Dec.{leb}
 use Rattle.rules.specs.Limits.{stepLimit}
-use Rattle.rules.specs.Read.{Reader, refuse, u32, many, anchor, rowSlot, keySlot, derivedSlot, valueSlot, constSlot}
+use Rattle.rules.specs.Read.{Reader, refuse, u32, many, anchor, fuzzyNode, rowSlot, keySlot, derivedSlot, valueSlot, constSlot}
 use Rattle.rules.specs.Reader as Reader
 use Rattle.file.proofs.Suffix.{getD-in, Suffix, suffix-pure, suffix-refuse, suffix-bind, suffix-u8, suffix-many, Suffixes, suffixes-none, suffixes-more, suffix-kind, suffix-u16, suffix-u32, suffix-optional, suffix-skim, suffix-one, suffix-two, suffix-three}
 use Rattle.plan_form.specs.Pieces.{itemReaders, itemOf, range, edges, afterGuide, afterSeek, listReaders, listOf}
@@ -75,9 +75,13 @@ pub suffix-registerPart : Suffix Reader.registerPart
 unfolding Reader.registerPart
 suffix-registerPart = suffix-two _ suffix-u16 suffix-path
 
+pub suffix-key : Suffix Reader.partKey
+unfolding Reader.partKey Reader.bytesPart Reader.factPart
+suffix-key = suffix-kind (suffixes-more (suffix-one _ suffix-text) (suffixes-more suffix-registerPart (suffixes-more (suffix-one _ suffix-u16) suffixes-none)))
+
 pub suffix-part : Suffix Reader.part
-unfolding Reader.part Reader.bytesPart Reader.factPart
-suffix-part = suffix-kind (suffixes-more (suffix-one _ suffix-text) (suffixes-more suffix-registerPart (suffixes-more (suffix-one _ suffix-u16) suffixes-none)))
+unfolding Reader.part
+suffix-part = suffix-two _ suffix-key suffix-u16
 
 pub suffix-edge : Suffix Reader.edge
 unfolding Reader.edge Reader.edgeThat
@@ -85,7 +89,7 @@ suffix-edge = suffix-kind (suffixes-more (suffix-pure _) (suffixes-more (suffix-
 
 pub suffix-rangeSeek : (n : ℕ) → Suffix (Reader.rangeSeek n)
 unfolding Reader.rangeSeek
-suffix-rangeSeek n = suffix-three _ (suffix-many suffix-part n) suffix-text suffix-path
+suffix-rangeSeek n = suffix-bind (suffix-many suffix-part n) (λ ps. suffix-three _ suffix-text suffix-path suffix-u16)
 
 pub suffix-boundedSeek : (n : ℕ) → Suffix (Reader.boundedSeek n)
 unfolding Reader.boundedSeek
@@ -95,16 +99,20 @@ pub suffix-seek : (n : ℕ) → Suffix (Reader.seek n)
 unfolding Reader.seek Reader.prefixSeek Reader.compositeSeek
 suffix-seek n =
     suffix-kind
-    (suffixes-more (suffix-one _ suffix-text)
+    (suffixes-more (suffix-two _ suffix-text (suffix-many suffix-u16 n))
     (suffixes-more (suffix-one _ (suffix-many suffix-part n)) (suffixes-more (suffix-rangeSeek n) (suffixes-more (suffix-boundedSeek n) suffixes-none))))
 
 suffix-anchor : Suffix anchor
 unfolding anchor
 suffix-anchor = suffix-kind (suffixes-more (suffix-pure _) (suffixes-more (suffix-pure _) suffixes-none))
 
+pub suffix-fuzzyNode : Suffix fuzzyNode
+unfolding fuzzyNode
+suffix-fuzzyNode = suffix-three _ suffix-u16 suffix-u8 suffix-anchor
+
 pub suffix-guideThat : Suffix Reader.guideThat
 unfolding Reader.guideThat
-suffix-guideThat = suffix-bind suffix-path (λ p. suffix-three _ suffix-u16 suffix-u8 suffix-anchor)
+suffix-guideThat = suffix-bind suffix-path (λ p. suffix-bind suffix-u16 (λ x. suffix-three _ suffix-u8 suffix-anchor suffix-u16))
 
 pub suffix-guide : Suffix Reader.guide
 unfolding Reader.guide
@@ -122,7 +130,7 @@ suffix-op =
 
 pub suffix-residual : Suffix Reader.residual
 unfolding Reader.residual
-suffix-residual = suffix-two _ suffix-path suffix-op
+suffix-residual = suffix-three _ suffix-path suffix-op suffix-u16
 
 pub suffix-level : Suffix Reader.level
 unfolding Reader.level
@@ -134,7 +142,7 @@ suffix-level =
 
 pub suffix-range : Suffix range
 unfolding range
-suffix-range = suffix-two _ suffix-text suffix-path
+suffix-range = suffix-three _ suffix-text suffix-path suffix-u16
 
 pub suffix-edges : Suffix edges
 unfolding edges

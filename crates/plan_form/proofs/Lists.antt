@@ -7,7 +7,7 @@ use native.Mathlib.Numerals.{add-one}
 use lib.ListN.{length, getD, drop, drop-of-length-le}
 use lib.Seq.{drop-cons}
 use Rattle.rules.specs.Placement.{SeekKey}
-use Rattle.rules.specs.Read.{Reader, follow, _>>=_, pure, u16, many, end}
+use Rattle.rules.specs.Read.{Reader, follow, _>>=_, pure, u8, u16, many, end}
 use Rattle.rules.specs.Read.Read.{got}
 use Rattle.rules.specs.Reader as Reader
 use Rattle.file.specs.Steps.{word, readAt, stepAt, skim}
@@ -16,9 +16,9 @@ use Rattle.file.proofs.Readers.{down, step-got, step-refused, step-same, step-s
 use Rattle.file.proofs.Suffix.{Suffix, suffix-many, ended, faulted}
 use Rattle.file.proofs.Leaves.{kinded, kind-cut, kind-bad}
 use Rattle.file.proofs.Sections.{word-then}
-use Rattle.plan_form.specs.Pieces.{itemOf, range, edges, afterGuide, afterSeek, listOf, lists}
-use Rattle.plan_form.proofs.Forward.{suffix-counted, suffix-text, suffix-edge, suffix-guide, suffix-seek, suffix-item, suffix-list}
-use Rattle.plan_form.proofs.Cases.{seq-next, seq-fault}
+use Rattle.plan_form.specs.Pieces.{thenAt, itemOf, range, edges, afterGuide, afterSeek, listOf, lists}
+use Rattle.plan_form.proofs.Forward.{suffix-counted, suffix-text, suffix-path, suffix-edge, suffix-guide, suffix-seek, suffix-item, suffix-list}
+use Rattle.plan_form.proofs.Cases.{seq-next, seq-fault, seq-step, within, alike-number}
 
 -- n times the same reading, by where each ends
 module _ {A : Type 0} (f : List ℕ) {r : Reader A} (x : Suffix r) (n p : ℕ) (h : p ≤ length f) where
@@ -76,9 +76,11 @@ module _ (f : List ℕ) (p s : ℕ) where
 
 -- what a seek holds
 module _ (f : List ℕ) (p : ℕ) where
-  pub range-next : (q : ℕ) → p ≤ length f → stepAt f Reader.text p ≡ Next q → stepAt f range p ≡ stepAt f Reader.path q
+  pub range-next : (q : ℕ) → p ≤ length f → stepAt f Reader.text p ≡ Next q → stepAt f range p ≡ thenAt f (many 2 u8) (stepAt f Reader.path q)
   unfolding range
-  range-next q h e = seq-next f p Reader.text _ Reader.path q suffix-text (λ t. alike-map _ (alike-refl Reader.path)) h e
+  range-next q h e =
+      seq-next f p Reader.text _ (Reader.path >>= λ t. many 2 u8) q suffix-text (λ t. alike-value Reader.path (λ o. alike-number _)) h e
+      ∙ seq-step f q Reader.path _ (many 2 u8) suffix-path (λ o. alike-refl _) (within f suffix-text p q h e)
 
   pub range-fault : (x : ℕ) → stepAt f Reader.text p ≡ Refused x → stepAt f range p ≡ Refused x
   unfolding range
@@ -105,16 +107,24 @@ module _ (n : ℕ) where
 
   alike-rangeSeek : SameSteps (Reader.rangeSeek n) (many n (itemOf 0) >>= λ ps. range)
   unfolding Reader.rangeSeek range
-  alike-rangeSeek = alike-bind (alike-many alike-part n) (λ ps us. alike-value Reader.text (λ t. alike-value Reader.path (λ q. alike-pure _ _)))
+  alike-rangeSeek = alike-bind (alike-many alike-part n) (λ ps us. alike-value Reader.text (λ t. alike-value Reader.path (λ q. alike-value u16 (λ n. alike-pure _ _))))
 
   alike-boundedSeek : SameSteps (Reader.boundedSeek n) (many n (itemOf 0) >>= λ ps. edges)
   unfolding Reader.boundedSeek edges
   alike-boundedSeek = alike-bind (alike-many alike-part n) (λ ps us. alike-value Reader.edge (λ lo. alike-value Reader.edge (λ hi. alike-pure _ _)))
 
   abbrev seekReaders : List (Reader SeekKey)
-  seekReaders = Reader.prefixSeek ∷ Reader.compositeSeek n ∷ Reader.rangeSeek n ∷ Reader.boundedSeek n ∷ []
+  seekReaders = Reader.prefixSeek n ∷ Reader.compositeSeek n ∷ Reader.rangeSeek n ∷ Reader.boundedSeek n ∷ []
 
 module _ (f : List ℕ) (n p : ℕ) where
+  pub prefixSeek-next : (q : ℕ) → p ≤ length f → stepAt f Reader.text p ≡ Next q → stepAt f (Reader.prefixSeek n) p ≡ stepAt f (many n u16) q
+  unfolding Reader.prefixSeek
+  prefixSeek-next q h e = seq-next f p Reader.text _ (many n u16) q suffix-text (λ t. alike-map _ (alike-refl (many n u16))) h e
+
+  pub prefixSeek-fault : (x : ℕ) → stepAt f Reader.text p ≡ Refused x → stepAt f (Reader.prefixSeek n) p ≡ Refused x
+  unfolding Reader.prefixSeek
+  prefixSeek-fault x e = seq-fault f p Reader.text _ x e
+
   pub rangeSeek-next : (q : ℕ) → p ≤ length f → stepAt f (many n (itemOf 0)) p ≡ Next q → stepAt f (Reader.rangeSeek n) p ≡ stepAt f range q
   rangeSeek-next q h e = alike-step f (alike-rangeSeek n) p ∙ seq-next f p (many n (itemOf 0)) _ range q (suffix-parts n) (λ us. alike-refl range) h e
 
@@ -132,9 +142,9 @@ module _ (f : List ℕ) (n p : ℕ) where
   seek-cut h = kind-cut f p (seekReaders n) h
 
   module _ (h : p < length f) where
-    pub seek-prefix : getD f p 0 ≡ 0 → stepAt f (Reader.seek n) p ≡ stepAt f Reader.text (p + 1)
-    unfolding Reader.seek Reader.prefixSeek
-    seek-prefix e = kinded f p (seekReaders n) 0 h (sym e) ∙ alike-step f (alike-map _ (alike-refl Reader.text)) (p + 1)
+    pub seek-prefix : getD f p 0 ≡ 0 → stepAt f (Reader.seek n) p ≡ stepAt f (Reader.prefixSeek n) (p + 1)
+    unfolding Reader.seek
+    seek-prefix e = kinded f p (seekReaders n) 0 h (sym e)
 
     pub seek-composite : getD f p 0 ≡ 1 → stepAt f (Reader.seek n) p ≡ stepAt f (many n (itemOf 0)) (p + 1)
     unfolding Reader.seek

@@ -1,10 +1,21 @@
 -- Request [1]: the readers that the walk over a plan goes by, where the written rules have no name for them.
-use Prim.Native.Nat.{ℕ, zero, suc, _+_}
+use Prim.Native.Nat.{ℕ, zero, suc, _+_, _≤_}
 use mathlib.Core.List.{List, [], _∷_}
-use lib.ListN.{getD}
+use lib.ListN.{length, getD}
 use Rattle.rules.specs.Read.{Reader, _>>=_, pure, refuse, u16, end}
 use Rattle.rules.specs.Reader.{counted, text, path, binding, select, diagnostic, part, edge, guide, residual, level}
-use Rattle.file.specs.Steps.{skim}
+use Rattle.file.specs.Steps.{stepAt, skim}
+use Rattle.file.specs.declared.Step.{Step}
+use Rattle.file.specs.declared.Step.the-variants.{Next, Refused}
+
+-- an item that ended, inside f if it met no fault; and where what reader r reads behind it ends
+abbrev pub EndsIn : List ℕ → Step → Type 0
+EndsIn f (Next q) = q ≤ length f
+EndsIn f (Refused x) = Unit {0}
+
+unfoldable pub thenAt : {A : Type 0} → List ℕ → Reader A → Step → Step
+thenAt f r (Next q) = stepAt f r q
+thenAt f r (Refused x) = Refused x
 
 -- the items of a plan that hold no list of their own, by number: parts, residuals, bindings, selects, diagnostics
 abbrev pub itemReaders : List (Reader (Unit {0}))
@@ -16,11 +27,12 @@ itemKinds = 5
 unfoldable pub itemOf : ℕ → Reader (Unit {0})
 itemOf s = getD itemReaders s (refuse 0)
 
--- after the parts: "for 2 the prefix text and its path", "for 3 lo and hi"
+-- after the parts: "for 2 the prefix text and its path" with the range's node, "for 3 lo and hi"
 unfoldable pub range : Reader (Unit {0})
 range = do
   prefix ← text
   p ← path
+  n ← u16
   pure tt
 
 unfoldable pub edges : Reader (Unit {0})

@@ -3,10 +3,11 @@
 ghost use mathlib.Core.Path.{_≡_};
 ghost use Prim.Native.Nat.{_≤_, _<_};
 ghost use lib.ListN.{length};
-ghost use Rattle.rules.specs.Read.{u16, many};
+ghost use Rattle.rules.specs.Read.{u8, u16, many};
 ghost use Rattle.rules.specs.Reader as Reader;
 ghost use Rattle.file.specs.Steps.{stepAt};
-ghost use Rattle.plan_form.specs.Pieces.{itemKinds, itemOf, range, edges, afterGuide, afterSeek, listCount, listOf};
+ghost use Rattle.plan_form.specs.Pieces.{EndsIn, thenAt, itemKinds, itemOf, range, edges, afterGuide, afterSeek};
+ghost use Rattle.plan_form.specs.Pieces.{listCount, listOf};
 use file::Step;
 use file::fixed;
 use file::fuzzy_end;
@@ -39,6 +40,29 @@ const LISTS: usize = 5;
 // The last code that a diagnostic may have; the first is 1.
 const LAST_CODE: u8 = 11;
 
+// Where n bytes end that stand behind an item which ended at `before`.
+fn fixed_after(plan: &[u8], before: Step, n: usize) -> Step
+    requires { ⌜ EndsIn (now plan) before × (n ≤ 4) ⌝ }
+    ensures { λ r. ⌜ r ≡ thenAt (now (plan .entry)) (many n u8) before ⌝ }
+{
+    match before {
+        Step::Next(q) => fixed(plan, n, q),
+        Step::Refused(x) => Step::Refused(x),
+    }
+}
+
+// Where n numbers of two bytes from p on end.
+fn numbers_end(plan: &[u8], n: usize, p: usize) -> Step
+    requires { ⌜ p ≤ length (now plan) ⌝ }
+    ensures { λ r. ⌜ r ≡ stepAt (now (plan .entry)) (many n u16) p ⌝ }
+{
+    if n <= (plan.len() - p) / 2 {
+        Step::Next(p + 2 * n)
+    } else {
+        Step::Refused(3)
+    }
+}
+
 // Where the text at p ends: a count, then as many bytes.
 pub fn text_end(plan: &[u8], p: usize) -> Step
     requires { ⌜ p ≤ length (now plan) ⌝ }
@@ -59,12 +83,8 @@ pub fn words_end(plan: &[u8], p: usize) -> Step
     if plan.len() - p < 2 {
         return Step::Refused(3);
     }
-    let n = 2 * word_at(plan, p);
-    if n <= plan.len() - p - 2 {
-        Step::Next(p + 2 + n)
-    } else {
-        Step::Refused(3)
-    }
+    let n = word_at(plan, p);
+    numbers_end(plan, n, p + 2)
 }
 
 // Where the path at p ends: its field, a count, and as many steps. More steps than a path holds are a fault of the count.
@@ -98,10 +118,7 @@ pub fn field_slot_end(plan: &[u8], p: usize) -> Step
     requires { ⌜ p ≤ length (now plan) ⌝ }
     ensures { λ r. ⌜ r ≡ stepAt (now (plan .entry)) Reader.fieldSlot p ⌝ }
 {
-    match register_end(plan, p) {
-        Step::Next(q) => fixed(plan, 2, q),
-        Step::Refused(x) => Step::Refused(x),
-    }
+    fixed_after(plan, register_end(plan, p), 2)
 }
 
 // Where the slot at p ends. A Field slot's path is a plan's; every other slot is as in a rule file.
@@ -134,10 +151,7 @@ pub fn select_end(plan: &[u8], p: usize) -> Step
     requires { ⌜ p ≤ length (now plan) ⌝ }
     ensures { λ r. ⌜ r ≡ stepAt (now (plan .entry)) Reader.select p ⌝ }
 {
-    match register_end(plan, p) {
-        Step::Next(q) => fixed(plan, 4, q),
-        Step::Refused(x) => Step::Refused(x),
-    }
+    fixed_after(plan, register_end(plan, p), 4)
 }
 
 // Where the diagnostic at p ends: a node and a code, which is not 0.
@@ -157,10 +171,10 @@ pub fn diagnostic_end(plan: &[u8], p: usize) -> Step
     Step::Next(p + 3)
 }
 
-// Where the part at p ends: its kind says whether bytes, address and path or an address follow.
-pub fn part_end(plan: &[u8], p: usize) -> Step
+// Where the key of the part at p ends: its kind says whether bytes, address and path or an address follow.
+fn key_end(plan: &[u8], p: usize) -> Step
     requires { ⌜ p ≤ length (now plan) ⌝ }
-    ensures { λ r. ⌜ r ≡ stepAt (now (plan .entry)) Reader.part p ⌝ }
+    ensures { λ r. ⌜ r ≡ stepAt (now (plan .entry)) Reader.partKey p ⌝ }
 {
     if p >= plan.len() {
         return Step::Refused(3);
@@ -171,6 +185,14 @@ pub fn part_end(plan: &[u8], p: usize) -> Step
         2 => fixed(plan, 2, p + 1),
         _ => Step::Refused(5),
     }
+}
+
+// Where the part at p ends: its key and its node.
+pub fn part_end(plan: &[u8], p: usize) -> Step
+    requires { ⌜ p ≤ length (now plan) ⌝ }
+    ensures { λ r. ⌜ r ≡ stepAt (now (plan .entry)) Reader.part p ⌝ }
+{
+    fixed_after(plan, key_end(plan, p), 2)
 }
 
 // Where the edge at p ends: none, or a text, exclusive or inclusive.
@@ -188,13 +210,13 @@ pub fn edge_end(plan: &[u8], p: usize) -> Step
     }
 }
 
-// Where a guide ends that has its path at p: path, name, distance, anchor.
+// Where a guide ends that has its path at p: path, name, distance, anchor, node.
 pub fn guide_that_end(plan: &[u8], p: usize) -> Step
     requires { ⌜ p ≤ length (now plan) ⌝ }
     ensures { λ r. ⌜ r ≡ stepAt (now (plan .entry)) Reader.guideThat p ⌝ }
 {
     match path_end(plan, p) {
-        Step::Next(q) => fuzzy_end(plan, q),
+        Step::Next(q) => fixed_after(plan, fuzzy_end(plan, q), 2),
         Step::Refused(x) => Step::Refused(x),
     }
 }
@@ -232,13 +254,13 @@ pub fn op_end(plan: &[u8], p: usize) -> Step
     }
 }
 
-// Where the residual at p ends: a path and an op.
+// Where the residual at p ends: a path, an op and a node.
 pub fn residual_end(plan: &[u8], p: usize) -> Step
     requires { ⌜ p ≤ length (now plan) ⌝ }
     ensures { λ r. ⌜ r ≡ stepAt (now (plan .entry)) Reader.residual p ⌝ }
 {
     match path_end(plan, p) {
-        Step::Next(q) => op_end(plan, q),
+        Step::Next(q) => fixed_after(plan, op_end(plan, q), 2),
         Step::Refused(x) => Step::Refused(x),
     }
 }
@@ -290,13 +312,13 @@ pub fn list_end(plan: &[u8], s: usize, p: usize) -> Step
     items_end(plan, s, n, p + 2)
 }
 
-// Where a range's text and path end.
+// Where a range's text, path and node end.
 fn range_end(plan: &[u8], p: usize) -> Step
     requires { ⌜ p ≤ length (now plan) ⌝ }
     ensures { λ r. ⌜ r ≡ stepAt (now (plan .entry)) range p ⌝ }
 {
     match text_end(plan, p) {
-        Step::Next(q) => path_end(plan, q),
+        Step::Next(q) => fixed_after(plan, path_end(plan, q), 2),
         Step::Refused(x) => Step::Refused(x),
     }
 }
@@ -308,6 +330,17 @@ fn edges_end(plan: &[u8], p: usize) -> Step
 {
     match edge_end(plan, p) {
         Step::Next(q) => edge_end(plan, q),
+        Step::Refused(x) => Step::Refused(x),
+    }
+}
+
+// Where a Prefix ends that has its text at p: the text, and a node for each of the n parts.
+fn prefix_seek_end(plan: &[u8], n: usize, p: usize) -> Step
+    requires { ⌜ p ≤ length (now plan) ⌝ }
+    ensures { λ r. ⌜ r ≡ stepAt (now (plan .entry)) (Reader.prefixSeek n) p ⌝ }
+{
+    match text_end(plan, p) {
+        Step::Next(q) => numbers_end(plan, n, q),
         Step::Refused(x) => Step::Refused(x),
     }
 }
@@ -343,7 +376,7 @@ pub fn seek_end(plan: &[u8], n: usize, p: usize) -> Step
         return Step::Refused(3);
     }
     match plan[p] {
-        0 => text_end(plan, p + 1),
+        0 => prefix_seek_end(plan, n, p + 1),
         1 => items_end(plan, PARTS, n, p + 1),
         2 => range_seek_end(plan, n, p + 1),
         3 => bounded_seek_end(plan, n, p + 1),

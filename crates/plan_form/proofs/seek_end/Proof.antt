@@ -9,7 +9,7 @@ use Rattle.plan_form.proofs.seek_end.Lts as lts
 use Rattle.plan_form.proofs.bounded_seek_end.Reads as bounded-seek-end-reads
 use Rattle.plan_form.proofs.items_end.Reads as items-end-reads
 use Rattle.plan_form.proofs.range_seek_end.Reads as range-seek-end-reads
-use Rattle.plan_form.proofs.text_end.Reads as text-end-reads
+use Rattle.plan_form.proofs.prefix_seek_end.Reads as prefix-seek-end-reads
 
 returns : tie.Need-returns
 returns c = sym (seek-cut _ _ _ (omega arith))
@@ -17,11 +17,11 @@ returns c = sym (seek-cut _ _ _ (omega arith))
 shared-slice-read-match : tie.Need-shared-slice-read-match
 shared-slice-read-match c = search needs
 
-add-text-end : tie.Need-add-text-end
-add-text-end c = search needs
+add-prefix-seek-end : tie.Need-add-prefix-seek-end
+add-prefix-seek-end c = search needs
 
-text-end-requires : tie.Need-text-end-requires
-text-end-requires c κs = search needs
+prefix-seek-end-requires : tie.Need-prefix-seek-end-requires
+prefix-seek-end-requires c κs = search needs
 
 add-items-end : tie.Need-add-items-end
 add-items-end c = search needs
@@ -42,7 +42,7 @@ bounded-seek-end-requires : tie.Need-bounded-seek-end-requires
 bounded-seek-end-requires c κs = search needs
 
 returns-2 : tie.Need-returns-2
-returns-2 c = c .text-end .ensures ∙ sym (seek-prefix _ _ _ (omega arith) (omega arith))
+returns-2 c = c .prefix-seek-end .ensures ∙ sym (seek-prefix _ _ _ (omega arith) (omega arith))
 
 returns-3 : tie.Need-returns-3
 returns-3 c = c .items-end .ensures ∙ sym (seek-composite _ _ _ (omega arith) (omega arith))
@@ -62,8 +62,8 @@ seek-end-spec =
     (tie.spec
     returns
     shared-slice-read-match
-    add-text-end
-    text-end-requires
+    add-prefix-seek-end
+    prefix-seek-end-requires
     add-items-end
     items-end-requires
     add-range-seek-end

@@ -1,40 +1,24 @@
-use mathlib.Core.Path.{sym, _∙_}
 use native.Mathlib.Omega.{arith}
-use Rattle.plan_form.proofs.Cases.{select-next, select-fault, within}
+use mathlib.Core.Path.{sym, ap, _∙_}
+use Rattle.plan_form.specs.Pieces.{thenAt}
+use Rattle.plan_form.proofs.Cases.{select-is, ends-in}
 use Rattle.plan_form.proofs.Forward.{suffix-registerPart}
 use borrow.Author.Needs.{needs}
 use Rattle.plan_form.proofs.select_end.Statement.{statement}
 use Rattle.plan_form.proofs.select_end.Tie as tie
 use Rattle.plan_form.proofs.select_end.Reads as reads
 use Rattle.plan_form.proofs.select_end.Lts as lts
-use Rattle.file.proofs.fixed.Reads as fixed-reads
+use Rattle.plan_form.proofs.fixed_after.Reads as fixed-after-reads
 use Rattle.plan_form.proofs.register_end.Reads as register-end-reads
 
 register-end-requires : tie.Need-register-end-requires
 register-end-requires c κs = search needs
 
-enum-known-q : tie.Need-enum-known-q
-enum-known-q c = search needs
-
-fixed-requires : tie.Need-fixed-requires
-fixed-requires c κs =
-    let e = sym (c .before .before .before .register-end .ensures) ∙ c .before .q .given .1 in
-    omega (arith, within _ suffix-registerPart _ _ (omega arith) e)
-
-enum-known-x : tie.Need-enum-known-x
-enum-known-x c = search needs
+fixed-after-requires : tie.Need-fixed-after-requires
+fixed-after-requires c κs = (ends-in _ suffix-registerPart _ _ (omega arith) (c .register-end .ensures), omega arith)
 
 returns : tie.Need-returns
-returns c =
-    let e = sym (c .before .before .before .before .register-end .ensures) ∙ c .before .before .q .given .1 in
-    c .fixed .ensures ∙ sym (select-next _ _ _ (omega arith) e)
-
-returns-2 : tie.Need-returns-2
-returns-2 c =
-    let e = sym (c .before .before .before .register-end .ensures) ∙ c .before .x .given .1 in
-    sym (select-fault _ _ _ e)
+returns c = c .fixed-after .ensures ∙ ap (thenAt _ _) (c .before .register-end .ensures) ∙ sym (select-is _ _ (omega arith))
 
 pub select-end-spec : {M : Type 1} → statement M
-select-end-spec =
-    tie.close
-    (tie.spec register-end-requires enum-known-q fixed-requires enum-known-x returns returns-2)
+select-end-spec = tie.close (tie.spec register-end-requires fixed-after-requires returns)
