@@ -104,7 +104,7 @@ module _ (p : Place) (len : ℕ) where
   head-framed w w1 e h = h ∙ ap (λ t. writtenAt p (headOf t len) w) (sym e)
 
 head-form : (joined : Bool) (bytes : List ℕ) → headOf joined (length bytes) ++ bytes ≡ formOf joined (SeekKeyPart.Bytes bytes)
-unfolding headOf formOf partText Plan.part Plan.text u16
+unfolding headOf formOf partText Plan.partKey Plan.text u16
 head-form true bytes = refl
 head-form false bytes = refl
 

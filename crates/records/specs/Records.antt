@@ -21,13 +21,17 @@ reach = 1152921504606846976
 unfoldable pub writtenAt : Place → List ℕ → List ℕ → List ℕ
 writtenAt place bytes plan = elim (place .write) [ true ↦ put plan (place .at) bytes | false ↦ plan ]
 
--- a part as its place takes it
+-- a part as its place takes it, without its node
 unfoldable pub formOf : Bool → SeekKeyPart → List ℕ
-formOf joined part = elim joined [ true ↦ partText part | false ↦ Plan.part part ]
+formOf joined part = elim joined [ true ↦ partText part | false ↦ Plan.partKey part ]
 
 -- the place n bytes further on
 unfoldable pub behind : ℕ → Place → Place
 behind n place = record { write = place .write; joined = place .joined; at = place .at + n }
+
+-- another place, written to where this one is
+abbrev pub movedTo : ℕ → Place → Place
+movedTo at place = record { write = place .write; joined = place .joined; at = at }
 
 -- what stands before a part's bytes: nothing where they are joined
 unfoldable pub headOf : Bool → ℕ → List ℕ

@@ -11,7 +11,7 @@ ghost use Rattle.rules.specs.Events.{Narrowing};
 ghost use Rattle.rules.specs.Plan as Plan;
 ghost use Rattle.paths.specs.Paths.{pathOf};
 ghost use Rattle.views.specs.Views.{anchorOf};
-ghost use Rattle.records.specs.Records.{put, reach, writtenAt, behind, headOf, apartOf, cut};
+ghost use Rattle.records.specs.Records.{put, reach, writtenAt, behind, movedTo, headOf, apartOf, cut};
 use file::wide16;
 use paths::Address;
 use paths::FieldPath;
@@ -277,4 +277,15 @@ pub fn apart(place: Place) -> Place
         };
     }
     place
+}
+
+// Writes the node that made a part or a residual, at a place of its own, if the part or residual is written.
+pub fn put_node(plan: &mut [u8], place: Place, at: usize, node: usize)
+    requires { ⌜ at ≤ 4 * reach ⌝ }
+    ensures { λ _. ⌜ now (plan .exit) ≡ writtenAt (movedTo at place) (Plan.u16 node) (now (plan .entry)) ⌝ }
+{
+    if !place.write {
+        return;
+    }
+    put16(plan, at, node);
 }

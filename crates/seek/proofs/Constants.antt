@@ -67,25 +67,25 @@ const-is f ix r n t h g (Co.Bytes m u l) e =
 const-is f ix r n t h g (Co.Prefix x) e = sym (known-prefix (tablesOf f) (passed f ix r) (few-nodes f ix (r .indexed)) n t h g x (sym e) .is)
 const-is f ix r n t h g (Co.Fuzzy x d a) e = sym (known-fuzzy (tablesOf f) n t x d a (sym e))
 
-module _ (T : Tables) (path : File.FieldPath) (c : Const) (s s₀ : State) where
-  by-rules : (o : Option ConstantRules.Const) → constOf T c ≡ o → s ≡ narrowedBy T o path s₀ → s ≡ narrowedBy T (constOf T c) path s₀
-  by-rules o e q = q ∙ sym (ap (λ (o : Option ConstantRules.Const). narrowedBy T o path s₀) e)
+module _ (T : Tables) (node : ℕ) (path : File.FieldPath) (c : Const) (s s₀ : State) where
+  by-rules : (o : Option ConstantRules.Const) → constOf T c ≡ o → s ≡ narrowedBy T node o path s₀ → s ≡ narrowedBy T node (constOf T c) path s₀
+  by-rules o e q = q ∙ sym (ap (λ (o : Option ConstantRules.Const). narrowedBy T node o path s₀) e)
 
-  pub by-nothing : c ≡ Co.Nothing → s ≡ s₀ → s ≡ narrowedBy T (constOf T c) path s₀
+  pub by-nothing : c ≡ Co.Nothing → s ≡ s₀ → s ≡ narrowedBy T node (constOf T c) path s₀
   unfolding constOf narrowedBy
   by-nothing e q = by-rules none (ap (constOf T) e) q
 
-  pub by-bytes : (n t l : ℕ) → c ≡ Co.Bytes n t l → constView T n t ≡ Co.Bytes n t l → s ≡ narrow path (Narrowing.Bytes (constantBytes T n t)) s₀ → s ≡ narrowedBy T (constOf T c) path s₀
+  pub by-bytes : (n t l : ℕ) → c ≡ Co.Bytes n t l → constView T n t ≡ Co.Bytes n t l → s ≡ narrow node path (Narrowing.Bytes (constantBytes T n t)) s₀ → s ≡ narrowedBy T node (constOf T c) path s₀
   unfolding constOf narrowedBy narrowBy narrowing constantBytes _whenSome_ bytesOnly
   by-bytes n t l e v q =
       let k = known-bytes T n t n t l v in
       by-rules (some (ConstantRules.Const.Bytes (k .bytes))) (ap (constOf T) e ∙ k .is)
-      (q ∙ ap (λ (o : Option ConstantRules.Const). narrow path (Narrowing.Bytes (Option·getD (o whenSome bytesOnly) [])) s₀) (k .is))
+      (q ∙ ap (λ (o : Option ConstantRules.Const). narrow node path (Narrowing.Bytes (Option·getD (o whenSome bytesOnly) [])) s₀) (k .is))
 
-  pub by-prefix : (x : ℕ) → c ≡ Co.Prefix x → s ≡ narrow path (Narrowing.Prefix (encodePrefix (nameAt T x))) s₀ → s ≡ narrowedBy T (constOf T c) path s₀
+  pub by-prefix : (x : ℕ) → c ≡ Co.Prefix x → s ≡ narrow node path (Narrowing.Prefix (encodePrefix (nameAt T x))) s₀ → s ≡ narrowedBy T node (constOf T c) path s₀
   unfolding constOf narrowedBy narrowBy narrowing
   by-prefix x e q = by-rules (some (ConstantRules.Const.Prefix (encodePrefix (nameAt T x)))) (ap (constOf T) e) q
 
-  pub by-fuzzy : (x d : ℕ) (a : Anchor) → c ≡ Co.Fuzzy x d a → s ≡ narrow path (Narrowing.Fuzzy x d (anchorOf a)) s₀ → s ≡ narrowedBy T (constOf T c) path s₀
+  pub by-fuzzy : (x d : ℕ) (a : Anchor) → c ≡ Co.Fuzzy x d a → s ≡ narrow node path (Narrowing.Fuzzy x d (anchorOf a)) s₀ → s ≡ narrowedBy T node (constOf T c) path s₀
   unfolding constOf narrowedBy narrowBy narrowing
   by-fuzzy x d a e q = by-rules (some (ConstantRules.Const.Fuzzy x d (anchorOf a))) (ap (constOf T) e) q

@@ -5,7 +5,6 @@ use mathlib.Core.List.{List, [], _∷_}
 use mathlib.Core.Option.{Option, none, some}
 use Prim.Native.Nat.{ℕ}
 use lib.Dec.{eqb}
-use lib.Seq.{sets}
 use Rattle.rules.specs.File as File
 use Rattle.rules.specs.File.{Tables, nameAt}
 use Rattle.rules.specs.Constant.{encodePrefix}
@@ -27,10 +26,10 @@ use Rattle.seek.proofs.Grows.{grow-yes, grow-no, overruns}
 use Rattle.seek.proofs.Narrows.{goes}
 
 -- a level that grows by nothing written
-grow-bare : (l : Level) (s : State) → countsFit (l .plain) (l .counts) ≡ true → state (s .over) (s .ends) l (s .target) (s .work) (s .plan) ≡ grow l 0 [] s
-grow-bare l s h = sym (grow-yes l 0 [] s h ∙ ap (state (s .over) (s .ends) l (s .target) (s .work)) (nothing (s .target .writing)))
+grow-bare : (l : Level) (s : State) → countsFit (l .plain) (l .counts) ≡ true → state (s .over) (s .ends) l (s .target) (s .work) (s .plan) ≡ grow l (λ plan. plan) s
+grow-bare l s h = sym (grow-yes l (λ plan. plan) s h ∙ ap (state (s .over) (s .ends) l (s .target) (s .work)) (nothing (s .target .writing)))
   where
-    nothing : (t : Bool) → (elim t [ true ↦ sets (s .plan) 0 [] | false ↦ s .plan ]) ≡ s .plan
+    nothing : (t : Bool) → (elim t [ true ↦ s .plan | false ↦ s .plan ]) ≡ s .plan
     nothing true = refl
     nothing false = refl
 
@@ -64,8 +63,8 @@ fellAs b x y =
       plain = b .plain;
       counts = b .counts;
       path = b .path;
-      range = record { set = x; name = b .range .name };
-      guide = record { set = y; distance = b .guide .distance; anchor = b .guide .anchor; term = b .guide .term };
+      range = record { set = x; name = b .range .name; node = b .range .node };
+      guide = record { set = y; distance = b .guide .distance; anchor = b .guide .anchor; term = b .guide .term; node = b .guide .node };
       lo = b .lo;
       hi = b .hi;
       folded = b .folded;
@@ -101,8 +100,8 @@ attaches guide building range path = elim guide [ some g ↦ false | none ↦ el
 module _ (b : SeekBuilder) (path : FieldPath) (T : Tables) where
   abbrev told : Bool → Bool → Bool → Bool
   told building guided ranged =
-      attaches (setIn building guided (record { path = pathOf (b .path); term = b .guide .term; distance = b .guide .distance; anchor = anchorOf (b .guide .anchor) })) building
-      (setIn building ranged (record { path = pathOf (b .path); prefix = encodePrefix (nameAt T (b .range .name)) })) (pathOf path)
+      attaches (setIn building guided (record { path = pathOf (b .path); term = b .guide .term; distance = b .guide .distance; anchor = anchorOf (b .guide .anchor); node = b .guide .node })) building
+      (setIn building ranged (record { path = pathOf (b .path); prefix = encodePrefix (nameAt T (b .range .name)); node = b .range .node })) (pathOf path)
 
   pub attach-builds : b .building ≡ true → true ≡ attachable (levelOf T b) (pathOf path)
   unfolding attachable levelOf guideOf rangeOf setIn
@@ -123,14 +122,14 @@ module _ (b : SeekBuilder) (path : FieldPath) (T : Tables) where
       e ∙ ap (λ t. samePath t (pathOf q)) ep ∙ ap (samePath (pathOf (b .path))) eq
       ∙ ap (told false false) (sym r) ∙ ap (λ t. told false t (b .range .set)) (sym g) ∙ ap (λ t. told t (b .guide .set) (b .range .set)) (sym h)
 
-range-stays : (building guided ranged : Bool) (g : Guide) (path at : File.FieldPath) (prefix : List ℕ)
-    → attaches (setIn building guided g) building (setIn building ranged (record { path = at; prefix = prefix })) path ≡ true
-    → setIn {A = Range} false (kept building ranged) (record { path = path; prefix = prefix }) ≡ setIn building ranged (record { path = at; prefix = prefix })
+range-stays : (building guided ranged : Bool) (g : Guide) (path at : File.FieldPath) (prefix : List ℕ) (node : ℕ)
+    → attaches (setIn building guided g) building (setIn building ranged (record { path = at; prefix = prefix; node = node })) path ≡ true
+    → setIn {A = Range} false (kept building ranged) (record { path = path; prefix = prefix; node = node }) ≡ setIn building ranged (record { path = at; prefix = prefix; node = node })
 unfolding setIn kept rangeAt
-range-stays true guided ranged g path at prefix h = refl
-range-stays false true ranged g path at prefix h = absurd (true≢false (sym h))
-range-stays false false false g path at prefix h = refl
-range-stays false false true g path at prefix h = ap (λ q. some (record { path = q; prefix = prefix })) (sym (same-path at path h))
+range-stays true guided ranged g path at prefix node h = refl
+range-stays false true ranged g path at prefix node h = absurd (true≢false (sym h))
+range-stays false false false g path at prefix node h = refl
+range-stays false false true g path at prefix node h = ap (λ q. some (record { path = q; prefix = prefix; node = node })) (sym (same-path at path h))
 
 -- the level itself, by whether the counts fit
 module _ (b : SeekBuilder) (s s0 : Sums) (es : s ≡ narrowSums s0) (e0 : s0 ≡ summed (b .counts)) (make : Counts → SeekBuilder) where
@@ -156,32 +155,32 @@ module _ (b l : SeekBuilder) (s s0 : Sums) (T : Tables) (e : Ends) (w p : List �
   unfolding countsOf
   counts-are k ek = ap countsOf ek ∙ counts-narrowed
 
-  pub guides : (k : Counts) (path : FieldPath) (name distance : ℕ) (anchor : Anchor) → k ≡ counted s → countsFit (b .plain) (sumsOf s) ≡ true → attachable (levelOf T b) (pathOf path) ≡ true
-      → stateOf T (guidedAt l k path name distance anchor) e w p
-      ≡ grow (withGuide (record { path = pathOf path; term = name; distance = distance; anchor = anchorOf anchor }) (levelOf T b)) 0 [] (stateOf T b e w p)
+  pub guides : (k : Counts) (path : FieldPath) (name distance : ℕ) (anchor : Anchor) (node : ℕ) → k ≡ counted s → countsFit (b .plain) (sumsOf s) ≡ true → attachable (levelOf T b) (pathOf path) ≡ true
+      → stateOf T (guidedAt l k path name distance anchor node) e w p
+      ≡ grow (withGuide (record { path = pathOf path; term = name; distance = distance; anchor = anchorOf anchor; node = node }) (levelOf T b)) (λ plan. plan) (stateOf T b e w p)
   unfolding stateOf levelOf guideOf rangeOf edgesOf fell setIn withGuide attachable
-  guides k path name distance anchor ek h a =
-      let g : Guide = record { path = pathOf path; term = name; distance = distance; anchor = anchorOf anchor } in
+  guides k path name distance anchor node ek h a =
+      let g : Guide = record { path = pathOf path; term = name; distance = distance; anchor = anchorOf anchor; node = node } in
       let made : InState.Counts → Option Range → State =
       λ c r. state (b .over) e (record { building = false; plain = b .plain; counts = c; guide = some g; range = r; edges = edgesOf T b }) (targetOf (b .target)) w p in
-      ap (λ x. stateOf T (guidedAt x k path name distance anchor) e w p) el
-      ∙ ap (λ c. made c (rangeOf T (guidedAt (fell b) k path name distance anchor))) (counts-are k ek)
-      ∙ ap (made (narrowed (countsOf (b .counts)))) (range-stays (b .building) (b .guide .set) (b .range .set) _ (pathOf path) (pathOf (b .path)) (encodePrefix (nameAt T (b .range .name))) a)
+      ap (λ x. stateOf T (guidedAt x k path name distance anchor node) e w p) el
+      ∙ ap (λ c. made c (rangeOf T (guidedAt (fell b) k path name distance anchor node))) (counts-are k ek)
+      ∙ ap (made (narrowed (countsOf (b .counts)))) (range-stays (b .building) (b .guide .set) (b .range .set) _ (pathOf path) (pathOf (b .path)) (encodePrefix (nameAt T (b .range .name))) (b .range .node) a)
       ∙ grow-bare (withGuide g (levelOf T b)) (stateOf T b e w p) (ap (countsFit (b .plain)) (sym counts-narrowed) ∙ h)
 
-  pub ranges : (k : Counts) (path : FieldPath) (name : ℕ) → k ≡ counted s → countsFit (b .plain) (sumsOf s) ≡ true → b .building ≡ true
-      → stateOf T (rangedAt l k path name) e w p ≡ grow (withRange (pathOf path) (encodePrefix (nameAt T name)) (levelOf T b)) 0 [] (stateOf T b e w p)
+  pub ranges : (k : Counts) (path : FieldPath) (name node : ℕ) → k ≡ counted s → countsFit (b .plain) (sumsOf s) ≡ true → b .building ≡ true
+      → stateOf T (rangedAt l k path name node) e w p ≡ grow (withRange node (pathOf path) (encodePrefix (nameAt T name)) (levelOf T b)) (λ plan. plan) (stateOf T b e w p)
   unfolding stateOf levelOf guideOf rangeOf edgesOf fell setIn withRange
-  ranges k path name ek h on =
-      let r : Range = record { path = pathOf path; prefix = encodePrefix (nameAt T name) } in
+  ranges k path name node ek h on =
+      let r : Range = record { path = pathOf path; prefix = encodePrefix (nameAt T name); node = node } in
       let made : InState.Counts → Option Guide → State =
       λ c g. state (b .over) e (record { building = false; plain = b .plain; counts = c; guide = g; range = some r; edges = edgesOf T b }) (targetOf (b .target)) w p in
-      ap (λ x. stateOf T (rangedAt x k path name) e w p) el
-      ∙ ap (λ c. made c (guideOf (rangedAt (fell b) k path name))) (counts-are k ek)
+      ap (λ x. stateOf T (rangedAt x k path name node) e w p) el
+      ∙ ap (λ c. made c (guideOf (rangedAt (fell b) k path name node))) (counts-are k ek)
       ∙ ap (made (narrowed (countsOf (b .counts)))) (not-kept (b .building) (b .guide .set) (b .guide .set) _ _ on)
-      ∙ grow-bare (withRange (pathOf path) (encodePrefix (nameAt T name)) (levelOf T b)) (stateOf T b e w p) (ap (countsFit (b .plain)) (sym counts-narrowed) ∙ h)
+      ∙ grow-bare (withRange node (pathOf path) (encodePrefix (nameAt T name)) (levelOf T b)) (stateOf T b e w p) (ap (countsFit (b .plain)) (sym counts-narrowed) ∙ h)
 
   -- what does not fit stops the level, whatever it was to become
-  pub stops : (l′ : Level) (r : SeekBuilder) → l′ .plain ≡ b .plain → l′ .counts ≡ narrowed (countsOf (b .counts)) → r ≡ overrun b → countsFit (b .plain) (sumsOf s) ≡ false → stateOf T r e w p ≡ grow l′ 0 [] (stateOf T b e w p)
+  pub stops : (l′ : Level) (r : SeekBuilder) → l′ .plain ≡ b .plain → l′ .counts ≡ narrowed (countsOf (b .counts)) → r ≡ overrun b → countsFit (b .plain) (sumsOf s) ≡ false → stateOf T r e w p ≡ grow l′ (λ plan. plan) (stateOf T b e w p)
   stops l′ r ep ec er h =
-      ap (λ x. stateOf T x e w p) er ∙ overruns b T e w p ∙ sym (grow-no l′ 0 [] (stateOf T b e w p) (ap (λ t. countsFit t (l′ .counts)) ep ∙ ap (countsFit (b .plain)) (ec ∙ sym counts-narrowed) ∙ h))
+      ap (λ x. stateOf T x e w p) er ∙ overruns b T e w p ∙ sym (grow-no l′ (λ plan. plan) (stateOf T b e w p) (ap (λ t. countsFit t (l′ .counts)) ep ∙ ap (countsFit (b .plain)) (ec ∙ sym counts-narrowed) ∙ h))

@@ -1,13 +1,13 @@
 -- When a level fits a plan, test by test.
 use mathlib.Core.Path.{_≡_, refl, sym, ap, _∙_}
 use mathlib.Core.Bool.{Bool, true, false}
-use Prim.Native.Nat.{ℕ, _+_, _≤_, _<_}
+use Prim.Native.Nat.{ℕ, _+_, _*_, _≤_, _<_}
 use native.Mathlib.Omega.{arith}
 use lib.Dec.{leb}
 use borrow.Author.Tests.{le-leb, lt-leb}
 use Rattle.rules.specs.Base.{both}
 use Rattle.rules.proofs.Cases.{leb-le, both-left, both-right}
-use Rattle.state.specs.State.{Level, fits, partBytes}
+use Rattle.state.specs.State.{Level, fits, joinedBytes, partBytes}
 use Rattle.seek.specs.Seek.{Below, sumsOf, partsSize, countsFit}
 use Rattle.seek.specs.declared.Sums.{Sums}
 
@@ -20,10 +20,10 @@ all-five a b c d e h =
 
 -- a level fits by its counts alone
 pub fits-counts : (l : Level) → fits l ≡ countsFit (l .plain) (l .counts)
-unfolding fits countsFit partBytes
+unfolding fits countsFit partBytes joinedBytes
 fits-counts l = refl
 
-pub size-plain : (plain : Bool) (s : Sums) → plain ≡ true → s .joined ≡ partsSize plain s
+pub size-plain : (plain : Bool) (s : Sums) → plain ≡ true → s .joined + 2 * (s .closers + s .others) ≡ partsSize plain s
 unfolding partsSize
 size-plain plain s e = ap (λ b. partsSize b s) (sym e)
 
@@ -35,7 +35,7 @@ module _ (plain : Bool) (s : Sums) where
   tests : countsFit plain (sumsOf s)
       ≡ both (leb (partsSize plain s + s .rest) 16384)
       (both (leb (s .joined + s .framed) 65536) (both (leb (s .narrowings) 65535) (both (leb (s .closers + s .others) 65535) (leb (s .residuals) 65535))))
-  unfolding countsFit fits partBytes sumsOf partsSize
+  unfolding countsFit fits partBytes joinedBytes sumsOf partsSize
   tests = refl
 
   pub too-long : (n : ℕ) → n ≡ partsSize plain s → 16384 < n + s .rest → false ≡ countsFit plain (sumsOf s)

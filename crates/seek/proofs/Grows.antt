@@ -3,13 +3,14 @@ use mathlib.Core.Path.{_≡_, refl, sym, ap, _∙_, transport}
 use mathlib.Core.Bool.{Bool, true, false}
 use mathlib.Core.List.{List}
 use Prim.Native.Nat.{ℕ, min}
-use lib.Seq.{sets}
 use Rattle.rules.specs.File.{Tables}
+use Rattle.rules.specs.Plan as Plan
 use Rattle.rules.proofs.Cases.{true≢false, pick}
 use Rattle.state.specs.State as InState
 use Rattle.state.specs.State.{Ends, Level, State, state, stop, unless, fits}
-use Rattle.state.specs.Ops.{grow, narrowed, closed}
-use Rattle.records.specs.Records.{put, writtenAt}
+use Rattle.state.specs.Ops.{grow, putMade, narrowed, closed}
+use Rattle.records.specs.Records.{put, writtenAt, movedTo}
+use Rattle.records.specs.declared.Place.{Place}
 use Rattle.seek.specs.Seek.{sumsOf, counted, countsOf, guideOf, rangeOf, edgesOf, levelOf, stateOf, countsFit, overrun, recounted, grownBy}
 use Rattle.seek.specs.declared.Counts.{Counts}
 use Rattle.seek.specs.declared.Sums.{Sums}
@@ -40,15 +41,28 @@ abbrev pub counting : Bool → InState.Counts → InState.Counts
 counting true c = closed c
 counting false c = narrowed c
 
-module _ (l : Level) (at : ℕ) (bytes : List ℕ) (s : State) where
+module _ (l : Level) (write : List ℕ → List ℕ) (s : State) where
   pub grow-yes : countsFit (l .plain) (l .counts) ≡ true
-      → grow l at bytes s ≡ state (s .over) (s .ends) l (s .target) (s .work) (elim (s .target .writing) [ true ↦ sets (s .plan) at bytes | false ↦ s .plan ])
+      → grow l write s ≡ state (s .over) (s .ends) l (s .target) (s .work) (elim (s .target .writing) [ true ↦ write (s .plan) | false ↦ s .plan ])
   unfolding grow
   grow-yes e = pick (fits l) true _ _ (fits-counts l ∙ e)
 
-  pub grow-no : countsFit (l .plain) (l .counts) ≡ false → grow l at bytes s ≡ stop s
+  pub grow-no : countsFit (l .plain) (l .counts) ≡ false → grow l write s ≡ stop s
   unfolding grow
   grow-no e = pick (fits l) false _ _ (fits-counts l ∙ e)
+
+-- a node and then a form, where both are written or neither
+node-written : (place : Place) (bytes : List ℕ) (nodeAt node : ℕ) (p : List ℕ)
+    → writtenAt place bytes (writtenAt (movedTo nodeAt place) (Plan.u16 node) p) ≡ elim (place .write) [ true ↦ putMade (place .at) bytes nodeAt node p | false ↦ p ]
+unfolding writtenAt put putMade
+node-written place bytes nodeAt node p = go (place .write)
+  where
+    laid : Bool → ℕ → List ℕ → List ℕ → List ℕ
+    laid t at xs v = elim t [ true ↦ put v at xs | false ↦ v ]
+
+    go : (t : Bool) → laid t (place .at) bytes (laid t nodeAt (Plan.u16 node) p) ≡ elim t [ true ↦ putMade (place .at) bytes nodeAt node p | false ↦ p ]
+    go true = refl
+    go false = refl
 
 pub overruns : (b : SeekBuilder) (T : Tables) (e : Ends) (w p : List ℕ) → stateOf T (overrun b) e w p ≡ stop (stateOf T b e w p)
 unfolding overrun stateOf levelOf guideOf rangeOf edgesOf stop
@@ -95,14 +109,23 @@ module _ (b : SeekBuilder) (plain : Bool) (s : Sums) (at : ℕ) where
   pub grown-fits : grownBy plain s at b .place .write ≡ true → countsFit plain (sumsOf s) ≡ true
   grown-fits = grown-by (λ x. x .place .write ≡ true → countsFit plain (sumsOf s) ≡ true) (λ h w. h) (λ h w. absurd (true≢false (sym w)))
 
-  module _ (T : Tables) (e : Ends) (w p bytes : List ℕ) where
-    grows-yes : countsFit plain (sumsOf s) ≡ true → stateOf T (yes .level) e w (writtenAt (yes .place) bytes p) ≡ grow (resummed plain s (levelOf T b)) at bytes (stateOf T b e w p)
-    unfolding recounted stateOf levelOf countsOf guideOf rangeOf edgesOf resummed writtenAt put
-    grows-yes h = sym (grow-yes (resummed plain s (levelOf T b)) at bytes (stateOf T b e w p) h)
+  module _ (T : Tables) (e : Ends) (w p bytes : List ℕ) (nodeAt node : ℕ) where
+    -- the plan with the node and the form written where a level says
+    abbrev laid : Placed → List ℕ
+    laid x = writtenAt (x .place) bytes (writtenAt (movedTo nodeAt (x .place)) (Plan.u16 node) p)
 
-    grows-no : countsFit plain (sumsOf s) ≡ false → stateOf T (no .level) e w (writtenAt (no .place) bytes p) ≡ grow (resummed plain s (levelOf T b)) at bytes (stateOf T b e w p)
+    abbrev Grew : Placed → Type 0
+    Grew x = stateOf T (x .level) e w (laid x) ≡ grow (resummed plain s (levelOf T b)) (putMade at bytes nodeAt node) (stateOf T b e w p)
+
+    grows-yes : countsFit plain (sumsOf s) ≡ true → Grew yes
+    unfolding recounted stateOf levelOf countsOf guideOf rangeOf edgesOf resummed
+    grows-yes h =
+        ap (stateOf T (yes .level) e w) (node-written (yes .place) bytes nodeAt node p)
+        ∙ sym (grow-yes (resummed plain s (levelOf T b)) (putMade at bytes nodeAt node) (stateOf T b e w p) h)
+
+    grows-no : countsFit plain (sumsOf s) ≡ false → Grew no
     unfolding resummed writtenAt
-    grows-no h = overruns b T e w p ∙ sym (grow-no (resummed plain s (levelOf T b)) at bytes (stateOf T b e w p) h)
+    grows-no h = overruns b T e w p ∙ sym (grow-no (resummed plain s (levelOf T b)) (putMade at bytes nodeAt node) (stateOf T b e w p) h)
 
-    pub grown-is : stateOf T (grownBy plain s at b .level) e w (writtenAt (grownBy plain s at b .place) bytes p) ≡ grow (resummed plain s (levelOf T b)) at bytes (stateOf T b e w p)
-    grown-is = grown-by (λ x. stateOf T (x .level) e w (writtenAt (x .place) bytes p) ≡ grow (resummed plain s (levelOf T b)) at bytes (stateOf T b e w p)) grows-yes grows-no
+    pub grown-is : Grew (grownBy plain s at b)
+    grown-is = grown-by Grew grows-yes grows-no

@@ -22,9 +22,9 @@ constOf T (Co.Bytes n t len) = ConstantRules.constant T n t
 constOf T (Co.Prefix x) = some (ConstantRules.Const.Prefix (encodePrefix (nameAt T x)))
 constOf T (Co.Fuzzy x d a) = some (ConstantRules.Const.Fuzzy x d (anchorOf a))
 
--- Rust `narrow_by`; without a constant nothing changes
-unfoldable pub narrowedBy : Tables → Option ConstantRules.Const → File.FieldPath → State → State
-narrowedBy T o path s = elim o [ some c ↦ Walk.narrowBy (ops T) T c path s | none ↦ s ]
+-- Rust `narrow_by`, with the node that made the narrowing; without a constant nothing changes
+unfoldable pub narrowedBy : Tables → ℕ → Option ConstantRules.Const → File.FieldPath → State → State
+narrowedBy T n o path s = elim o [ some c ↦ Walk.narrowBy (ops T) T n c path s | none ↦ s ]
 
 -- what `constant` gives for some node and type of the file
 pub record IsConstant (T : Tables) (c : Const) : Type 0 where

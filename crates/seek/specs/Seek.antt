@@ -2,7 +2,7 @@
 use mathlib.Core.Bool.{Bool, true, false}
 use mathlib.Core.List.{List, [], _∷_}
 use mathlib.Core.Option.{Option, none, some, Option·getD}
-use Prim.Native.Nat.{ℕ, _+_, _<_}
+use Prim.Native.Nat.{ℕ, _+_, _*_, _<_}
 use Rattle.rules.specs.Base.{_whenSome_, both}
 use Rattle.rules.specs.File.{Tables, nameAt, fieldPath}
 use Rattle.rules.specs.Constant.{constant, bytesOnly, encodePrefix}
@@ -78,12 +78,14 @@ setIn building set x = elim building [ true ↦ none | false ↦ elim set [ true
 unfoldable pub guideOf : SeekBuilder → Option Placement.Guide
 guideOf b =
     let g = b .guide in
-    setIn (b .building) (g .set) (record { path = pathOf (b .path); term = g .term; distance = g .distance; anchor = anchorOf (g .anchor) })
+    let anchor = anchorOf (g .anchor) in
+    setIn (b .building) (g .set)
+    (record { path = pathOf (b .path); term = g .term; distance = g .distance; anchor = anchor; node = g .node })
 
 unfoldable pub rangeOf : Tables → SeekBuilder → Option Placement.Range
 rangeOf T b =
     let prefix = encodePrefix (nameAt T (b .range .name)) in
-    setIn (b .building) (b .range .set) (record { path = pathOf (b .path); prefix = prefix })
+    setIn (b .building) (b .range .set) (record { path = pathOf (b .path); prefix = prefix; node = b .range .node })
 
 -- A constant stays a position until it is written.
 unfoldable pub constantBytes : Tables → ℕ → ℕ → List ℕ
@@ -122,13 +124,13 @@ levelOf T b =
     }
 
 abbrev pub targetOf : Target → InState.Target
-targetOf t = record { writing = t .writing; joining = t .joining; partsAt = t .parts; restAt = t .rest }
+targetOf t = record { writing = t .writing; joining = t .joining; partsAt = t .parts; nodesAt = t .nodes; restAt = t .rest }
 
 unfoldable pub stateOf : Tables → SeekBuilder → Ends → List ℕ → List ℕ → State
 stateOf T b e work plan = state (b .over) e (levelOf T b) (targetOf (b .target)) work plan
 
 unfoldable pub partsSize : Bool → Sums → ℕ
-partsSize plain c = elim plain [ true ↦ c .joined | false ↦ c .joined + c .framed ]
+partsSize plain c = elim plain [ true ↦ c .joined + 2 * (c .closers + c .others) | false ↦ c .joined + c .framed ]
 
 -- whether a level with these counts fits a plan
 unfoldable pub countsFit : Bool → InState.Counts → Bool
@@ -197,8 +199,8 @@ newBuilder target =
       plain = true;
       counts = noCounts;
       path = pathFor (fieldPath 0);
-      range = record { set = false; name = 0 };
-      guide = record { set = false; distance = 0; anchor = An.Prefix; term = 0 };
+      range = record { set = false; name = 0; node = 0 };
+      guide = record { set = false; distance = 0; anchor = An.Prefix; term = 0; node = 0 };
       lo = noEdge;
       hi = noEdge;
       folded = record { first = 0; second = 0 };
@@ -218,13 +220,14 @@ fell b =
       plain = b .plain;
       counts = b .counts;
       path = b .path;
-      range = record { set = kept (b .building) (b .range .set); name = b .range .name };
+      range = record { set = kept (b .building) (b .range .set); name = b .range .name; node = b .range .node };
       guide =
           record {
             set = kept (b .building) (b .guide .set);
             distance = b .guide .distance;
             anchor = b .guide .anchor;
             term = b .guide .term;
+            node = b .guide .node;
           };
       lo = b .lo;
       hi = b .hi;
@@ -276,8 +279,8 @@ grownBy plain s at b =
     ]
 
 -- the level with other counts and a guide, and with other counts and a range; the path is that of what was set last
-abbrev pub guidedAt : SeekBuilder → Counts → FieldPath → ℕ → ℕ → Anchor → SeekBuilder
-guidedAt b c path name distance anchor =
+abbrev pub guidedAt : SeekBuilder → Counts → FieldPath → ℕ → ℕ → Anchor → ℕ → SeekBuilder
+guidedAt b c path name distance anchor node =
     record {
       over = b .over;
       building = b .building;
@@ -285,22 +288,22 @@ guidedAt b c path name distance anchor =
       counts = c;
       path = path;
       range = b .range;
-      guide = record { set = true; distance = distance; anchor = anchor; term = name };
+      guide = record { set = true; distance = distance; anchor = anchor; term = name; node = node };
       lo = b .lo;
       hi = b .hi;
       folded = b .folded;
       target = b .target;
     }
 
-abbrev pub rangedAt : SeekBuilder → Counts → FieldPath → ℕ → SeekBuilder
-rangedAt b c path name =
+abbrev pub rangedAt : SeekBuilder → Counts → FieldPath → ℕ → ℕ → SeekBuilder
+rangedAt b c path name node =
     record {
       over = b .over;
       building = b .building;
       plain = b .plain;
       counts = c;
       path = path;
-      range = record { set = true; name = name };
+      range = record { set = true; name = name; node = node };
       guide = b .guide;
       lo = b .lo;
       hi = b .hi;
@@ -314,26 +317,33 @@ narrowedTo make b =
     let s = narrowSums (summed (b .counts)) in
     elim (countsFit (b .plain) (sumsOf s)) [ true ↦ make (counted s) | false ↦ overrun b ]
 
-unfoldable pub guidedBy : FieldPath → ℕ → ℕ → Anchor → SeekBuilder → SeekBuilder
-guidedBy path name distance anchor b = narrowedTo (λ c. guidedAt (fell b) c path name distance anchor) b
+unfoldable pub guidedBy : FieldPath → ℕ → ℕ → Anchor → ℕ → SeekBuilder → SeekBuilder
+guidedBy path name distance anchor node b = narrowedTo (λ c. guidedAt (fell b) c path name distance anchor node) b
 
-unfoldable pub rangedBy : FieldPath → ℕ → SeekBuilder → SeekBuilder
-rangedBy path name b = narrowedTo (λ c. rangedAt (fell b) c path name) b
+unfoldable pub rangedBy : FieldPath → ℕ → ℕ → SeekBuilder → SeekBuilder
+rangedBy path name node b = narrowedTo (λ c. rangedAt (fell b) c path name node) b
 
--- where the next part is written, and the next residual
+-- where the next part is written
 unfoldable pub partPlace : SeekBuilder → ℕ
 partPlace b =
     let c = b .counts in
     b .target .parts + (elim (b .target .joining) [ true ↦ c .joined | false ↦ c .joined + c .framed ])
 
+-- where the node of a part is written whose form ends at a place: there, or with the others' behind the joined text
+unfoldable pub nodePlace : ℕ → SeekBuilder → ℕ
+nodePlace end b =
+    let c = b .counts in
+    elim (b .target .joining) [ true ↦ b .target .nodes + 2 * (c .closers + c .others) | false ↦ end ]
+
+-- where the next residual is written
 unfoldable pub restPlace : SeekBuilder → ℕ
 restPlace b = b .target .rest + b .counts .rest
 
--- one part more, of text bytes that its plan form frames by frame
+-- one part more, of text bytes that its plan form frames by frame, and with two bytes of its node
 unfoldable pub partBy : Bool → Bool → ℕ → ℕ → SeekBuilder → Placed
 partBy closer bytes text frame b =
-    grownBy (both (b .plain) bytes) (partSums closer text frame (summed (b .counts))) (partPlace b) b
+    grownBy (both (b .plain) bytes) (partSums closer text (frame + 2) (summed (b .counts))) (partPlace b) b
 
--- one residual more, of size bytes
+-- one residual more, of size bytes and two of its node
 unfoldable pub residualBy : ℕ → SeekBuilder → Placed
-residualBy size b = grownBy (b .plain) (restSums size (summed (b .counts))) (restPlace b) b
+residualBy size b = grownBy (b .plain) (restSums (size + 2) (summed (b .counts))) (restPlace b) b

@@ -1,7 +1,7 @@
 // The guide of a fuzzy text and the range of a prefix. Building falls with either.
 ghost use mathlib.Core.Path.{_≡_};
 ghost use mathlib.Core.Bool.{true};
-ghost use mathlib.Core.List.{List, []};
+ghost use mathlib.Core.List.{List};
 ghost use Prim.Native.Nat.{ℕ};
 ghost use Rattle.rules.specs.File.{Tables, nameAt};
 ghost use Rattle.rules.specs.Constant.{encodePrefix};
@@ -43,15 +43,23 @@ impl SeekBuilder {
         }
     }
 
-    fn guided(self, path: FieldPath, name: usize, distance: u8, anchor: Anchor) -> SeekBuilder
+    fn guided(
+        self,
+        path: FieldPath,
+        name: usize,
+        distance: u8,
+        anchor: Anchor,
+        node: usize,
+    ) -> SeekBuilder
         requires { ⌜ ((T : Tables) → Ops.attachable (levelOf T self) (pathOf path) ≡ true) ⌝ }
         ensures places { λ r. ⌜ ((T : Tables) (e : Ends) (w p : List ℕ) →
-            let guide : Placement.Guide = record { path = pathOf path; term = name; distance = distance; anchor = anchorOf anchor } in
+            let guide : Placement.Guide =
+            record { path = pathOf path; term = name; distance = distance; anchor = anchorOf anchor; node = node } in
             let before = stateOf T self e w p in
             let after = stateOf T r e w p in
-            after ≡ Ops.grow (Ops.withGuide guide (levelOf T self)) 0 [] before
+            after ≡ Ops.grow (Ops.withGuide guide (levelOf T self)) (λ plan. plan) before
             ) ⌝ }
-        ensures whole { λ r. ⌜ r ≡ guidedBy path name distance anchor self ⌝ }
+        ensures whole { λ r. ⌜ r ≡ guidedBy path name distance anchor node self ⌝ }
     {
         let c = self.counts;
         let s = c.sums().with_narrowing();
@@ -63,6 +71,7 @@ impl SeekBuilder {
                 distance,
                 anchor,
                 term: name,
+                node,
             };
             l.counts = k;
             l.path = path;
@@ -79,15 +88,16 @@ impl SeekBuilder {
         name: usize,
         distance: u8,
         anchor: Anchor,
+        node: usize,
         plan: &mut [u8],
     ) -> SeekBuilder
         ensures { λ r. ⌜ ((T : Tables) (e : Ends) (w : List ℕ) →
             let before = stateOf T self e w (now (plan .entry)) in
             let after = stateOf T r e w (now (plan .exit)) in
-            after ≡ Ops.putResidual (pathOf path) (Narrowing.Fuzzy name distance (anchorOf anchor)) before
+            after ≡ Ops.putResidual node (pathOf path) (Narrowing.Fuzzy name distance (anchorOf anchor)) before
             ) ⌝ }
     {
-        let p = self.residual(path_size(path) + 5);
+        let p = self.residual(path_size(path) + 5, node, plan);
         let place = p.place;
         let at = put_path_at(plan, place, path);
         put_fuzzy(plan, at, name, distance, anchor);
@@ -101,40 +111,46 @@ impl SeekBuilder {
         name: usize,
         distance: u8,
         anchor: Anchor,
+        node: usize,
         plan: &mut [u8],
     ) -> SeekBuilder
         ensures { λ r. ⌜ ((T : Tables) (e : Ends) (w : List ℕ) →
             let before = stateOf T self e w (now (plan .entry)) in
             let after = stateOf T r e w (now (plan .exit)) in
-            after ≡ Ops.narrow (pathOf path) (Narrowing.Fuzzy name distance (anchorOf anchor)) before
+            after ≡ Ops.narrow node (pathOf path) (Narrowing.Fuzzy name distance (anchorOf anchor)) before
             ) ⌝ }
     {
         if self.over {
             return self;
         }
         if self.attachable(path) {
-            self.guided(path, name, distance, anchor)
+            self.guided(path, name, distance, anchor, node)
         } else {
-            self.fuzzy_residual(path, name, distance, anchor, plan)
+            self.fuzzy_residual(path, name, distance, anchor, node, plan)
         }
     }
 
     // A prefix while building: the range.
-    pub fn ranged(self, path: FieldPath, name: u16) -> SeekBuilder
+    pub fn ranged(self, path: FieldPath, name: u16, node: usize) -> SeekBuilder
         requires { ⌜ self .building ≡ true ⌝ }
         ensures places { λ r. ⌜ ((T : Tables) (e : Ends) (w p : List ℕ) →
             let before = stateOf T self e w p in
             let after = stateOf T r e w p in
-            after ≡ Ops.grow (Ops.withRange (pathOf path) (encodePrefix (nameAt T name)) (levelOf T self)) 0 [] before
+            let level = Ops.withRange node (pathOf path) (encodePrefix (nameAt T name)) (levelOf T self) in
+            after ≡ Ops.grow level (λ plan. plan) before
             ) ⌝ }
-        ensures whole { λ r. ⌜ r ≡ rangedBy path name self ⌝ }
+        ensures whole { λ r. ⌜ r ≡ rangedBy path name node self ⌝ }
     {
         let c = self.counts;
         let s = c.sums().with_narrowing();
         if s.fits(self.plain) {
             let k = s.counts();
             let mut l = self.fallen();
-            let range = Range { set: true, name };
+            let range = Range {
+                set: true,
+                name,
+                node,
+            };
             l.counts = k;
             l.path = path;
             l.range = range;

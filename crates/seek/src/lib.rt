@@ -53,12 +53,14 @@ pub struct Guide {
     pub distance: u8,
     pub anchor: Anchor,
     pub term: usize,
+    pub node: usize,
 }
 
 // A Prefix node's text is its name.
 pub struct Range {
     pub set: bool,
     pub name: u16,
+    pub node: usize,
 }
 
 // The indices of the comparisons that gave the edges, as many as there are edges.
@@ -67,11 +69,12 @@ pub struct Folded {
     pub second: u16,
 }
 
-// Where the parts and the residuals begin in the plan.
+// Where the parts, their nodes if the parts are joined, and the residuals begin in the plan.
 pub struct Target {
     pub writing: bool,
     pub joining: bool,
     pub parts: u32,
+    pub nodes: u32,
     pub rest: u32,
 }
 
@@ -132,12 +135,14 @@ impl SeekBuilder {
             range: Range {
                 set: false,
                 name: 0,
+                node: 0,
             },
             guide: Guide {
                 set: false,
                 distance: 0,
                 anchor: Anchor::Prefix,
                 term: 0,
+                node: 0,
             },
             lo: edge,
             hi: edge,
@@ -169,12 +174,14 @@ impl SeekBuilder {
         let range = Range {
             set: kept(self.building, r.set),
             name: r.name,
+            node: r.node,
         };
         let guide = Guide {
             set: kept(self.building, g.set),
             distance: g.distance,
             anchor,
             term: g.term,
+            node: g.node,
         };
         l.building = false;
         l.range = range;

@@ -40,13 +40,13 @@ impl Counts {
 }
 
 impl Sums {
-    // How long the parts are: joined while all of them are bytes.
+    // How long the parts are: while all of them are bytes their texts are joined, and each has a node of two bytes.
     fn bytes(self, plain: bool) -> usize
         requires { ⌜ Below reach self ⌝ }
-        ensures { λ r. ⌜ (r ≡ partsSize plain self) × (r < 2 * reach) ⌝ }
+        ensures { λ r. ⌜ (r ≡ partsSize plain self) × (r < 5 * reach) ⌝ }
     {
         if plain {
-            self.joined
+            self.joined + 2 * (self.closers + self.others)
         } else {
             self.joined + self.framed
         }

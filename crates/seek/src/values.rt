@@ -74,26 +74,27 @@ impl SeekBuilder {
         self,
         file: &[u8],
         index: &[u16],
-        node: usize,
+        value: usize,
         ty: usize,
         len: usize,
+        node: usize,
         plan: &mut [u8],
     ) -> SeekBuilder
         requires { ⌜ AcceptedFile (now file) (now index) ⌝ }
-        requires { ⌜ node < length (tablesOf (now file) .nodes) ⌝ }
+        requires { ⌜ value < length (tablesOf (now file) .nodes) ⌝ }
         requires { ⌜ ty < length (tablesOf (now file) .types) ⌝ }
-        requires { ⌜ constView (tablesOf (now file)) node ty ≡ Const.Bytes node ty len ⌝ }
+        requires { ⌜ constView (tablesOf (now file)) value ty ≡ Const.Bytes value ty len ⌝ }
         ensures { λ r. ⌜ ((e : Ends) (w : List ℕ) →
             let T = tablesOf (now (file .entry)) in
             let before = stateOf T self e w (now (plan .entry)) in
             let after = stateOf T r e w (now (plan .exit)) in
-            after ≡ Ops.putPart (SeekKeyPart.Bytes (constantBytes T node ty)) (Ops.narrowed (countsOf (self .counts))) before
+            after ≡ Ops.putPart node (SeekKeyPart.Bytes (constantBytes T value ty)) (Ops.narrowed (countsOf (self .counts))) before
             ) ⌝ }
     {
-        let p = self.part(false, true, len, 3);
+        let p = self.part(false, true, len, 3, node, plan);
         let place = p.place;
         let at = put_head(plan, place, len);
-        put_constant_at(file, index, plan, at, node, ty);
+        put_constant_at(file, index, plan, at, value, ty);
         p.level
     }
 
@@ -102,59 +103,61 @@ impl SeekBuilder {
         file: &[u8],
         index: &[u16],
         path: FieldPath,
-        node: usize,
+        value: usize,
         ty: usize,
         len: usize,
+        node: usize,
         plan: &mut [u8],
     ) -> SeekBuilder
         requires { ⌜ AcceptedFile (now file) (now index) ⌝ }
-        requires { ⌜ node < length (tablesOf (now file) .nodes) ⌝ }
+        requires { ⌜ value < length (tablesOf (now file) .nodes) ⌝ }
         requires { ⌜ ty < length (tablesOf (now file) .types) ⌝ }
-        requires { ⌜ constView (tablesOf (now file)) node ty ≡ Const.Bytes node ty len ⌝ }
+        requires { ⌜ constView (tablesOf (now file)) value ty ≡ Const.Bytes value ty len ⌝ }
         ensures { λ r. ⌜ ((e : Ends) (w : List ℕ) →
             let T = tablesOf (now (file .entry)) in
             let before = stateOf T self e w (now (plan .entry)) in
             let after = stateOf T r e w (now (plan .exit)) in
-            after ≡ Ops.putResidual (pathOf path) (Narrowing.Bytes (constantBytes T node ty)) before
+            after ≡ Ops.putResidual node (pathOf path) (Narrowing.Bytes (constantBytes T value ty)) before
             ) ⌝ }
     {
-        let p = self.residual(path_size(path) + 3 + len);
+        let p = self.residual(path_size(path) + 3 + len, node, plan);
         let place = p.place;
         let op = put_path_at(plan, place, path);
         let at = put_text_at(plan, op, 0, len);
-        put_constant_at(file, index, plan, at, node, ty);
+        put_constant_at(file, index, plan, at, value, ty);
         p.level
     }
 
-    // A constant that is bytes, `len` of them or too many for a plan: a part while building, else a residual.
+    // A constant of node `value` that is bytes, `len` of them or too many for a plan: a part while building, else a residual.
     pub fn bytes(
         self,
         file: &[u8],
         index: &[u16],
         path: FieldPath,
-        node: usize,
+        value: usize,
         ty: usize,
         len: usize,
+        node: usize,
         plan: &mut [u8],
     ) -> SeekBuilder
         requires { ⌜ AcceptedFile (now file) (now index) ⌝ }
-        requires { ⌜ node < length (tablesOf (now file) .nodes) ⌝ }
+        requires { ⌜ value < length (tablesOf (now file) .nodes) ⌝ }
         requires { ⌜ ty < length (tablesOf (now file) .types) ⌝ }
-        requires { ⌜ constView (tablesOf (now file)) node ty ≡ Const.Bytes node ty len ⌝ }
+        requires { ⌜ constView (tablesOf (now file)) value ty ≡ Const.Bytes value ty len ⌝ }
         ensures { λ r. ⌜ ((e : Ends) (w : List ℕ) →
             let T = tablesOf (now (file .entry)) in
             let before = stateOf T self e w (now (plan .entry)) in
             let after = stateOf T r e w (now (plan .exit)) in
-            after ≡ Ops.narrow (pathOf path) (Narrowing.Bytes (constantBytes T node ty)) before
+            after ≡ Ops.narrow node (pathOf path) (Narrowing.Bytes (constantBytes T value ty)) before
             ) ⌝ }
     {
         if self.over {
             return self;
         }
         if self.building {
-            self.bytes_part(file, index, node, ty, len, plan)
+            self.bytes_part(file, index, value, ty, len, node, plan)
         } else {
-            self.bytes_residual(file, index, path, node, ty, len, plan)
+            self.bytes_residual(file, index, path, value, ty, len, node, plan)
         }
     }
 
@@ -164,6 +167,7 @@ impl SeekBuilder {
         index: &[u16],
         path: FieldPath,
         name: usize,
+        node: usize,
         plan: &mut [u8],
     ) -> SeekBuilder
         requires { ⌜ AcceptedFile (now file) (now index) ⌝ }
@@ -172,11 +176,11 @@ impl SeekBuilder {
             let T = tablesOf (now (file .entry)) in
             let before = stateOf T self e w (now (plan .entry)) in
             let after = stateOf T r e w (now (plan .exit)) in
-            after ≡ Ops.putResidual (pathOf path) (Narrowing.Prefix (encodePrefix (nameAt T name))) before
+            after ≡ Ops.putResidual node (pathOf path) (Narrowing.Prefix (encodePrefix (nameAt T name))) before
             ) ⌝ }
     {
         let len = prefix_len(file, index, name);
-        let p = self.residual(path_size(path) + 3 + len);
+        let p = self.residual(path_size(path) + 3 + len, node, plan);
         let place = p.place;
         let op = put_path_at(plan, place, path);
         let at = put_text_at(plan, op, 1, len);
@@ -191,6 +195,7 @@ impl SeekBuilder {
         index: &[u16],
         path: FieldPath,
         name: usize,
+        node: usize,
         plan: &mut [u8],
     ) -> SeekBuilder
         requires { ⌜ AcceptedFile (now file) (now index) ⌝ }
@@ -199,16 +204,16 @@ impl SeekBuilder {
             let T = tablesOf (now (file .entry)) in
             let before = stateOf T self e w (now (plan .entry)) in
             let after = stateOf T r e w (now (plan .exit)) in
-            after ≡ Ops.narrow (pathOf path) (Narrowing.Prefix (encodePrefix (nameAt T name))) before
+            after ≡ Ops.narrow node (pathOf path) (Narrowing.Prefix (encodePrefix (nameAt T name))) before
             ) ⌝ }
     {
         if self.over {
             return self;
         }
         if self.building {
-            self.ranged(path, name as u16)
+            self.ranged(path, name as u16, node)
         } else {
-            self.prefix_residual(file, index, path, name, plan)
+            self.prefix_residual(file, index, path, name, node, plan)
         }
     }
 
@@ -219,6 +224,7 @@ impl SeekBuilder {
         index: &[u16],
         constant: Const,
         path: FieldPath,
+        node: usize,
         plan: &mut [u8],
     ) -> SeekBuilder
         requires { ⌜ AcceptedFile (now file) (now index) × IsConstant (tablesOf (now file)) constant ⌝ }
@@ -226,14 +232,14 @@ impl SeekBuilder {
             let T = tablesOf (now (file .entry)) in
             let before = stateOf T self e w (now (plan .entry)) in
             let after = stateOf T r e w (now (plan .exit)) in
-            after ≡ narrowedBy T (constOf T constant) (pathOf path) before
+            after ≡ narrowedBy T node (constOf T constant) (pathOf path) before
             ) ⌝ }
     {
         match constant {
             Const::Nothing => self,
-            Const::Bytes(node, ty, len) => self.bytes(file, index, path, node, ty, len, plan),
-            Const::Prefix(x) => self.prefix(file, index, path, x, plan),
-            Const::Fuzzy(x, d, a) => self.fuzzy(path, x, d, a, plan),
+            Const::Bytes(n, ty, len) => self.bytes(file, index, path, n, ty, len, node, plan),
+            Const::Prefix(x) => self.prefix(file, index, path, x, node, plan),
+            Const::Fuzzy(x, d, a) => self.fuzzy(path, x, d, a, node, plan),
         }
     }
 }

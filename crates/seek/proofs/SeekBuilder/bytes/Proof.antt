@@ -11,7 +11,7 @@ use Rattle.seek.proofs.SeekBuilder.bytes.Statement.{statement}
 use Rattle.seek.proofs.SeekBuilder.bytes.Tie as tie
 
 returns : tie.Need-returns
-returns c = λ e w. still (c .before .before .before .before .args .self) _ e w _ _ _ (c .if1 .taken)
+returns c = λ e w. still (c .before .before .before .before .args .self) _ e w _ _ _ _ (c .if1 .taken)
 
 bytes-part-requires : tie.Need-bytes-part-requires
 bytes-part-requires c κs = search needs
@@ -28,8 +28,8 @@ returns-2 c =
     λ e w.
     let a = c .before .before .before .before .before .before .before .before .before .args in
     let T = tablesOf (a .file .now) in
-    let x = constantBytes T (a .node) (a .ty) in
-    as-part (a .self) T e w _ (pathOf (a .path)) (SeekKeyPart.Bytes x) (Narrowing.Bytes x) _ (λ s. refl) (c .before .before .before .before .before .if1 .left) (c .before .before .before .before .if2 .taken) (c .before .before .bytes-part .ensures e w)
+    let x = constantBytes T (a .value) (a .ty) in
+    as-part (a .self) T e w _ (a .node) (pathOf (a .path)) (SeekKeyPart.Bytes x) (Narrowing.Bytes x) _ (λ s. refl) (c .before .before .before .before .before .if1 .left) (c .before .before .before .before .if2 .taken) (c .before .before .bytes-part .ensures e w)
 
 same-length-2 : tie.Need-same-length-2
 same-length-2 c = search needs
@@ -40,8 +40,8 @@ returns-3 c =
     λ e w.
     let a = c .before .before .before .before .before .before .before .before .before .args in
     let T = tablesOf (a .file .now) in
-    let x = constantBytes T (a .node) (a .ty) in
-    as-rest (a .self) T e w _ (pathOf (a .path)) (SeekKeyPart.Bytes x) (Narrowing.Bytes x) _ (λ s. refl) (c .before .before .before .before .before .if1 .left) (c .before .before .before .before .if2 .left) (c .before .before .bytes-residual .ensures e w)
+    let x = constantBytes T (a .value) (a .ty) in
+    as-rest (a .self) T e w _ (a .node) (pathOf (a .path)) (SeekKeyPart.Bytes x) (Narrowing.Bytes x) _ (λ s. refl) (c .before .before .before .before .before .if1 .left) (c .before .before .before .before .if2 .left) (c .before .before .bytes-residual .ensures e w)
 
 pub bytes-spec : {M : Type 1} → statement M
 bytes-spec =

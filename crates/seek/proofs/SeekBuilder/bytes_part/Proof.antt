@@ -14,15 +14,15 @@ use Rattle.seek.proofs.SeekBuilder.bytes_part.Statement.{statement}
 use Rattle.seek.proofs.SeekBuilder.bytes_part.Tie as tie
 
 part-requires : tie.Need-part-requires
-part-requires c κs = omega (arith, small _ _ _ _ (known _ _ _ _ _ _ (c .before .before .before .pre .1 .1 .1)))
+part-requires c κs = omega (arith, small _ _ _ _ (known _ _ _ _ _ _ (c .before .before .before .before .pre .1 .1 .1)))
 
 put-head-requires : tie.Need-put-head-requires
 put-head-requires c κs = search needs
 
 put-constant-at-requires : tie.Need-put-constant-at-requires
 put-constant-at-requires c κs =
-    let a = c .before .before .before .before .before .before .before .before .before .before in
-    let p = c .before .before .before .before .before .before .part in
+    let a = c .before .before .before .before .before .before .before .before .before .before .before .before .before in
+    let p = c .before .before .before .before .before .before .before .before .part in
     let h = c .before .before .before .put-head in (
       a .pre .0,
       (
@@ -31,8 +31,8 @@ put-constant-at-requires c κs =
           a .pre .1 .1 .0,
           λ on.
               here _ _ _ _ (known _ _ _ _ _ _ (a .pre .1 .1 .1)) _
-              (part-room (a .args .self) false true _ 3 (p .result) (p .ensures .0) (sym (behind-writes (p .result .place) (h .result) _ (h .ensures .1)) ∙ on))
-              (omega (arith, h .ensures .2, p .ensures .1)),
+              (part-room (a .args .self) false true _ 3 (p .result) (p .ensures .0 .0) (sym (behind-writes (p .result .place) (h .result) _ (h .ensures .1)) ∙ on))
+              (omega (arith, h .ensures .2, p .ensures .0 .1)),
         ),
       ),
     )
@@ -44,15 +44,15 @@ returns : tie.Need-returns
 unfolding isBytes partText
 returns c =
     λ e w.
-    let a = c .before .before .before .before .before .before .before .before .before .before .before .before .before .before in
-    let p = c .before .before .before .before .before .before .before .before .before .before .part in
+    let a = c .before .before .before .before .before .before .before .before .before .before .before .before .before .before .before .before .before in
+    let p = c .before .before .before .before .before .before .before .before .before .before .before .before .part in
     let h = c .before .before .before .before .before .before .before .put-head in
     let T = tablesOf (a .args .file .now) in
     let k = known T _ _ _ _ _ (a .pre .1 .1 .1) in
-    let x = constantBytes T (a .args .node) (a .args .ty) in
-    part-is (a .args .self) T e w _ false true (a .args .len) 3 (SeekKeyPart.Bytes x) (p .result) _ (p .ensures .0) refl (alike T _ _ _ k) (text-size x)
+    let x = constantBytes T (a .args .value) (a .args .ty) in
+    part-is (a .args .self) T e w _ (a .args .node) false true (a .args .len) 3 (SeekKeyPart.Bytes x) (p .result) _ _ (p .ensures .0 .0) (p .ensures .1) refl (alike T _ _ _ k) (text-size x)
     (part-written (p .result .place) (h .result) (a .args .len) x _ _ _ (h .ensures .0) (h .ensures .1) (wrote T _ _ _ k (h .result) _ _ (c .before .before .before .put-constant-at .ensures))
-    (λ on. exact _ _ (alike T _ _ _ k) (part-room (a .args .self) false true _ 3 (p .result) (p .ensures .0) on)))
+    (λ on. exact _ _ (alike T _ _ _ k) (part-room (a .args .self) false true _ 3 (p .result) (p .ensures .0 .0) on)))
 
 pub bytes-part-spec : {M : Type 1} → statement M
 bytes-part-spec =

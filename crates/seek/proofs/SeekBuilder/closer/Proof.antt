@@ -13,13 +13,13 @@ use Rattle.seek.proofs.SeekBuilder.closer.Statement.{statement}
 use Rattle.seek.proofs.SeekBuilder.closer.Tie as tie
 
 returns : tie.Need-returns
-returns c = λ T e w s h. close-over (c .before .before .args .self) T e w _ s _ h (c .if1 .taken)
+returns c = λ T e w s h. close-over (c .before .before .args .self) T e w _ _ s _ h (c .if1 .taken)
 
 and-requires : tie.Need-and-requires
 and-requires c κs = search needs
 
 returns-2 : tie.Need-returns-2
-returns-2 c = λ T e w s h. close-none (c .before .before .before .before .args .self) T e w _ s _ h (c .before .before .if1 .left) (sym (c .before .and .ensures) ∙ not-true _ (c .if2 .taken))
+returns-2 c = λ T e w s h. close-none (c .before .before .before .before .args .self) T e w _ _ s _ h (c .before .before .if1 .left) (sym (c .before .and .ensures) ∙ not-true _ (c .if2 .taken))
 
 part-requires : tie.Need-part-requires
 part-requires c κs = search needs
@@ -34,13 +34,13 @@ same-length : tie.Need-same-length
 same-length c = search needs
 
 returns-3 : tie.Need-returns-3
-unfolding isBytes partText Plan.part Plan.text Plan.u16
+unfolding isBytes partText Plan.partKey Plan.text Plan.u16
 returns-3 c =
     λ T e w s h.
-    let p = c .before .before .before .before .before .before .before .before .before .before .part in
+    let p = c .before .before .before .before .before .before .before .before .before .before .before .before .part in
     let head = c .before .before .before .before .before .before .before .put-head in
-    close-part (c .before .before .before .before .before .before .before .before .before .before .before .before .before .before .before .args .self) T e w _ s _ h (c .before .before .before .before .before .before .before .before .before .before .before .before .before .if1 .left) _ (sym (c .before .before .before .before .before .before .before .before .before .before .before .before .and .ensures) ∙ not-false _ (c .before .before .before .before .before .before .before .before .before .before .before .if2 .left))
-    (part-is (c .before .before .before .before .before .before .before .before .before .before .before .before .before .before .before .args .self) T e w _ true true 1 3 (SeekKeyPart.Bytes term) (p .result) _ (p .ensures .0) refl refl refl
+    close-part (c .before .before .before .before .before .before .before .before .before .before .before .before .before .before .before .before .before .before .args .self) T e w _ _ s _ h (c .before .before .before .before .before .before .before .before .before .before .before .before .before .before .before .before .if1 .left) _ (sym (c .before .before .before .before .before .before .before .before .before .before .before .before .before .before .before .and .ensures) ∙ not-false _ (c .before .before .before .before .before .before .before .before .before .before .before .before .before .before .if2 .left))
+    (part-is (c .before .before .before .before .before .before .before .before .before .before .before .before .before .before .before .before .before .before .args .self) T e w _ _ true true 1 3 (SeekKeyPart.Bytes term) (p .result) _ _ (p .ensures .0 .0) (p .ensures .1) refl refl refl
     (part-written (p .result .place) (head .result) 1 term _ _ _ (head .ensures .0) (head .ensures .1) (c .before .before .before .put-byte-at .ensures) (λ _. refl)))
 
 pub closer-spec : {M : Type 1} → statement M

@@ -9,7 +9,7 @@ use Rattle.seek.proofs.SeekBuilder.fact_id.Statement.{statement}
 use Rattle.seek.proofs.SeekBuilder.fact_id.Tie as tie
 
 returns : tie.Need-returns
-returns c = λ T e w. still (c .before .before .args .self) T e w _ _ _ (c .if1 .taken)
+returns c = λ T e w. still (c .before .before .args .self) T e w _ _ _ _ (c .if1 .taken)
 
 fact-part-requires : tie.Need-fact-part-requires
 fact-part-requires c κs = search needs
@@ -24,7 +24,7 @@ returns-2 : tie.Need-returns-2
 unfolding narrowing
 returns-2 c =
     let args = c .before .before .before .before .before .before .before .args in
-    λ T e w. as-part (args .self) T e w _ (pathOf (args .path)) (SeekKeyPart.RegisterFactId (args .address .0)) (Narrowing.FactId (args .address .0)) _ (λ s. refl) (c .before .before .before .before .before .if1 .left) (c .before .before .before .before .if2 .taken) (c .before .before .fact-part .ensures T e w)
+    λ T e w. as-part (args .self) T e w _ (args .node) (pathOf (args .path)) (SeekKeyPart.RegisterFactId (args .address .0)) (Narrowing.FactId (args .address .0)) _ (λ s. refl) (c .before .before .before .before .before .if1 .left) (c .before .before .before .before .if2 .taken) (c .before .before .fact-part .ensures T e w)
 
 same-length-2 : tie.Need-same-length-2
 same-length-2 c = search needs
@@ -33,7 +33,7 @@ returns-3 : tie.Need-returns-3
 unfolding narrowing
 returns-3 c =
     let args = c .before .before .before .before .before .before .before .args in
-    λ T e w. as-rest (args .self) T e w _ (pathOf (args .path)) (SeekKeyPart.RegisterFactId (args .address .0)) (Narrowing.FactId (args .address .0)) _ (λ s. refl) (c .before .before .before .before .before .if1 .left) (c .before .before .before .before .if2 .left) (c .before .before .fact-residual .ensures T e w)
+    λ T e w. as-rest (args .self) T e w _ (args .node) (pathOf (args .path)) (SeekKeyPart.RegisterFactId (args .address .0)) (Narrowing.FactId (args .address .0)) _ (λ s. refl) (c .before .before .before .before .before .if1 .left) (c .before .before .before .before .if2 .left) (c .before .before .fact-residual .ensures T e w)
 
 pub fact-id-spec : {M : Type 1} → statement M
 fact-id-spec =

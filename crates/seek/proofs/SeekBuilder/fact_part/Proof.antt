@@ -23,13 +23,13 @@ same-length : tie.Need-same-length
 same-length c = search needs
 
 returns : tie.Need-returns
-unfolding formOf isBytes partText Plan.part Plan.u16
+unfolding formOf isBytes partText Plan.partKey Plan.u16
 returns c =
     λ T e w.
-    let p = c .before .before .before .before .before .before .before .part in
-    let x : SeekKeyPart = SeekKeyPart.RegisterFactId (c .before .before .before .before .before .before .before .before .before .args .address .0) in
-    part-is (c .before .before .before .before .before .before .before .before .before .args .self) T e w _ false false 0 3 x (p .result) _ (p .ensures .0) refl refl refl
-    (apart-written (p .result .place) _ (Plan.part x) _ _ (c .before .before .before .before .apart .ensures .0) (c .before .before .before .put-fact .ensures))
+    let p = c .before .before .before .before .before .before .before .before .before .part in
+    let x : SeekKeyPart = SeekKeyPart.RegisterFactId (c .before .before .before .before .before .before .before .before .before .before .before .before .args .address .0) in
+    part-is (c .before .before .before .before .before .before .before .before .before .before .before .before .args .self) T e w _ _ false false 0 3 x (p .result) _ _ (p .ensures .0 .0) (p .ensures .1) refl refl refl
+    (apart-written (p .result .place) _ (Plan.partKey x) _ _ (c .before .before .before .before .apart .ensures .0) (c .before .before .before .put-fact .ensures))
 
 pub fact-part-spec : {M : Type 1} → statement M
 fact-part-spec =

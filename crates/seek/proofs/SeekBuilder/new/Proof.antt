@@ -34,8 +34,8 @@ returns c = (
         plain = true;
         counts = k;
         path = path;
-        range = record { set = false; name = 0 };
-        guide = record { set = false; distance = 0; anchor = An.Prefix; term = 0 };
+        range = record { set = false; name = 0; node = 0 };
+        guide = record { set = false; distance = 0; anchor = An.Prefix; term = 0; node = 0 };
         lo = noEdge;
         hi = noEdge;
         folded = record { first = 0; second = 0 };

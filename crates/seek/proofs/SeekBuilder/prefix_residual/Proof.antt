@@ -36,8 +36,8 @@ put-text-at-requires c κs = search needs
 
 put-prefix-at-requires : tie.Need-put-prefix-at-requires
 put-prefix-at-requires c κs =
-    let a = c .before .before .before .before .before .before .before .before .before .before .before .before .before .before .before .before in
-    (a .pre .0 .indexed, (a .pre .1, omega (arith, c .before .before .before .put-text-at .ensures .2, c .before .before .before .before .before .before .before .put-path-at .ensures .2, c .before .before .before .before .before .before .before .before .before .before .residual .ensures .1)))
+    let a = c .before .before .before .before .before .before .before .before .before .before .before .before .before .before .before .before .before .before .before in
+    (a .pre .0 .indexed, (a .pre .1, omega (arith, c .before .before .before .put-text-at .ensures .2, c .before .before .before .before .before .before .before .put-path-at .ensures .2, c .before .before .before .before .before .before .before .before .before .before .before .before .residual .ensures .0 .1)))
 
 same-length : tie.Need-same-length
 same-length c = search needs
@@ -46,15 +46,15 @@ returns : tie.Need-returns
 unfolding Plan.op
 returns c =
     λ e w.
-    let a = c .before .before .before .before .before .before .before .before .before .before .before .before .before .before .before .before .before .before .before .before in
-    let l = c .before .before .before .before .before .before .before .before .before .before .before .before .before .before .before .before .prefix-len .ensures .0 in
-    let p = c .before .before .before .before .before .before .before .before .before .before .before .before .before .before .residual in
+    let a = c .before .before .before .before .before .before .before .before .before .before .before .before .before .before .before .before .before .before .before .before .before .before .before in
+    let l = c .before .before .before .before .before .before .before .before .before .before .before .before .before .before .before .before .before .before .before .prefix-len .ensures .0 in
+    let p = c .before .before .before .before .before .before .before .before .before .before .before .before .before .before .before .before .residual in
     let q = c .before .before .before .before .before .before .before .before .before .before .before .put-path-at .ensures in
     let t = c .before .before .before .before .before .before .before .put-text-at in
     let T = tablesOf (a .args .file .now) in
     let bytes = encodePrefix (nameAt T (a .args .name)) in
     let path = pathOf (a .args .path) in
-    residual-is (a .args .self) T e w _ _ path (Narrowing.Prefix bytes) (p .result) _ (p .ensures .0) (text-residual path (Narrowing.Prefix bytes) bytes 1 _ _ refl (c .before .before .before .before .before .before .before .before .before .before .before .before .before .before .before .path-size .ensures .0) (ap (min 16385) (sym l)))
+    residual-is (a .args .self) T e w _ (a .args .node) _ path (Narrowing.Prefix bytes) (p .result) _ _ (p .ensures .0 .0) (p .ensures .1) (text-residual path (Narrowing.Prefix bytes) bytes 1 _ _ refl (c .before .before .before .before .before .before .before .before .before .before .before .before .before .before .before .before .before .before .path-size .ensures .0) (ap (min 16385) (sym l)))
     (residual-text path (Narrowing.Prefix bytes) 1 _ bytes (p .result .place) _ (t .result) _ _ _ _ refl (q .0) (q .1) (t .ensures .0) (t .ensures .1) (c .before .before .before .put-prefix-at .ensures) (λ on. sym l))
 
 pub prefix-residual-spec : {M : Type 1} → statement M

@@ -32,8 +32,8 @@ returns c =
     let es = c .before .before .before .before .with-narrowing .ensures .0 in
     let e0 = c .before .before .before .before .before .sums .ensures .0 in
     let h = sym (c .before .before .before .fits2 .ensures) ∙ c .before .before .if1 .taken in (
-      λ T e w p. ranges (a .args .self) _ _ _ T e w p (c .fallen .ensures) es e0 _ _ _ (c .before .counts .ensures) h (a .pre),
-      ap (λ b. rangedAt b (c .before .counts .result) (a .args .path) (a .args .name)) (c .fallen .ensures) ∙ made-yes (a .args .self) _ _ es e0 (λ k. rangedAt (fell (a .args .self)) k (a .args .path) (a .args .name)) _ (c .before .counts .ensures) h,
+      λ T e w p. ranges (a .args .self) _ _ _ T e w p (c .fallen .ensures) es e0 _ _ _ _ (c .before .counts .ensures) h (a .pre),
+      ap (λ b. rangedAt b (c .before .counts .result) (a .args .path) (a .args .name) (a .args .node)) (c .fallen .ensures) ∙ made-yes (a .args .self) _ _ es e0 (λ k. rangedAt (fell (a .args .self)) k (a .args .path) (a .args .name) (a .args .node)) _ (c .before .counts .ensures) h,
     )
 
 returns-2 : tie.Need-returns-2

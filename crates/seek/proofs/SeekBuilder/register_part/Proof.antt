@@ -31,14 +31,14 @@ same-length : tie.Need-same-length
 same-length c = search needs
 
 returns : tie.Need-returns
-unfolding formOf isBytes partText Plan.part
+unfolding formOf isBytes partText Plan.partKey
 returns c =
     λ T e w.
-    let p = c .before .before .before .before .before .before .before .part in
-    let args = c .before .before .before .before .before .before .before .before .before .before .args in
+    let p = c .before .before .before .before .before .before .before .before .before .part in
+    let args = c .before .before .before .before .before .before .before .before .before .before .before .before .before .args in
     let x : SeekKeyPart = SeekKeyPart.RegisterField (args .address .0) (pathOf (args .at)) in
-    part-is (args .self) T e w _ false false 0 _ x (p .result) _ (p .ensures .0) refl refl (register-size (args .address .0) (pathOf (args .at)) _ (c .before .before .before .before .before .before .before .before .path-size .ensures .0))
-    (apart-written (p .result .place) _ (Plan.part x) _ _ (c .before .before .before .before .apart .ensures .0) (c .before .before .before .put-register .ensures))
+    part-is (args .self) T e w _ (args .node) false false 0 _ x (p .result) _ _ (p .ensures .0 .0) (p .ensures .1) refl refl (register-size (args .address .0) (pathOf (args .at)) _ (c .before .before .before .before .before .before .before .before .before .before .before .path-size .ensures .0))
+    (apart-written (p .result .place) _ (Plan.partKey x) _ _ (c .before .before .before .before .apart .ensures .0) (c .before .before .before .put-register .ensures))
 
 pub register-part-spec : {M : Type 1} → statement M
 register-part-spec =

@@ -10,7 +10,7 @@ use Rattle.seek.proofs.SeekBuilder.tag.Statement.{statement}
 use Rattle.seek.proofs.SeekBuilder.tag.Tie as tie
 
 returns : tie.Need-returns
-returns c = λ T e w. still (c .before .before .args .self) T e w _ _ _ (c .if1 .taken)
+returns c = λ T e w. still (c .before .before .args .self) T e w _ _ _ _ (c .if1 .taken)
 
 tag-part-requires : tie.Need-tag-part-requires
 tag-part-requires c κs = search needs
@@ -25,7 +25,7 @@ returns-2 : tie.Need-returns-2
 unfolding narrowing
 returns-2 c =
     let args = c .before .before .before .before .before .before .before .args in
-    λ T e w. as-part (args .self) T e w _ (pathOf (args .path)) (SeekKeyPart.Bytes (unionTag (args .disc))) (Narrowing.Tag (args .disc)) _ (λ s. refl) (c .before .before .before .before .before .if1 .left) (c .before .before .before .before .if2 .taken) (c .before .before .tag-part .ensures T e w)
+    λ T e w. as-part (args .self) T e w _ (args .node) (pathOf (args .path)) (SeekKeyPart.Bytes (unionTag (args .disc))) (Narrowing.Tag (args .disc)) _ (λ s. refl) (c .before .before .before .before .before .if1 .left) (c .before .before .before .before .if2 .taken) (c .before .before .tag-part .ensures T e w)
 
 same-length-2 : tie.Need-same-length-2
 same-length-2 c = search needs
@@ -34,7 +34,7 @@ returns-3 : tie.Need-returns-3
 unfolding narrowing
 returns-3 c =
     let args = c .before .before .before .before .before .before .before .args in
-    λ T e w. as-rest (args .self) T e w _ (pathOf (args .path)) (SeekKeyPart.Bytes (unionTag (args .disc))) (Narrowing.Tag (args .disc)) _ (λ s. refl) (c .before .before .before .before .before .if1 .left) (c .before .before .before .before .if2 .left) (c .before .before .tag-residual .ensures T e w)
+    λ T e w. as-rest (args .self) T e w _ (args .node) (pathOf (args .path)) (SeekKeyPart.Bytes (unionTag (args .disc))) (Narrowing.Tag (args .disc)) _ (λ s. refl) (c .before .before .before .before .before .if1 .left) (c .before .before .before .before .if2 .left) (c .before .before .tag-residual .ensures T e w)
 
 pub tag-spec : {M : Type 1} → statement M
 tag-spec =

@@ -23,13 +23,13 @@ same-length : tie.Need-same-length
 same-length c = search needs
 
 returns : tie.Need-returns
-unfolding isBytes partText unionTag bigEndian32 Plan.part Plan.text Plan.u16
+unfolding isBytes partText unionTag bigEndian32 Plan.partKey Plan.text Plan.u16
 returns c =
     λ T e w.
-    let p = c .before .before .before .before .before .before .before .before .before .before .part in
-    let x = unionTag (c .before .before .before .before .before .before .before .before .before .before .before .before .args .disc) in
+    let p = c .before .before .before .before .before .before .before .before .before .before .before .before .part in
+    let x = unionTag (c .before .before .before .before .before .before .before .before .before .before .before .before .before .before .before .args .disc) in
     let h = c .before .before .before .before .before .before .before .put-head in
-    part-is (c .before .before .before .before .before .before .before .before .before .before .before .before .args .self) T e w _ false true 5 3 (SeekKeyPart.Bytes x) (p .result) _ (p .ensures .0) refl refl refl
+    part-is (c .before .before .before .before .before .before .before .before .before .before .before .before .before .before .before .args .self) T e w _ _ false true 5 3 (SeekKeyPart.Bytes x) (p .result) _ _ (p .ensures .0 .0) (p .ensures .1) refl refl refl
     (part-written (p .result .place) (h .result) 5 x _ _ _ (h .ensures .0) (h .ensures .1) (c .before .before .before .put-tag-at .ensures) (λ _. refl))
 
 pub tag-part-spec : {M : Type 1} → statement M

@@ -31,7 +31,7 @@ fuzzy-requires : tie.Need-fuzzy-requires
 fuzzy-requires c κs = search needs
 
 returns : tie.Need-returns
-returns c = λ e w. by-nothing _ _ _ _ _ (c .enum-told .given .1) refl
+returns c = λ e w. by-nothing _ _ _ _ _ _ (c .enum-told .given .1) refl
 
 same-length : tie.Need-same-length
 same-length c = search needs
@@ -39,19 +39,19 @@ same-length c = search needs
 returns-2 : tie.Need-returns-2
 returns-2 c = λ e w.
     let g = c .before .before .before .before .before .constant .given .1 in
-    by-bytes _ _ _ _ _ _ _ _ g (at-place _ _ (c .before .before .before .before .before .before .before .before .before .before .pre .1) _ _ _ g .is) (c .before .before .bytes .ensures e w)
+    by-bytes _ _ _ _ _ _ _ _ _ g (at-place _ _ (c .before .before .before .before .before .before .before .before .before .before .pre .1) _ _ _ g .is) (c .before .before .bytes .ensures e w)
 
 same-length-2 : tie.Need-same-length-2
 same-length-2 c = search needs
 
 returns-3 : tie.Need-returns-3
-returns-3 c = λ e w. by-prefix _ _ _ _ _ _ (c .before .before .before .before .before .constant2 .given .1) (c .before .before .prefix .ensures e w)
+returns-3 c = λ e w. by-prefix _ _ _ _ _ _ _ (c .before .before .before .before .before .constant2 .given .1) (c .before .before .prefix .ensures e w)
 
 same-length-3 : tie.Need-same-length-3
 same-length-3 c = search needs
 
 returns-4 : tie.Need-returns-4
-returns-4 c = λ e w. by-fuzzy _ _ _ _ _ _ _ _ (c .before .before .before .before .before .constant3 .given .1) (c .before .before .fuzzy .ensures _ e w)
+returns-4 c = λ e w. by-fuzzy _ _ _ _ _ _ _ _ _ (c .before .before .before .before .before .constant3 .given .1) (c .before .before .fuzzy .ensures _ e w)
 
 pub with-constant-spec : {M : Type 1} → statement M
 with-constant-spec =
