@@ -1,4 +1,5 @@
-// A level narrowed by a constant and by a union's tag. As in the Rust, `narrow_by` and `narrow_by_tag` take the level lent.
+// A level narrowed by a constant and by a union's tag, with the node that made the narrowing. As in the Rust, `narrow_by` and
+// `narrow_by_tag` take the level lent.
 ghost use mathlib.Core.Path.{_≡_};
 ghost use mathlib.Core.List.{List};
 ghost use Prim.Native.Nat.{ℕ};
@@ -21,6 +22,7 @@ pub fn narrow_by(
     index: &[u16],
     constant: Const,
     path: FieldPath,
+    node: usize,
     level: &mut SeekBuilder,
     plan: &mut [u8],
 )
@@ -29,23 +31,29 @@ pub fn narrow_by(
         let T = tablesOf (now (file .entry)) in
         let before = stateOf T (now (level .entry)) e w (now (plan .entry)) in
         let after = stateOf T (now (level .exit)) e w (now (plan .exit)) in
-        after ≡ narrowedBy T (constOf T constant) (pathOf path) before
+        after ≡ narrowedBy T node (constOf T constant) (pathOf path) before
         ) ⌝ }
 {
     let l = *level;
-    *level = l.with_constant(file, index, constant, path, plan);
+    *level = l.with_constant(file, index, constant, path, node, plan);
 }
 
 // A lent level narrowed by the tag of a union's alternative.
-pub fn narrow_by_tag(disc: u32, path: FieldPath, level: &mut SeekBuilder, plan: &mut [u8])
+pub fn narrow_by_tag(
+    disc: u32,
+    path: FieldPath,
+    node: usize,
+    level: &mut SeekBuilder,
+    plan: &mut [u8],
+)
     ensures { λ _. ⌜ ((T : Tables) (e : Ends) (w : List ℕ) →
         let before = stateOf T (now (level .entry)) e w (now (plan .entry)) in
         let after = stateOf T (now (level .exit)) e w (now (plan .exit)) in
-        after ≡ Ops.narrow (pathOf path) (Narrowing.Tag disc) before
+        after ≡ Ops.narrow node (pathOf path) (Narrowing.Tag disc) before
         ) ⌝ }
 {
     let l = *level;
-    *level = l.tag(path, disc, plan);
+    *level = l.tag(path, disc, node, plan);
 }
 
 // Lends a level to `narrow_by` and hands it back.
@@ -54,6 +62,7 @@ pub fn narrowed(
     index: &[u16],
     constant: Const,
     path: FieldPath,
+    node: usize,
     level: SeekBuilder,
     plan: &mut [u8],
 ) -> SeekBuilder
@@ -61,22 +70,28 @@ pub fn narrowed(
     ensures { λ r. ⌜ ((e : Ends) (w : List ℕ) →
         let T = tablesOf (now (file .entry)) in
         let before = stateOf T level e w (now (plan .entry)) in
-        stateOf T r e w (now (plan .exit)) ≡ narrowedBy T (constOf T constant) (pathOf path) before
+        stateOf T r e w (now (plan .exit)) ≡ narrowedBy T node (constOf T constant) (pathOf path) before
         ) ⌝ }
 {
     let mut l = level;
-    narrow_by(file, index, constant, path, &mut l, plan);
+    narrow_by(file, index, constant, path, node, &mut l, plan);
     l
 }
 
 // Lends a level to `narrow_by_tag` and hands it back.
-pub fn tagged(disc: u32, path: FieldPath, level: SeekBuilder, plan: &mut [u8]) -> SeekBuilder
+pub fn tagged(
+    disc: u32,
+    path: FieldPath,
+    node: usize,
+    level: SeekBuilder,
+    plan: &mut [u8],
+) -> SeekBuilder
     ensures { λ r. ⌜ ((T : Tables) (e : Ends) (w : List ℕ) →
         let before = stateOf T level e w (now (plan .entry)) in
-        stateOf T r e w (now (plan .exit)) ≡ Ops.narrow (pathOf path) (Narrowing.Tag disc) before
+        stateOf T r e w (now (plan .exit)) ≡ Ops.narrow node (pathOf path) (Narrowing.Tag disc) before
         ) ⌝ }
 {
     let mut l = level;
-    narrow_by_tag(disc, path, &mut l, plan);
+    narrow_by_tag(disc, path, node, &mut l, plan);
     l
 }

@@ -1,4 +1,5 @@
-// A level's walk by value: the lists' ends and the level, with the operations of the written walk.
+// A level's walk by value: the lists' ends and the level, with the operations of the written walk. `node` is the node that made a
+// narrowing or a closer.
 ghost use mathlib.Core.Path.{_≡_};
 ghost use mathlib.Core.List.{List};
 ghost use Prim.Native.Nat.{ℕ};
@@ -73,15 +74,15 @@ impl Walk {
     }
 
     // A narrowing to a union's alternative.
-    pub fn tag(self, path: FieldPath, disc: u32, plan: &mut [u8]) -> Walk
+    pub fn tag(self, path: FieldPath, disc: u32, node: usize, plan: &mut [u8]) -> Walk
         ensures { λ r. ⌜ (
             (T : Tables) (w : List ℕ) →
             let before = walkState T self w (now (plan .entry)) in
             let after = walkState T r w (now (plan .exit)) in
-            after ≡ Ops.narrow (pathOf path) (Narrowing.Tag disc) before
+            after ≡ Ops.narrow node (pathOf path) (Narrowing.Tag disc) before
             ) ⌝ }
     {
-        let l = tagged(disc, path, self.level, plan);
+        let l = tagged(disc, path, node, self.level, plan);
         self.placed(l)
     }
 
@@ -91,45 +92,46 @@ impl Walk {
         path: FieldPath,
         address: Address,
         at: FieldPath,
+        node: usize,
         plan: &mut [u8],
     ) -> Walk
         ensures { λ r. ⌜ (
             (T : Tables) (w : List ℕ) →
             let before = walkState T self w (now (plan .entry)) in
             let after = walkState T r w (now (plan .exit)) in
-            after ≡ Ops.narrow (pathOf path) (Narrowing.RegisterField (address .0) (pathOf at)) before
+            after ≡ Ops.narrow node (pathOf path) (Narrowing.RegisterField (address .0) (pathOf at)) before
             ) ⌝ }
     {
         let level = self.level;
-        let l = level.register_field(path, address, at, plan);
+        let l = level.register_field(path, address, at, node, plan);
         self.placed(l)
     }
 
     // A narrowing to the fact of a register.
-    pub fn fact_id(self, path: FieldPath, address: Address, plan: &mut [u8]) -> Walk
+    pub fn fact_id(self, path: FieldPath, address: Address, node: usize, plan: &mut [u8]) -> Walk
         ensures { λ r. ⌜ (
             (T : Tables) (w : List ℕ) →
             let before = walkState T self w (now (plan .entry)) in
             let after = walkState T r w (now (plan .exit)) in
-            after ≡ Ops.narrow (pathOf path) (Narrowing.FactId (address .0)) before
+            after ≡ Ops.narrow node (pathOf path) (Narrowing.FactId (address .0)) before
             ) ⌝ }
     {
         let level = self.level;
-        let l = level.fact_id(path, address, plan);
+        let l = level.fact_id(path, address, node, plan);
         self.placed(l)
     }
 
     // The end of an alternative. `held` says whether the level built before the tag, where the state was `opening`.
-    pub fn closer(self, held: bool, plan: &mut [u8]) -> Walk
+    pub fn closer(self, held: bool, node: usize, plan: &mut [u8]) -> Walk
         ensures { λ r. ⌜ (
             (T : Tables) (w : List ℕ) (opening : State) → opening .level .building ≡ held →
             let before = walkState T self w (now (plan .entry)) in
             let after = walkState T r w (now (plan .exit)) in
-            after ≡ Ops.closer opening before
+            after ≡ Ops.closer node opening before
             ) ⌝ }
     {
         let level = self.level;
-        let l = level.closer(held, plan);
+        let l = level.closer(held, node, plan);
         self.placed(l)
     }
 
