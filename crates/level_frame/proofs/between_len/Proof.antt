@@ -34,6 +34,9 @@ prefix-text-len-requires c κs = search needs
 path-size-requires : tie.Need-path-size-requires
 path-size-requires c κs = search needs
 
+add-capped : tie.Need-add-capped
+add-capped c = search needs
+
 capped-requires-2 : tie.Need-capped-requires-2
 capped-requires-2 c κs = search needs
 
@@ -55,6 +58,7 @@ between-len-spec =
     cast-prefix-text-len
     prefix-text-len-requires
     path-size-requires
+    add-capped
     capped-requires-2
     returns-2
     returns-3)

@@ -16,6 +16,12 @@ head-len-requires c κs = search needs
 add-parts : tie.Need-add-parts
 add-parts c = search needs
 
+wide32-requires : tie.Need-wide32-requires
+wide32-requires c κs = search needs
+
+add-nodes : tie.Need-add-nodes
+add-nodes c = search needs
+
 parts-len-requires : tie.Need-parts-len-requires
 parts-len-requires c κs = search needs
 
@@ -28,8 +34,8 @@ middle-len-requires c κs = search needs
 add-rest : tie.Need-add-rest
 add-rest c = search needs
 
-wide32-requires : tie.Need-wide32-requires
-wide32-requires c κs = search needs
+wide32-requires-2 : tie.Need-wide32-requires-2
+wide32-requires-2 c κs = search needs
 
 add-tail : tie.Need-add-tail
 add-tail c = search needs
@@ -41,7 +47,7 @@ add-end : tie.Need-add-end
 add-end c = search needs
 
 returns : tie.Need-returns
-returns c = framed _ _ _ _ _ _ _ _ (c .before .before .before .before .head-len .ensures .0 _) (c .before .before .before .parts-len .ensures .0 _) (c .before .before .middle-len .ensures) (c .before .wide32 .ensures .0) (c .tail-len .ensures .0 _)
+returns c = framed _ _ _ _ _ _ _ _ _ (c .before .before .before .before .before .head-len .ensures .0 _) (c .before .before .before .parts-len .ensures .0 _) (c .before .before .before .before .wide32 .ensures .0) (c .before .before .middle-len .ensures) (c .before .wide322 .ensures .0) (c .tail-len .ensures .0 _)
 
 pub measure-spec : {M : Type 1} → statement M
 measure-spec =
@@ -49,11 +55,13 @@ measure-spec =
     (tie.spec
     head-len-requires
     add-parts
+    wide32-requires
+    add-nodes
     parts-len-requires
     add-middle
     middle-len-requires
     add-rest
-    wide32-requires
+    wide32-requires-2
     add-tail
     tail-len-requires
     add-end

@@ -8,6 +8,7 @@ use Rattle.level_frame.proofs.put_between.Tie as tie
 use Rattle.level_frame.proofs.put_between.Reads as reads
 use Rattle.level_frame.proofs.put_between.Lts as lts
 use Rattle.level_frame.proofs.seek_number.Reads as seek-number-reads
+use Rattle.records.proofs.put16.Reads as put16-reads
 use Rattle.records.proofs.put_path.Reads as put-path-reads
 use Rattle.texts.proofs.put_edge.Reads as put-edge-reads
 use Rattle.texts.proofs.put_prefix_text.Reads as put-prefix-text-reads
@@ -42,11 +43,23 @@ put-path-requires c κs =
     let h = range-small (tablesOf (now (s .args .file))) (s .args .l) _ (c .before .before .before .before .before .before .before .before .before .seek-number .ensures _) (c .before .before .before .before .before .before .before .if2 .taken) (s .pre .1 .1) in
     omega (arith, s .pre .1 .0, h, c .before .before .before .put-prefix-text .ensures .place)
 
+put16-requires : tie.Need-put16-requires
+put16-requires c κs =
+    let s = c .before .before .before .before .before .before .before .before .before .before .before .before .before .before .before .before .before in
+    let h = range-small (tablesOf (now (s .args .file))) (s .args .l) _ (c .before .before .before .before .before .before .before .before .before .before .before .before .before .seek-number .ensures _) (c .before .before .before .before .before .before .before .before .before .before .before .if2 .taken) (s .pre .1 .1) in
+    omega (arith, s .pre .1 .0, h, c .before .before .before .before .before .before .before .put-prefix-text .ensures .place, c .before .before .before .put-path .ensures .1)
+
+add-result : tie.Need-add-result
+add-result c =
+    let s = c .before .before .before .before .before .before .before .before .before .before .before .before .before .before .before .before .before .before .before .before in
+    let h = range-small (tablesOf (now (s .args .file))) (s .args .l) _ (c .before .before .before .before .before .before .before .before .before .before .before .before .before .before .before .before .seek-number .ensures _) (c .before .before .before .before .before .before .before .before .before .before .before .before .before .before .if2 .taken) (s .pre .1 .1) in
+    omega (arith, s .pre .1 .0, h, c .before .before .before .before .before .before .before .before .before .before .put-prefix-text .ensures .place, c .before .before .before .before .before .before .put-path .ensures .1)
+
 same-length-2 : tie.Need-same-length-2
 same-length-2 c = search needs
 
 returns-2 : tie.Need-returns-2
-returns-2 c = put-range _ _ _ (c .before .before .before .before .before .before .before .before .before .before .before .before .seek-number .ensures _) _ _ _ _ _ _ (c .before .before .before .before .before .before .before .before .before .before .if2 .taken) (c .before .before .before .before .before .before .put-prefix-text .ensures) (c .before .before .put-path .ensures .0) (c .before .before .put-path .ensures .2)
+returns-2 c = put-range _ _ _ (c .before .before .before .before .before .before .before .before .before .before .before .before .before .before .before .before .seek-number .ensures _) _ _ _ _ _ _ _ (c .before .before .before .before .before .before .before .before .before .before .before .before .before .before .if2 .taken) (c .before .before .before .before .before .before .before .before .before .before .put-prefix-text .ensures) (c .before .before .before .before .before .before .put-path .ensures .0) (c .before .before .before .before .before .before .put-path .ensures .2) (c .before .before .put16 .ensures)
 
 returns-3 : tie.Need-returns-3
 returns-3 c = put-bare _ _ _ (c .before .before .seek-number .ensures _) _ _ (c .before .if1 .left) (c .if2 .left)
@@ -63,6 +76,8 @@ put-between-spec =
     cast-put-prefix-text
     put-prefix-text-requires
     put-path-requires
+    put16-requires
+    add-result
     same-length-2
     returns-2
     returns-3)

@@ -4,11 +4,11 @@ use Rattle.level_frame.proofs.put_guide.Statement.{statement}
 use Rattle.level_frame.proofs.put_guide.Tie as tie
 use Rattle.level_frame.proofs.put_guide.Reads as reads
 use Rattle.level_frame.proofs.put_guide.Lts as lts
-use Rattle.seek.proofs.kept.Reads as kept-reads
 use Rattle.records.proofs.anchor_byte.Reads as anchor-byte-reads
 use Rattle.records.proofs.put16.Reads as put16-reads
 use Rattle.records.proofs.put8.Reads as put8-reads
 use Rattle.records.proofs.put_path.Reads as put-path-reads
+use Rattle.seek.proofs.kept.Reads as kept-reads
 
 kept-requires : tie.Need-kept-requires
 kept-requires c κs = search needs
@@ -40,6 +40,12 @@ anchor-byte-requires c κs = search needs
 put8-requires-3 : tie.Need-put8-requires-3
 put8-requires-3 c κs = search needs
 
+add-put16 : tie.Need-add-put16
+add-put16 c = search needs
+
+put16-requires-2 : tie.Need-put16-requires-2
+put16-requires-2 c κs = search needs
+
 add-result : tie.Need-add-result
 add-result c = search needs
 
@@ -54,9 +60,8 @@ same-length c = search needs
 
 returns : tie.Need-returns
 returns c =
-    let k = c .before .before .before .before .before .before .before .before .before .before .before .before .before .before .before .before .before .before .before .before .before .before in
-    let p = c .before .before .before .before .before .before .before .before .before .before .before .before .before .before .before .put-path in
-    put-set _ _ _ _ _ (k .kept .ensures) _ _ _ _ _ _ (c .before .before .before .before .before .before .before .before .before .before .before .before .before .before .before .before .before .before .before .before .before .if1 .taken) (c .before .before .before .before .before .before .before .before .before .before .before .before .before .before .before .before .before .before .before .put8 .ensures) (p .ensures .0) (p .ensures .2) (c .before .before .before .before .before .before .before .before .before .before .before .put16 .ensures) (c .before .before .before .before .before .before .before .put82 .ensures) (c .before .before .before .anchor-byte .ensures) (c .before .before .put83 .ensures)
+    let p = c .before .before .before .before .before .before .before .before .before .before .before .before .before .before .before .before .before .before .before .put-path in
+    put-set _ _ _ _ _ (c .before .before .before .before .before .before .before .before .before .before .before .before .before .before .before .before .before .before .before .before .before .before .before .before .before .before .kept .ensures) _ _ _ _ _ _ _ (c .before .before .before .before .before .before .before .before .before .before .before .before .before .before .before .before .before .before .before .before .before .before .before .before .before .if1 .taken) (c .before .before .before .before .before .before .before .before .before .before .before .before .before .before .before .before .before .before .before .before .before .before .before .put8 .ensures) (p .ensures .0) (p .ensures .2) (c .before .before .before .before .before .before .before .before .before .before .before .before .before .before .before .put16 .ensures) (c .before .before .before .before .before .before .before .before .before .before .before .put82 .ensures) (c .before .before .before .before .before .before .before .anchor-byte .ensures) (c .before .before .before .before .before .before .put83 .ensures) (c .before .before .put162 .ensures)
 
 same-length-2 : tie.Need-same-length-2
 same-length-2 c = search needs
@@ -78,6 +83,8 @@ put-guide-spec =
     add-put8-2
     anchor-byte-requires
     put8-requires-3
+    add-put16
+    put16-requires-2
     add-result
     put8-requires-4
     add-result-2
