@@ -24,7 +24,8 @@ returns c =
     (none-told _ _ _ e, λ work. none-narrows _ _ _ _ _ _ e)
 
 constant-requires : tie.Need-constant-requires
-constant-requires c κs = search needs
+constant-requires c κs =
+    let a = c .before .before .before .before .before in (a .pre .0, (omega (arith, c .if1 .left, c .before .count-of .ensures), a .pre .1))
 
 is-nothing-requires : tie.Need-is-nothing-requires
 is-nothing-requires c κs = search needs
