@@ -95,7 +95,7 @@ same-length-8 : tie.Need-same-length-8
 same-length-8 c = search needs
 
 returns-6 : tie.Need-returns-6
-returns-6 c = of-const _ _ _ _ _ _ (c .before .before .before .before .before .before .before .before .before .before .before .before .args .slot) _ (c .before .before .before .before .before .kind3 .given .1) _ (c .before .before .meet-const .ensures _ _ _)
+returns-6 c = of-const _ _ _ _ _ _ (c .before .before .before .before .before .before .before .before .before .before .before .before .args .slot) _ (c .before .before .before .before .before .kind3 .given .1) _ (c .before .before .meet-const .ensures _ _)
 
 pub meet-spec : {M : Type 1} → statement M
 meet-spec =
