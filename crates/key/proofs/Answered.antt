@@ -48,6 +48,9 @@ module _ (T : Tables) (w r : Walk) (ans : Answer) (work work′ plan : List ℕ)
     unfolding wholeField
     field-none e q = q ∙ answered (λ found x. matched (ops T) T a (field (ops T) T a) (wholeNode n found) found t path x) (fieldSlot (ops T) T n slot name) k false e
 
-    pub field-some : ans .some ≡ true → t < length (T .types) → Gives T a t (λ below. matched (ops T) T a below (wholeNode n (slotOf (ans .slot))) (slotOf (ans .slot)) t path (walkState T r work′ plan)) s → s ≡ wholeField T a n slot name t path (walkState T w work plan)
+    pub field-some : ans .some ≡ true → t < length (T .types) → (m : ℕ) → m ≡ wholeNode n (slotOf (ans .slot)) → Gives T a t (λ below. matched (ops T) T a below m (slotOf (ans .slot)) t path (walkState T r work′ plan)) s → s ≡ wholeField T a n slot name t path (walkState T w work plan)
     unfolding wholeField field
-    field-some e h q = q .is (length (T .types)) (omega arith) ∙ answered (λ found x. matched (ops T) T a (field (ops T) T a) (wholeNode n found) found t path x) (fieldSlot (ops T) T n slot name) k true e
+    field-some e h m em q =
+        q .is (length (T .types)) (omega arith)
+        ∙ ap (λ (x : ℕ). matched (ops T) T a (field (ops T) T a) x (slotOf (ans .slot)) t path (walkState T r work′ plan)) em
+        ∙ answered (λ found x. matched (ops T) T a (field (ops T) T a) (wholeNode n found) found t path x) (fieldSlot (ops T) T n slot name) k true e

@@ -12,7 +12,7 @@ use lib.ListN.{length, getD, drop, length-drop}
 use lib.Seq.{drop-cons}
 use Rattle.rules.specs.File as File
 use Rattle.rules.specs.File.{Tables, typeAt, nodeAt, recordTy, fieldPath}
-use Rattle.rules.specs.Walk.{wholeFields, wholeRead, wholeVariable, wholeKey}
+use Rattle.rules.specs.Walk.{wholeNode, wholeFields, wholeRead, wholeVariable, wholeKey}
 use Rattle.rules.proofs.Each.{each-at}
 use Rattle.rules.proofs.Keeps.{record-children}
 use Rattle.rules.proofs.Sound.{Sound, Child}
@@ -26,7 +26,11 @@ use Rattle.views.specs.declared.NodeView.{NodeView}
 use Rattle.views.specs.declared.NodeView.the-variants as Nv
 use Rattle.views.proofs.NodeView as NodeViews
 use Rattle.views.proofs.Runs.{run-at, length-run}
-use Rattle.slots.specs.Slots.{slotOf, slotOption, maybe}
+use Rattle.slots.specs.Slots.{slotWith, slotOf, slotOption, maybe}
+use Rattle.slots.specs.declared.Slot.{Slot}
+use Rattle.slots.specs.declared.SlotKind.{SlotKind}
+use Rattle.slots.specs.declared.SlotKind.the-variants as Sk
+use Rattle.slots.proofs.SlotKind as SlotKinds
 use Rattle.slots.specs.declared.MaybeSlot.{MaybeSlot}
 use Rattle.tables.specs.Tables.{SeenRun}
 use Rattle.tables.specs.declared.Run.{Run}
@@ -98,6 +102,24 @@ module _ (f : List ℕ) (T : Tables) (t : ℕ) (r : Run) (k : SeenRun f (fieldAt
 
       pub matching-turn : (a n : ℕ) (slot : File.Slot) (s₀ s : State) (w₀ p₀ w p : List ℕ) → Matching T a n t slot i s₀ s w₀ p₀ w p → (q : FieldPath) → Holds q (fieldPath i) → (s′ : State) (w′ p′ : List ℕ) → s′ ≡ wholeField T a n slot (v .name) (v .ty) (pathOf q) s → length w′ ≡ length w → length p′ ≡ length p → Matching T a n t slot (i + 1) s₀ s′ w₀ p₀ w′ p′
       matching-turn a n slot s₀ s w₀ p₀ w p g q k = matching-more T a n t slot i s₀ s w₀ p₀ w p g (omega (arith, fields-count)) (fieldOf v) field-is (pathOf q) (k .is)
+
+-- the node of a whole key's field, by the kind of its slot
+node-of-kind : (n : ℕ) (kind : SlotKind) (path : FieldPath) → OneOf (0 ∷ 1 ∷ 2 ∷ 3 ∷ 4 ∷ []) (tagOf SlotKinds.the-type kind) → n ≡ wholeNode n (slotWith kind path)
+unfolding wholeNode
+node-of-kind n (Sk.Row a p) path w = refl
+node-of-kind n (Sk.Key a t) path w = refl
+node-of-kind n (Sk.Derived a) path w = refl
+node-of-kind n (Sk.Field a t) path w = refl
+node-of-kind n (Sk.Value a t) path w = refl
+node-of-kind n (Sk.Const m) path w = absurd (miss (0 ∷ 1 ∷ 2 ∷ 3 ∷ 4 ∷ []) 5 tt w)
+
+module _ (n : ℕ) (slot : Slot) where
+  pub node-const : (m : ℕ) → slot .kind ≡ Sk.Const m → m ≡ wholeNode n (slotOf slot)
+  unfolding wholeNode
+  node-const m e = ap (λ (k : SlotKind). wholeNode n (slotWith k (slot .path))) (sym e)
+
+  pub node-other : OneOf (0 ∷ 1 ∷ 2 ∷ 3 ∷ 4 ∷ []) (tagOf SlotKinds.the-type (slot .kind)) → n ≡ wholeNode n (slotOf slot)
+  node-other w = node-of-kind n (slot .kind) (slot .path) w
 
 -- a variable, by whether its name is bound
 module _ (T : Tables) (a x n t : ℕ) (fs : List File.FieldTy) (s₀ : State) (m : MaybeSlot) (k : slotOption m ≡ ops T .lookup s₀ x) (s : State) where

@@ -228,7 +228,8 @@ fn record_key(
 fn whole_node(node: usize, slot: Slot) -> usize
     ensures { λ r. ⌜ r ≡ WalkRules.wholeNode node (slotOf slot) ⌝ }
 {
-    if let SlotKind::Const(n) = slot.kind {
+    let kind = slot.kind;
+    if let SlotKind::Const(n) = kind {
         n
     } else {
         node
@@ -261,12 +262,13 @@ fn whole_field(
     let a = field_slot(file, index, work, node, slot, field.name, w.lists());
     let l = w.listed(a.lists);
     if a.some {
+        let n = whole_node(node, a.slot);
         return matched(
             file,
             index,
             work,
             plan,
-            whole_node(node, a.slot),
+            n,
             a.slot,
             field.ty,
             address,

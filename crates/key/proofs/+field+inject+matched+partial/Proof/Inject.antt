@@ -48,7 +48,7 @@ pub inject-same-length-3 : (t : ℕ) → inject-lts.Need-same-length-3 (inject-c
 inject-same-length-3 t c = c .before .before .before .before .before .before .before .before .field .kept .1 .1 .0 ∙ c .before .before .before .before .before .before .before .before .before .before .before .before .before .before .before .before .before .before .before .before .before .before .before .before .before .choose .kept .1 .1 .0
 
 pub inject-same-length-4 : (t : ℕ) → inject-lts.Need-same-length-4 (inject-claims t) (inject-at t) inject.Post
-inject-same-length-4 t c = c .before .before .closer .kept .1 .1 .0 ∙ c .before .before .before .before .before .before .before .before .field .kept .1 .1 .1 .0 ∙ c .before .before .before .before .before .before .before .before .before .before .before .before .before .tag .kept .1 .1 .1 .0 ∙ c .before .before .before .before .before .before .before .before .before .before .before .before .before .before .before .before .before .before .before .before .before .before .before .before .before .choose .kept .1 .1 .1 .0
+inject-same-length-4 t c = c .before .before .closer .kept .1 .1 .1 .0 ∙ c .before .before .before .before .before .before .before .before .field .kept .1 .1 .1 .0 ∙ c .before .before .before .before .before .before .before .before .before .before .before .before .before .tag .kept .1 .1 .1 .1 .0 ∙ c .before .before .before .before .before .before .before .before .before .before .before .before .before .before .before .before .before .before .before .before .before .before .before .before .before .choose .kept .1 .1 .1 .0
 
 pub inject-returns-2 : (t : ℕ) → inject-lts.Need-returns-2 (inject-claims t) (inject-at t) inject.Post
 inject-returns-2 t c =
