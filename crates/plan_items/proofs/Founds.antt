@@ -7,13 +7,15 @@ use native.Mathlib.Omega.{arith}
 use lib.ListN.{length, getD, drop}
 use Rattle.rules.specs.Read.{Reader, _>>=_, pure, refuse, u8, u16, many, kind}
 use Rattle.rules.specs.Read.Read.{got}
-use Rattle.file.specs.Steps.{word, readAt}
+use Rattle.file.specs.Steps.{word, readAt, stepAt}
 use Rattle.file.proofs.Readers.{lt-or-le, down, bind-got, bind-inv, then-got, kind-in, Fixed, needs-fixed, needs-first, fixed-u16}
 use Rattle.file.proofs.Sections.{word-then}
 use Rattle.views.proofs.Runs.{value-of, needs-room, first-byte}
 use Rattle.views.proofs.Entries.{Kinded, kind-found, kind-is}
+use Rattle.file.proofs.Suffix.{Suffix}
 use Rattle.plan_form.specs.Places.{Found}
-use Rattle.plan_items.specs.Items.{itemsAt}
+use Rattle.plan_form.proofs.Places.{stands}
+use Rattle.plan_items.specs.Items.{itemsAt, pastOf}
 
 -- one reading, then another
 module _ {A B : Type 0} (f : List ℕ) (r : Reader A) (k : A → Reader B) (p : ℕ) (x : Found f (r >>= k) p) where
@@ -63,6 +65,13 @@ module _ {A : Type 0} (f : List ℕ) (rs : List (Reader A)) (p : ℕ) (x : Found
 pub fixed-room : {A : Type 0} (f : List ℕ) (n p : ℕ) (r : Reader A) → Fixed n r → p ≤ length f → Found f r p → p + n ≤ length f
 fixed-room f n p r y h x = ⊎-elim (λ z. omega arith) (λ z. needs-room f n p z (needs-fixed n y) (x .reads)) (lt-or-le n 1)
 
+-- what was found ends where the walk over it does
+pub found-past : {A : Type 0} (f : List ℕ) (r : Reader A) → Suffix r → (p q : ℕ) → p ≤ length f → (x : Found f r p) → q ≡ pastOf (stepAt f r p)
+    → readAt f r p ≡ got (x .item) (drop q f)
+found-past f r y p q h x e =
+    let s = stands f y p (x .item) (x .rest) h (x .reads) in
+    s .reads ∙ ap (λ (j : ℕ). got (x .item) (drop j f)) (sym (e ∙ ap pastOf (s .steps)))
+
 -- n readings by one reader
 module _ {A : Type 0} (f : List ℕ) (r : Reader A) (n p : ℕ) where
   pub items-are : (xs : List A) (rest : List ℕ) → readAt f (many n r) p ≡ got xs rest → itemsAt f r n p ≡ xs
@@ -71,10 +80,6 @@ module _ {A : Type 0} (f : List ℕ) (r : Reader A) (n p : ℕ) where
 
   pub items-read : (xs : List A) (q : ℕ) → readAt f (many n r) p ≡ got xs (drop q f) → readAt f (many n r) p ≡ got (itemsAt f r n p) (drop q f)
   items-read xs q e = e ∙ ap (λ (l : List A). got l (drop q f)) (sym (items-are xs (drop q f) e))
-
-  pub items-none : n ≡ 0 → readAt f (many n r) p ≡ got (itemsAt f r n p) (drop p f)
-  unfolding many pure readAt itemsAt
-  items-none h = rw h
 
   -- one reading more
   step : A → Reader (List A)
@@ -110,11 +115,6 @@ module _ {A : Type 0} (f : List ℕ) (r : Reader A) (n p : ℕ) where
           bind-to : (xs : List A) (rest : List ℕ) → readAt f (many (n - 1) r) q ≡ got xs rest → readAt f (step a) q ≡ got (a ∷ xs) rest
           bind-to xs rest e = bind-got (many (n - 1) r) (λ (ys : List A). pure (a ∷ ys)) (drop q f) xs rest e
 
-  pub reads-more : 0 < n → (a : A) (q : ℕ) (ys : List A) (e : ℕ) → readAt f r p ≡ got a (drop q f) → readAt f (many (n - 1) r) q ≡ got ys (drop e f) → readAt f (many n r) p ≡ got (a ∷ ys) (drop e f)
-  unfolding step readAt pure
-  reads-more h a q ys e g k =
-      ap (λ (s : Reader (List A)). readAt f s p) (opened h) ∙ then-got f r step p a q g ∙ then-got f (many (n - 1) r) (λ (zs : List A). pure (a ∷ zs)) q ys e k
-
 -- as many as were asked for
 many-length : {A : Type 0} (r : Reader A) (n : ℕ) (l : List ℕ) (xs : List A) (rest : List ℕ) → many n r l ≡ got xs rest → length xs ≡ n
 unfolding many pure
@@ -127,21 +127,3 @@ many-length {A} r (suc n) l xs rest e =
 pub items-length : {A : Type 0} (f : List ℕ) (r : Reader A) (n p : ℕ) → Found f (many n r) p → length (itemsAt f r n p) ≡ n
 unfolding readAt
 items-length f r n p x = ap length (items-are f r n p (x .item) (x .rest) (x .reads)) ∙ many-length r n (drop p f) (x .item) (x .rest) (x .reads)
-
--- n readings from p on, of which those from q on are left
-pub record Left {A : Type 0} (f : List ℕ) (r : Reader A) (n p left q : ℕ) : Type 0 where
-  pub found : Found f (many left r) q
-  pub whole : (e : ℕ) → readAt f (many left r) q ≡ got (itemsAt f r left q) (drop e f) → readAt f (many n r) p ≡ got (itemsAt f r n p) (drop e f)
-
-pub left-all : {A : Type 0} (f : List ℕ) (r : Reader A) (n p : ℕ) → Found f (many n r) p → Left f r n p n p
-left-all f r n p x = record { found = x; whole = λ e g. g }
-
-pub left-more : {A : Type 0} (f : List ℕ) (r : Reader A) (n p left q : ℕ) (a : A) (e : ℕ) → 0 < left → readAt f r q ≡ got a (drop e f) → Left f r n p left q → Left f r n p (left - 1) e
-left-more f r n p left q a e h g x =
-    record {
-      found = found-more f r left q h (x .found) a e g;
-      whole = λ o k. x .whole o (items-read f r left q _ o (reads-more f r left q h a e _ o g k));
-    }
-
-pub left-none : {A : Type 0} (f : List ℕ) (r : Reader A) (n p left q : ℕ) → left ≡ 0 → Left f r n p left q → readAt f (many n r) p ≡ got (itemsAt f r n p) (drop q f)
-left-none f r n p left q h x = x .whole q (items-none f r left q h)

@@ -14,7 +14,7 @@ use Rattle.rules.specs.Read.{Reader, _>>=_, pure, refuse, u8, u16, u32, many, k
 use Rattle.rules.specs.Read.Read.{got}
 use Rattle.rules.specs.Reader as Reader
 use Rattle.rules.specs.Events.{Narrowing}
-use Rattle.rules.specs.Placement.{SeekKeyPart, Guide, RangeEdge}
+use Rattle.rules.specs.Placement.{SeekKeyPart, Part, Residual, Guide, RangeEdge}
 use Rattle.file.specs.Steps.{word, readAt}
 use Rattle.file.proofs.Readers.{refused-got, then-got, byte-in, kind-in, needs-fixed, needs-first, fixed-bytes, fixed-many, fixed-u32}
 use Rattle.file.proofs.Sections.{word-then}
@@ -122,8 +122,8 @@ anchor-reads : (f : List ℕ) (o : ℕ) → o < length f → getD f o 0 < 2 → 
 unfolding anchor readAt pure
 anchor-reads f o h g = kind-in f o anchorReaders h ∙ ap (λ (r : Reader File.Anchor). r (drop (o + 1) f)) (anchor-known (getD f o 0) g)
 
-module _ {A : Type 0} (f : List ℕ) (make : ℕ → ℕ → File.Anchor → A) (q : ℕ) (x : Found f (u16 >>= λ n. u8 >>= λ d. anchor >>= λ a. pure (make n d a)) q) where
-  distance-found : Found f (u8 >>= λ d. anchor >>= λ a. pure (make (word f q) d a)) (q + 2)
+module _ {A : Type 0} (f : List ℕ) (k : ℕ → ℕ → File.Anchor → Reader A) (q : ℕ) (x : Found f (u16 >>= λ n. u8 >>= λ d. anchor >>= λ a. k n d a) q) where
+  distance-found : Found f (u8 >>= λ d. anchor >>= λ a. k (word f q) d a) (q + 2)
   distance-found = word-found f _ q x
 
   anchor-found : Found f (kind anchorReaders) (q + 2 + 1)
@@ -139,56 +139,87 @@ module _ {A : Type 0} (f : List ℕ) (make : ℕ → ℕ → File.Anchor → A) 
       rw e at (kind-known f anchorReaders (q + 2 + 1) anchor-found)
 
   pub fuzzy-reads : (n d : ℕ) (a : Anchor) → n ≡ word f q → d ≡ getD f (q + 2) 0 → a ≡ anchorAt (getD f (q + 3) 0)
-      → readAt f (u16 >>= λ n. u8 >>= λ d. anchor >>= λ a. pure (make n d a)) q ≡ got (make n d (anchorOf a)) (drop (q + 4) f)
-  unfolding readAt pure
+      → readAt f (u16 >>= λ n. u8 >>= λ d. anchor >>= λ a. k n d a) q ≡ readAt f (k n d (anchorOf a)) (q + 4)
   fuzzy-reads n d a u v w =
       let e : q + 2 + 1 ≡ q + 3 = omega arith in
       let g : q + 3 + 1 ≡ q + 4 = omega arith in
       rw (u, v, w) (word-then f q _ (omega (arith, fuzzy-room)) ∙ byte-in f (q + 2) _ (omega (arith, fuzzy-room))
-      ∙ ap (λ (j : ℕ). readAt f (anchor >>= λ a. pure (make (word f q) (getD f (q + 2) 0) a)) j) e
+      ∙ ap (λ (j : ℕ). readAt f (anchor >>= λ a. k (word f q) (getD f (q + 2) 0) a) j) e
       ∙ then-got f anchor _ (q + 3) _ (q + 3 + 1) (anchor-reads f (q + 3) (omega (arith, fuzzy-room)) fuzzy-known)
-      ∙ ap (λ (j : ℕ). got (make (word f q) (getD f (q + 2) 0) (anchorOf (anchorAt (getD f (q + 3) 0)))) (drop j f)) g)
+      ∙ ap (λ (j : ℕ). readAt f (k (word f q) (getD f (q + 2) 0) (anchorOf (anchorAt (getD f (q + 3) 0)))) j) g)
+
+  pub fuzzy-then : (n d : ℕ) (a : Anchor) → n ≡ word f q → d ≡ getD f (q + 2) 0 → a ≡ anchorAt (getD f (q + 3) 0) → Found f (k n d (anchorOf a)) (q + 4)
+  fuzzy-then n d a u v w = record { item = x .item; rest = x .rest; reads = sym (fuzzy-reads n d a u v w) ∙ x .reads }
+
+-- a node, and what is made with it
+pub node-reads : {A : Type 0} (f : List ℕ) (make : ℕ → A) (e n : ℕ) → Found f (u16 >>= λ m. pure (make m)) e → n ≡ word f e
+    → readAt f (u16 >>= λ m. pure (make m)) e ≡ got (make n) (drop (e + 2) f)
+node-reads f make e n x u = rw u (one-in f e make (word-inside f _ e x))
+
+-- a part's key
+abbrev keyReaders : List (Reader SeekKeyPart)
+keyReaders = Reader.bytesPart ∷ Reader.registerPart ∷ Reader.factPart ∷ []
+
+module _ (f : List ℕ) (p : ℕ) (x : Found f Reader.partKey p) where
+  pub key-inside : p < length f
+  unfolding Reader.partKey
+  key-inside = kind-inside f keyReaders p x
+
+  pub key-known : getD f p 0 < 3
+  unfolding Reader.partKey
+  key-known = kind-known f keyReaders p x
+
+  pub key-text : getD f p 0 ≡ 0 → Found f Reader.text (p + 1)
+  unfolding Reader.partKey Reader.bytesPart
+  key-text e = found-first f Reader.text _ (p + 1) (kind-then f keyReaders p x 0 e)
+
+  pub key-bytes : (t : TextView) → getD f p 0 ≡ 0 → readAt f Reader.text (p + 1) ≡ got (textOf f t) (drop (t .at + t .len) f) → readAt f Reader.partKey p ≡ got (SeekKeyPart.Bytes (textOf f t)) (drop (t .at + t .len) f)
+  unfolding Reader.partKey Reader.bytesPart readAt pure
+  key-bytes t e g = kind-reads f keyReaders p x 0 e _ (t .at + t .len) (then-got f Reader.text _ (p + 1) (textOf f t) (t .at + t .len) g)
+
+  pub key-address : getD f p 0 ≡ 1 → p + 1 + 2 ≤ length f
+  unfolding Reader.partKey Reader.registerPart
+  key-address e = word-inside f _ (p + 1) (kind-then f keyReaders p x 1 e)
+
+  pub key-path : getD f p 0 ≡ 1 → Found f Reader.path (p + 1 + 2)
+  unfolding Reader.partKey Reader.registerPart
+  key-path e = found-first f Reader.path _ (p + 1 + 2) (word-found f _ (p + 1) (kind-then f keyReaders p x 1 e))
+
+  pub key-register : (a q : ℕ) → getD f p 0 ≡ 1 → a ≡ word f (p + 1) → readAt f Reader.path (p + 1 + 2) ≡ got (pathAt f (p + 1 + 2)) (drop q f) → readAt f Reader.partKey p ≡ got (SeekKeyPart.RegisterField a (pathAt f (p + 1 + 2))) (drop q f)
+  unfolding Reader.partKey Reader.registerPart readAt pure
+  key-register a q e u g = rw u (kind-reads f keyReaders p x 1 e _ q (word-then f (p + 1) _ (key-address e) ∙ then-got f Reader.path _ (p + 1 + 2) _ q g))
+
+  pub key-fact-inside : getD f p 0 ≡ 2 → p + 1 + 2 ≤ length f
+  unfolding Reader.partKey Reader.factPart
+  key-fact-inside e = word-inside f _ (p + 1) (kind-then f keyReaders p x 2 e)
+
+  pub key-fact : (a : ℕ) → getD f p 0 ≡ 2 → a ≡ word f (p + 1) → readAt f Reader.partKey p ≡ got (SeekKeyPart.RegisterFactId a) (drop (p + 1 + 2) f)
+  unfolding Reader.partKey Reader.factPart
+  key-fact a e u = rw u (kind-reads f keyReaders p x 2 e _ (p + 1 + 2) (one-in f (p + 1) SeekKeyPart.RegisterFactId (key-fact-inside e)))
 
 -- a part
-abbrev partReaders : List (Reader SeekKeyPart)
-partReaders = Reader.bytesPart ∷ Reader.registerPart ∷ Reader.factPart ∷ []
+abbrev partMade : SeekKeyPart → ℕ → Part
+partMade k n = record { key = k; node = n }
 
 module _ (f : List ℕ) (p : ℕ) (x : Found f Reader.part p) where
+  pub part-key : Found f Reader.partKey p
+  unfolding Reader.part
+  part-key = found-first f Reader.partKey _ p x
+
   pub part-inside : p < length f
-  unfolding Reader.part
-  part-inside = kind-inside f partReaders p x
+  part-inside = key-inside f p part-key
 
-  pub part-known : getD f p 0 < 3
-  unfolding Reader.part
-  part-known = kind-known f partReaders p x
+  module _ (k : SeekKeyPart) (e : ℕ) (g : readAt f Reader.partKey p ≡ got k (drop e f)) where
+    part-node : Found f (u16 >>= λ n. pure (partMade k n)) e
+    unfolding Reader.part
+    part-node = found-then f Reader.partKey _ p x k e g
 
-  pub part-text : getD f p 0 ≡ 0 → Found f Reader.text (p + 1)
-  unfolding Reader.part Reader.bytesPart
-  part-text e = found-first f Reader.text _ (p + 1) (kind-then f partReaders p x 0 e)
+    pub part-room : e + 2 ≤ length f
+    part-room = word-inside f _ e part-node
 
-  pub part-bytes : (t : TextView) → getD f p 0 ≡ 0 → readAt f Reader.text (p + 1) ≡ got (textOf f t) (drop (t .at + t .len) f) → readAt f Reader.part p ≡ got (SeekKeyPart.Bytes (textOf f t)) (drop (t .at + t .len) f)
-  unfolding Reader.part Reader.bytesPart readAt pure
-  part-bytes t e g = kind-reads f partReaders p x 0 e _ (t .at + t .len) (then-got f Reader.text _ (p + 1) (textOf f t) (t .at + t .len) g)
-
-  pub part-address : getD f p 0 ≡ 1 → p + 1 + 2 ≤ length f
-  unfolding Reader.part Reader.registerPart
-  part-address e = word-inside f _ (p + 1) (kind-then f partReaders p x 1 e)
-
-  pub part-path : getD f p 0 ≡ 1 → Found f Reader.path (p + 1 + 2)
-  unfolding Reader.part Reader.registerPart
-  part-path e = found-first f Reader.path _ (p + 1 + 2) (word-found f _ (p + 1) (kind-then f partReaders p x 1 e))
-
-  pub part-register : (a q : ℕ) → getD f p 0 ≡ 1 → a ≡ word f (p + 1) → readAt f Reader.path (p + 1 + 2) ≡ got (pathAt f (p + 1 + 2)) (drop q f) → readAt f Reader.part p ≡ got (SeekKeyPart.RegisterField a (pathAt f (p + 1 + 2))) (drop q f)
-  unfolding Reader.part Reader.registerPart readAt pure
-  part-register a q e u g = rw u (kind-reads f partReaders p x 1 e _ q (word-then f (p + 1) _ (part-address e) ∙ then-got f Reader.path _ (p + 1 + 2) _ q g))
-
-  pub part-fact-inside : getD f p 0 ≡ 2 → p + 1 + 2 ≤ length f
-  unfolding Reader.part Reader.factPart
-  part-fact-inside e = word-inside f _ (p + 1) (kind-then f partReaders p x 2 e)
-
-  pub part-fact : (a : ℕ) → getD f p 0 ≡ 2 → a ≡ word f (p + 1) → readAt f Reader.part p ≡ got (SeekKeyPart.RegisterFactId a) (drop (p + 1 + 2) f)
-  unfolding Reader.part Reader.factPart
-  part-fact a e u = rw u (kind-reads f partReaders p x 2 e _ (p + 1 + 2) (one-in f (p + 1) SeekKeyPart.RegisterFactId (part-fact-inside e)))
+    pub part-reads : (n : ℕ) → n ≡ word f e → readAt f Reader.part p ≡ got (record { key = k; node = n }) (drop (e + 2) f)
+    unfolding Reader.part
+    part-reads n u = then-got f Reader.partKey _ p k e g ∙ node-reads f (partMade k) e n part-node u
 
 -- an edge
 abbrev edgeReaders : List (Reader (Option RangeEdge))
@@ -227,8 +258,11 @@ module _ (f : List ℕ) (p : ℕ) (x : Found f Reader.edge p) where
 abbrev guideReaders : List (Reader (Option Guide))
 guideReaders = pure none ∷ Reader.guideThat ∷ []
 
-abbrev guideMade : File.FieldPath → ℕ → ℕ → File.Anchor → Option Guide
-guideMade path n d a = some (record { path = path; term = n; distance = d; anchor = a })
+abbrev guideMade : File.FieldPath → ℕ → ℕ → File.Anchor → ℕ → Option Guide
+guideMade path n d a m = some (record { path = path; term = n; distance = d; anchor = a; node = m })
+
+abbrev guideNode : File.FieldPath → ℕ → ℕ → File.Anchor → Reader (Option Guide)
+guideNode path n d a = u16 >>= λ m. pure (guideMade path n d a m)
 
 module _ (f : List ℕ) (p : ℕ) (x : Found f Reader.guide p) where
   pub guide-inside : p < length f
@@ -248,25 +282,35 @@ module _ (f : List ℕ) (p : ℕ) (x : Found f Reader.guide p) where
   guide-path e = found-first f Reader.path _ (p + 1) (kind-then f guideReaders p x 1 e)
 
   module _ (q : ℕ) (e : getD f p 0 ≡ 1) (g : readAt f Reader.path (p + 1) ≡ got (pathAt f (p + 1)) (drop q f)) where
-    guide-tail : Found f (u16 >>= λ n. u8 >>= λ d. anchor >>= λ a. pure (guideMade (pathAt f (p + 1)) n d a)) q
+    guide-tail : Found f (u16 >>= λ n. u8 >>= λ d. anchor >>= λ a. guideNode (pathAt f (p + 1)) n d a) q
     unfolding Reader.guide Reader.guideThat
     guide-tail = found-then f Reader.path _ (p + 1) (kind-then f guideReaders p x 1 e) (pathAt f (p + 1)) q g
 
-    pub guide-room : q + 4 ≤ length f
-    guide-room = fuzzy-room f (guideMade (pathAt f (p + 1))) q guide-tail
+    guide-node : (n d : ℕ) (a : Anchor) → n ≡ word f q → d ≡ getD f (q + 2) 0 → a ≡ anchorAt (getD f (q + 3) 0) → Found f (guideNode (pathAt f (p + 1)) n d (anchorOf a)) (q + 4)
+    guide-node n d a u v w = fuzzy-then f (guideNode (pathAt f (p + 1))) q guide-tail n d a u v w
+
+    pub guide-room : q + 6 ≤ length f
+    guide-room = omega (arith, word-inside f _ (q + 4) (guide-node _ _ _ refl refl refl))
 
     pub guide-anchor : getD f (q + 3) 0 < 2
-    guide-anchor = fuzzy-known f (guideMade (pathAt f (p + 1))) q guide-tail
+    guide-anchor = fuzzy-known f (guideNode (pathAt f (p + 1))) q guide-tail
 
-    pub guide-some : (n d : ℕ) (a : Anchor) → n ≡ word f q → d ≡ getD f (q + 2) 0 → a ≡ anchorAt (getD f (q + 3) 0)
-        → readAt f Reader.guide p ≡ got (some (record { path = pathAt f (p + 1); term = n; distance = d; anchor = anchorOf a })) (drop (q + 4) f)
+    pub guide-some : (n d : ℕ) (a : Anchor) (m : ℕ) → n ≡ word f q → d ≡ getD f (q + 2) 0 → a ≡ anchorAt (getD f (q + 3) 0) → m ≡ word f (q + 4)
+        → readAt f Reader.guide p ≡ got (some (record { path = pathAt f (p + 1); term = n; distance = d; anchor = anchorOf a; node = m })) (drop (q + 6) f)
     unfolding Reader.guide Reader.guideThat
-    guide-some n d a u v w =
-        kind-reads f guideReaders p x 1 e _ (q + 4) (then-got f Reader.path _ (p + 1) (pathAt f (p + 1)) q g ∙ fuzzy-reads f (guideMade (pathAt f (p + 1))) q guide-tail n d a u v w)
+    guide-some n d a m u v w y =
+        let o : q + 4 + 2 ≡ q + 6 = omega arith in
+        let path = pathAt f (p + 1) in
+        kind-reads f guideReaders p x 1 e _ (q + 6) (then-got f Reader.path _ (p + 1) path q g ∙ fuzzy-reads f (guideNode path) q guide-tail n d a u v w
+        ∙ node-reads f (guideMade path n d (anchorOf a)) (q + 4) m (guide-node n d a u v w) y
+        ∙ ap (λ (j : ℕ). got (guideMade path n d (anchorOf a) m) (drop j f)) o)
 
 -- an op
 abbrev opReaders : List (Reader Narrowing)
 opReaders = Reader.bytesOp ∷ Reader.prefixOp ∷ Reader.registerOp ∷ Reader.factOp ∷ Reader.tagOp ∷ Reader.fuzzyOp ∷ []
+
+abbrev fuzzyMade : ℕ → ℕ → File.Anchor → Reader Narrowing
+fuzzyMade n d a = pure (Narrowing.Fuzzy n d a)
 
 module _ (f : List ℕ) (p : ℕ) (x : Found f Reader.op p) where
   pub op-inside : p < length f
@@ -321,32 +365,46 @@ module _ (f : List ℕ) (p : ℕ) (x : Found f Reader.op p) where
   unfolding Reader.op Reader.tagOp readAt pure
   op-tag d e u = rw u (kind-reads f opReaders p x 4 e _ (p + 1 + 4) (then-got f u32 _ (p + 1) (long f (p + 1)) (p + 1 + 4) (long-in f (p + 1) (op-tag-inside e))))
 
-  fuzzy-found : getD f p 0 ≡ 5 → Found f (u16 >>= λ n. u8 >>= λ d. anchor >>= λ a. pure (Narrowing.Fuzzy n d a)) (p + 1)
+  fuzzy-found : getD f p 0 ≡ 5 → Found f (u16 >>= λ n. u8 >>= λ d. anchor >>= λ a. fuzzyMade n d a) (p + 1)
   unfolding Reader.op Reader.fuzzyOp
   fuzzy-found e = kind-then f opReaders p x 5 e
 
   pub op-fuzzy-room : getD f p 0 ≡ 5 → p + 1 + 4 ≤ length f
-  op-fuzzy-room e = fuzzy-room f Narrowing.Fuzzy (p + 1) (fuzzy-found e)
+  op-fuzzy-room e = fuzzy-room f fuzzyMade (p + 1) (fuzzy-found e)
 
   pub op-fuzzy-anchor : getD f p 0 ≡ 5 → getD f (p + 1 + 3) 0 < 2
-  op-fuzzy-anchor e = fuzzy-known f Narrowing.Fuzzy (p + 1) (fuzzy-found e)
+  op-fuzzy-anchor e = fuzzy-known f fuzzyMade (p + 1) (fuzzy-found e)
 
   pub op-fuzzy : (n d : ℕ) (a : Anchor) → getD f p 0 ≡ 5 → n ≡ word f (p + 1) → d ≡ getD f (p + 1 + 2) 0 → a ≡ anchorAt (getD f (p + 1 + 3) 0)
       → readAt f Reader.op p ≡ got (Narrowing.Fuzzy n d (anchorOf a)) (drop (p + 1 + 4) f)
-  unfolding Reader.op Reader.fuzzyOp
-  op-fuzzy n d a e u v w = kind-reads f opReaders p x 5 e _ (p + 1 + 4) (fuzzy-reads f Narrowing.Fuzzy (p + 1) (fuzzy-found e) n d a u v w)
+  unfolding Reader.op Reader.fuzzyOp readAt pure
+  op-fuzzy n d a e u v w = kind-reads f opReaders p x 5 e _ (p + 1 + 4) (fuzzy-reads f fuzzyMade (p + 1) (fuzzy-found e) n d a u v w)
 
 -- a residual
+abbrev residualMade : File.FieldPath → Narrowing → ℕ → Residual
+residualMade path o n = record { path = path; op = o; node = n }
+
 module _ (f : List ℕ) (p : ℕ) (x : Found f Reader.residual p) where
   pub residual-path : Found f Reader.path p
   unfolding Reader.residual
   residual-path = found-first f Reader.path _ p x
 
   module _ (q : ℕ) (g : readAt f Reader.path p ≡ got (pathAt f p) (drop q f)) where
-    pub residual-op : Found f Reader.op q
+    op-left : Found f (Reader.op >>= λ o. u16 >>= λ n. pure (residualMade (pathAt f p) o n)) q
     unfolding Reader.residual
-    residual-op = found-first f Reader.op _ q (found-then f Reader.path _ p x (pathAt f p) q g)
+    op-left = found-then f Reader.path _ p x (pathAt f p) q g
 
-    pub residual-reads : (o : Narrowing) (e : ℕ) → readAt f Reader.op q ≡ got o (drop e f) → readAt f Reader.residual p ≡ got (record { path = pathAt f p; op = o }) (drop e f)
-    unfolding Reader.residual readAt pure
-    residual-reads o e h = then-got f Reader.path _ p (pathAt f p) q g ∙ then-got f Reader.op _ q o e h
+    pub residual-op : Found f Reader.op q
+    residual-op = found-first f Reader.op _ q op-left
+
+    module _ (o : Narrowing) (e : ℕ) (h : readAt f Reader.op q ≡ got o (drop e f)) where
+      residual-node : Found f (u16 >>= λ n. pure (residualMade (pathAt f p) o n)) e
+      residual-node = found-then f Reader.op _ q op-left o e h
+
+      pub residual-room : e + 2 ≤ length f
+      residual-room = word-inside f _ e residual-node
+
+      pub residual-reads : (n : ℕ) → n ≡ word f e → readAt f Reader.residual p ≡ got (record { path = pathAt f p; op = o; node = n }) (drop (e + 2) f)
+      unfolding Reader.residual
+      residual-reads n u =
+          then-got f Reader.path _ p (pathAt f p) q g ∙ then-got f Reader.op _ q o e h ∙ node-reads f (residualMade (pathAt f p) o) e n residual-node u

@@ -7,28 +7,57 @@ use native.Mathlib.Omega.{arith}
 use lib.ListN.{length, getD, drop}
 use Rattle.rules.specs.Read.{Reader, _>>=_, pure, u16, many}
 use Rattle.rules.specs.Read.Read.{got}
+use Rattle.rules.specs.File.{FieldPath}
 use Rattle.rules.specs.Reader as Reader
-use Rattle.rules.specs.Placement.{SeekKeyPart, Residual, Guide, RangeEdge, SeekKey}
+use Rattle.rules.specs.Placement.{Part, Residual, Guide, RangeEdge, SeekKey}
 use Rattle.rules.specs.Plan.{PlanLevel}
 use Rattle.file.specs.Steps.{word, readAt}
-use Rattle.file.proofs.Readers.{then-got, fixed-many, fixed-u16}
+use Rattle.file.proofs.Readers.{then-got, needs-fixed, fixed-many, fixed-u16}
 use Rattle.file.proofs.Sections.{word-in, word-then}
-use Rattle.views.specs.Views.{pathAt, textOf}
-use Rattle.views.specs.declared.TextView.{TextView}
-use Rattle.views.proofs.Runs.{Finds, many-run}
+use Rattle.views.specs.Views.{run, pathAt}
+use Rattle.views.proofs.Runs.{run-at, needs-room, Finds, many-run}
 use Rattle.plan_form.specs.Places.{Found}
 use Rattle.plan_items.specs.Items.{itemsAt}
-use Rattle.plan_items.proofs.Founds.{found-first, found-then, word-inside, word-found, kind-inside, kind-known, kind-then, kind-reads, fixed-room, items-read}
+use Rattle.plan_items.proofs.Founds.{found-first, found-then, word-inside, word-found, kind-inside, kind-known, kind-then, kind-reads, fixed-room, found-one, items-are, items-read}
+use Rattle.plan_items.proofs.Leaves.{node-reads}
+
+-- two-byte numbers, one after another
+pub numbers-inside : (f : List ℕ) (n p : ℕ) → 0 < n → Found f (many n u16) p → p ≤ length f
+numbers-inside f n p h x = omega (arith, needs-room f 2 p (omega arith) (needs-fixed 2 fixed-u16) (found-one f u16 n p h x .reads))
+
+module _ (f : List ℕ) (n p : ℕ) (h : p ≤ length f) (x : Found f (many n u16) p) where
+  finds-word : Finds f u16 2 (word f)
+  finds-word = record { whole = λ q h. word-in f q h }
+
+  pub numbers-room : p + 2 * n ≤ length f
+  numbers-room = omega (arith, fixed-room f (n * 2) p (many n u16) (fixed-many 2 fixed-u16 n) h x)
+
+  numbers-run : readAt f (many n u16) p ≡ got (run (word f) 2 n p) (drop (p + 2 * n) f)
+  numbers-run = many-run f 2 finds-word n p numbers-room
+
+  pub numbers-read : readAt f (many n u16) p ≡ got (itemsAt f u16 n p) (drop (p + 2 * n) f)
+  numbers-read = items-read f u16 n p _ (p + 2 * n) numbers-run
+
+  pub number-of : (k : ℕ) → k < n → word f (p + 2 * k) ≡ getD (itemsAt f u16 n p) k 0
+  number-of k g = sym (ap (λ (l : List ℕ). getD l k 0) (items-are f u16 n p _ _ numbers-run) ∙ run-at (word f) 2 n p k 0 g)
 
 -- a seek of each kind
-module _ (f : List ℕ) (p : ℕ) (x : Found f Reader.prefixSeek p) where
+module _ (f : List ℕ) (n p : ℕ) (x : Found f (Reader.prefixSeek n) p) where
   pub prefix-text : Found f Reader.text p
   unfolding Reader.prefixSeek
   prefix-text = found-first f Reader.text _ p x
 
-  pub prefix-reads : (t : TextView) → readAt f Reader.text p ≡ got (textOf f t) (drop (t .at + t .len) f) → readAt f Reader.prefixSeek p ≡ got (SeekKey.Prefix (textOf f t)) (drop (t .at + t .len) f)
-  unfolding Reader.prefixSeek readAt pure
-  prefix-reads t g = then-got f Reader.text _ p (textOf f t) (t .at + t .len) g
+  module _ (t : List ℕ) (q : ℕ) (g : readAt f Reader.text p ≡ got t (drop q f)) where
+    pub prefix-nodes : Found f (many n u16) q
+    unfolding Reader.prefixSeek
+    prefix-nodes = found-first f (many n u16) _ q (found-then f Reader.text _ p x t q g)
+
+    pub prefix-reads : q ≤ length f → readAt f (Reader.prefixSeek n) p ≡ got (SeekKey.Prefix t (itemsAt f u16 n q)) (drop (q + 2 * n) f)
+    unfolding Reader.prefixSeek readAt pure
+    prefix-reads h = then-got f Reader.text _ p t q g ∙ then-got f (many n u16) _ q _ (q + 2 * n) (numbers-read f n q h prefix-nodes)
+
+abbrev rangeMade : List Part → List ℕ → FieldPath → ℕ → SeekKey
+rangeMade parts t path m = SeekKey.PrefixRange parts (record { path = path; prefix = t; node = m })
 
 module _ (f : List ℕ) (n p : ℕ) where
   pub composite-parts : Found f (Reader.compositeSeek n) p → Found f (many n Reader.part) p
@@ -43,7 +72,7 @@ module _ (f : List ℕ) (n p : ℕ) where
   unfolding Reader.boundedSeek
   bounded-parts x = found-first f (many n Reader.part) _ p x
 
-  module _ (parts : List SeekKeyPart) (q : ℕ) (g : readAt f (many n Reader.part) p ≡ got parts (drop q f)) where
+  module _ (parts : List Part) (q : ℕ) (g : readAt f (many n Reader.part) p ≡ got parts (drop q f)) where
     pub composite-reads : readAt f (Reader.compositeSeek n) p ≡ got (SeekKey.Composite parts) (drop q f)
     unfolding Reader.compositeSeek readAt pure
     composite-reads = then-got f (many n Reader.part) _ p parts q g
@@ -52,14 +81,26 @@ module _ (f : List ℕ) (n p : ℕ) where
     unfolding Reader.rangeSeek
     range-text x = found-first f Reader.text _ q (found-then f (many n Reader.part) _ p x parts q g)
 
-    pub range-path : Found f (Reader.rangeSeek n) p → (t : List ℕ) (o : ℕ) → readAt f Reader.text q ≡ got t (drop o f) → Found f Reader.path o
-    unfolding Reader.rangeSeek
-    range-path x t o h = found-first f Reader.path _ o (found-then f Reader.text _ q (found-then f (many n Reader.part) _ p x parts q g) t o h)
+    module _ (t : List ℕ) (o : ℕ) (h : readAt f Reader.text q ≡ got t (drop o f)) where
+      path-left : Found f (Reader.rangeSeek n) p → Found f (Reader.path >>= λ w. u16 >>= λ m. pure (rangeMade parts t w m)) o
+      unfolding Reader.rangeSeek
+      path-left x = found-then f Reader.text _ q (found-then f (many n Reader.part) _ p x parts q g) t o h
 
-    pub range-reads : (t : List ℕ) (o e : ℕ) → readAt f Reader.text q ≡ got t (drop o f) → readAt f Reader.path o ≡ got (pathAt f o) (drop e f)
-        → readAt f (Reader.rangeSeek n) p ≡ got (SeekKey.PrefixRange parts (record { path = pathAt f o; prefix = t })) (drop e f)
-    unfolding Reader.rangeSeek readAt pure
-    range-reads t o e h k = then-got f (many n Reader.part) _ p parts q g ∙ then-got f Reader.text _ q t o h ∙ then-got f Reader.path _ o (pathAt f o) e k
+      pub range-path : Found f (Reader.rangeSeek n) p → Found f Reader.path o
+      range-path x = found-first f Reader.path _ o (path-left x)
+
+      module _ (x : Found f (Reader.rangeSeek n) p) (e : ℕ) (k : readAt f Reader.path o ≡ got (pathAt f o) (drop e f)) where
+        range-node : Found f (u16 >>= λ m. pure (rangeMade parts t (pathAt f o) m)) e
+        range-node = found-then f Reader.path _ o (path-left x) (pathAt f o) e k
+
+        pub range-room : e + 2 ≤ length f
+        range-room = word-inside f _ e range-node
+
+        pub range-reads : (m : ℕ) → m ≡ word f e → readAt f (Reader.rangeSeek n) p ≡ got (SeekKey.PrefixRange parts (record { path = pathAt f o; prefix = t; node = m })) (drop (e + 2) f)
+        unfolding Reader.rangeSeek
+        range-reads m u =
+            then-got f (many n Reader.part) _ p parts q g ∙ then-got f Reader.text _ q t o h ∙ then-got f Reader.path _ o (pathAt f o) e k
+            ∙ node-reads f (rangeMade parts t (pathAt f o)) e m range-node u
 
     pub bounded-lo : Found f (Reader.boundedSeek n) p → Found f Reader.edge q
     unfolding Reader.boundedSeek
@@ -76,7 +117,7 @@ module _ (f : List ℕ) (n p : ℕ) where
 
 -- and by its kind
 abbrev seekReaders : ℕ → List (Reader SeekKey)
-seekReaders n = Reader.prefixSeek ∷ Reader.compositeSeek n ∷ Reader.rangeSeek n ∷ Reader.boundedSeek n ∷ []
+seekReaders n = Reader.prefixSeek n ∷ Reader.compositeSeek n ∷ Reader.rangeSeek n ∷ Reader.boundedSeek n ∷ []
 
 module _ (f : List ℕ) (n p : ℕ) (x : Found f (Reader.seek n) p) where
   pub seek-inside : p < length f
@@ -87,7 +128,7 @@ module _ (f : List ℕ) (n p : ℕ) (x : Found f (Reader.seek n) p) where
   unfolding Reader.seek
   seek-known = kind-known f (seekReaders n) p x
 
-  pub prefix-found : getD f p 0 ≡ 0 → Found f Reader.prefixSeek (p + 1)
+  pub prefix-found : getD f p 0 ≡ 0 → Found f (Reader.prefixSeek n) (p + 1)
   unfolding Reader.seek
   prefix-found e = kind-then f (seekReaders n) p x 0 e
 
@@ -104,7 +145,7 @@ module _ (f : List ℕ) (n p : ℕ) (x : Found f (Reader.seek n) p) where
   bounded-found e = kind-then f (seekReaders n) p x 3 e
 
   module _ (s : SeekKey) (q : ℕ) where
-    pub seek-prefix : getD f p 0 ≡ 0 → readAt f Reader.prefixSeek (p + 1) ≡ got s (drop q f) → readAt f (Reader.seek n) p ≡ got s (drop q f)
+    pub seek-prefix : getD f p 0 ≡ 0 → readAt f (Reader.prefixSeek n) (p + 1) ≡ got s (drop q f) → readAt f (Reader.seek n) p ≡ got s (drop q f)
     unfolding Reader.seek
     seek-prefix e g = kind-reads f (seekReaders n) p x 0 e s q g
 
@@ -136,14 +177,11 @@ module _ {A : Type 0} (f : List ℕ) (r : Reader A) (p : ℕ) (x : Found f (Read
 
 -- of two-byte numbers
 module _ (f : List ℕ) (p : ℕ) (x : Found f (Reader.counted u16) p) (n : ℕ) (e : n ≡ word f p) where
-  finds-word : Finds f u16 2 (word f)
-  finds-word = record { whole = λ q h. word-in f q h }
-
   pub words-room : p + 2 + 2 * n ≤ length f
-  words-room = omega (arith, fixed-room f (n * 2) (p + 2) (many n u16) (fixed-many 2 fixed-u16 n) (counted-inside f u16 p x) (counted-found f u16 p x n e))
+  words-room = numbers-room f n (p + 2) (counted-inside f u16 p x) (counted-found f u16 p x n e)
 
   pub words-read : readAt f (Reader.counted u16) p ≡ got (itemsAt f u16 n (p + 2)) (drop (p + 2 + 2 * n) f)
-  words-read = counted-reads f u16 p x n (p + 2 + 2 * n) e (items-read f u16 n (p + 2) _ (p + 2 + 2 * n) (many-run f 2 finds-word n (p + 2) words-room))
+  words-read = counted-reads f u16 p x n (p + 2 + 2 * n) e (numbers-read f n (p + 2) (counted-inside f u16 p x) (counted-found f u16 p x n e))
 
 -- what is left of a level after its counts, its seek, its guide and its residuals
 abbrev afterResiduals : ℕ → ℕ → ℕ → SeekKey → Option Guide → List Residual → Reader PlanLevel

@@ -9,7 +9,7 @@ use Rattle.rules.specs.Read.{Reader, u16, many}
 use Rattle.rules.specs.Reader as Reader
 use Rattle.rules.specs.File.{Binding}
 use Rattle.rules.specs.Events.{Select, Diagnostic}
-use Rattle.rules.specs.Placement.{SeekKeyPart, Residual}
+use Rattle.rules.specs.Placement.{Part, Residual}
 use Rattle.rules.specs.Plan.{PlanLevel, Plan}
 use Rattle.file.specs.Steps.{wordLimit, word, stepAt}
 use Rattle.file.specs.declared.Step.{Step}
@@ -123,7 +123,7 @@ items-by-number {A} f {r} y n p h x k g d =
     subst (λ (l : List A). ItemAt f r p k (getD l k d)) (sym (items-are f r n p (x .item) (x .rest) (x .reads))) (item-at f y n p (x .item) (x .rest) h (x .reads) k g d)
 
 module _ (f : List ℕ) (n p k : ℕ) (g : k < n) where
-  pub part-by-number : Found f (many n Reader.part) p → (d : SeekKeyPart) → ItemAt f Reader.part p k (getD (itemsAt f Reader.part n p) k d)
+  pub part-by-number : Found f (many n Reader.part) p → (d : Part) → ItemAt f Reader.part p k (getD (itemsAt f Reader.part n p) k d)
   part-by-number x d = items-by-number f suffix-part n p (omega (arith, part-inside f p (found-one f Reader.part n p (omega arith) x))) x k g d
 
   pub residual-by-number : Found f (many n Reader.residual) p → (d : Residual) → ItemAt f Reader.residual p k (getD (itemsAt f Reader.residual n p) k d)

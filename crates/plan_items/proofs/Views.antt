@@ -1,29 +1,34 @@
 -- The whole view of each item is the one that specs/Views.antt names.
-use Prim.Native.Nat.{ℕ, zero, suc, _+_, _-_, _*_, _<_}
+use Prim.Native.Nat.{ℕ, _+_, _*_, _≤_}
 use mathlib.Core.Path.{_≡_, sym, ap, _∙_}
 use mathlib.Core.List.{List}
-use native.Mathlib.Omega.{arith}
-use lib.ListN.{length, getD}
-use Rattle.rules.specs.Read.{u16}
+use lib.ListN.{length, getD, drop}
+use Rattle.rules.specs.Read.{u16, many}
+use Rattle.rules.specs.Read.Read.{got}
 use Rattle.rules.specs.Reader as Reader
-use Rattle.file.specs.Steps.{word, stepAt}
+use Rattle.file.specs.Steps.{word, readAt, stepAt}
 use Rattle.file.specs.declared.Step.{Step}
-use Rattle.file.proofs.Readers.{alike-step}
+use Rattle.file.proofs.Readers.{alike-step, alike-many}
+use Rattle.file.proofs.Suffix.{suffix-many}
 use Rattle.views.specs.Views.{byteAt, long, pastPath, anchorAt, predicateMaybe, slotViews, slotView}
 use Rattle.views.specs.declared.Anchor.{Anchor}
 use Rattle.views.specs.declared.MaybePredicate.{MaybePredicate}
 use Rattle.views.specs.declared.SlotView.the-variants as Sv
 use Rattle.views.specs.declared.TextView.{TextView}
 use Rattle.plan_form.specs.Pieces.{itemOf}
-use Rattle.plan_form.proofs.Lists.{alike-binding, alike-select, alike-counted}
-use Rattle.plan_items.specs.Items.{listView, pastOf}
-use Rattle.plan_items.specs.Views.{textView, pastText, partItems, noPart, partItem, edgeItems}
+use Rattle.plan_form.specs.Places.{Found}
+use Rattle.plan_form.proofs.Forward.{suffix-part, suffix-residual}
+use Rattle.plan_form.proofs.Lists.{alike-part, alike-residual, alike-binding, alike-select, alike-counted}
+use Rattle.plan_items.specs.Items.{itemsAt, listView, pastOf}
+use Rattle.plan_items.proofs.Founds.{found-past, items-read}
+use Rattle.plan_items.specs.Views.{textView, pastText, keyItems, noKey, keyItem, partItem, edgeItems}
 use Rattle.plan_items.specs.Views.{noEdge, edgeItem, guideThat, guideItems, noGuide, guideItem}
-use Rattle.plan_items.specs.Views.{narrowingItems, noNarrowing, narrowingItem, residualView, pasts, partsPast, residualsPast}
+use Rattle.plan_items.specs.Views.{narrowingItems, noNarrowing, narrowingItem, residualView, partsPast, residualsPast}
 use Rattle.plan_items.specs.Views.{prefixItem, compositeItem, rangeItem, boundedItem, seekItems}
 use Rattle.plan_items.specs.Views.{noSeek, seekItem, residualsView, wordsView, levelView}
 use Rattle.plan_items.specs.Views.{fieldItem, slotEnds, slotItem, bindingItem, selectView, diagnosticView, planView}
 use Rattle.plan_items.specs.declared.PartView.the-variants as Pv
+use Rattle.plan_items.specs.declared.KeyItem.{KeyItem}
 use Rattle.plan_items.specs.declared.PartItem.{PartItem}
 use Rattle.plan_items.specs.declared.EdgeView.the-variants as Ev
 use Rattle.plan_items.specs.declared.EdgeItem.{EdgeItem}
@@ -58,23 +63,31 @@ unfolding byteAt
 chosen f p n e xs d = ap (λ (k : ℕ). getD xs k d) (sym e)
 
 module _ (f : List ℕ) (p : ℕ) where
+  -- a part's key
+  pub key-bytes-view : (t : TextView) → getD f p 0 ≡ 0 → t ≡ textView f (p + 1)
+      → _≡_ {A = KeyItem} (record { key = Pv.Bytes t; end = t .at + t .len }) (keyItem f p)
+  unfolding keyItem
+  key-bytes-view t e h =
+      text-item {A = KeyItem} f (p + 1) (λ (u : TextView) (o : ℕ). record { key = Pv.Bytes u; end = o }) t h
+      ∙ chosen f p 0 e (keyItems f (p + 1)) noKey
+
+  pub key-register-view : (a o : ℕ) → getD f p 0 ≡ 1 → a ≡ word f (p + 1) → o ≡ pastPath f (p + 1 + 2)
+      → _≡_ {A = KeyItem} (record { key = Pv.RegisterField (record { 0 = a }) (p + 1 + 2); end = o }) (keyItem f p)
+  unfolding keyItem
+  key-register-view a o e u v = rw (u, v) (chosen f p 1 e (keyItems f (p + 1)) noKey)
+
+  pub key-fact-view : (a : ℕ) → getD f p 0 ≡ 2 → a ≡ word f (p + 1)
+      → _≡_ {A = KeyItem} (record { key = Pv.RegisterFactId (record { 0 = a }); end = p + 1 + 2 }) (keyItem f p)
+  unfolding keyItem
+  key-fact-view a e u = rw u (chosen f p 2 e (keyItems f (p + 1)) noKey)
+
   -- a part
-  pub part-bytes-view : (t : TextView) → getD f p 0 ≡ 0 → t ≡ textView f (p + 1)
-      → _≡_ {A = PartItem} (record { part = Pv.Bytes t; end = t .at + t .len }) (partItem f p)
+  pub part-view : (k : KeyItem) (n : ℕ) → k ≡ keyItem f p → n ≡ word f (k .end)
+      → _≡_ {A = PartItem} (record { part = k .key; node = n; end = k .end + 2 }) (partItem f p)
   unfolding partItem
-  part-bytes-view t e h =
-      text-item {A = PartItem} f (p + 1) (λ (u : TextView) (o : ℕ). record { part = Pv.Bytes u; end = o }) t h
-      ∙ chosen f p 0 e (partItems f (p + 1)) noPart
-
-  pub part-register-view : (a o : ℕ) → getD f p 0 ≡ 1 → a ≡ word f (p + 1) → o ≡ pastPath f (p + 1 + 2)
-      → _≡_ {A = PartItem} (record { part = Pv.RegisterField (record { 0 = a }) (p + 1 + 2); end = o }) (partItem f p)
-  unfolding partItem
-  part-register-view a o e u v = rw (u, v) (chosen f p 1 e (partItems f (p + 1)) noPart)
-
-  pub part-fact-view : (a : ℕ) → getD f p 0 ≡ 2 → a ≡ word f (p + 1)
-      → _≡_ {A = PartItem} (record { part = Pv.RegisterFactId (record { 0 = a }); end = p + 1 + 2 }) (partItem f p)
-  unfolding partItem
-  part-fact-view a e u = rw u (chosen f p 2 e (partItems f (p + 1)) noPart)
+  part-view k n h e =
+      ap {B = PartItem} (λ (j : ℕ). record { part = k .key; node = j; end = k .end + 2 }) e
+      ∙ ap {B = PartItem} (λ (w : KeyItem). record { part = w .key; node = word f (w .end); end = w .end + 2 }) h
 
   -- an edge
   pub edge-none-view : getD f p 0 ≡ 0 → _≡_ {A = EdgeItem} (record { edge = Ev.Nothing; end = p + 1 }) (edgeItem f p)
@@ -100,11 +113,11 @@ module _ (f : List ℕ) (p : ℕ) where
   unfolding guideItem
   guide-none-view e = chosen f p 0 e (guideItems f (p + 1)) noGuide
 
-  pub guide-some-view : (q n d : ℕ) (a : Anchor) → getD f p 0 ≡ 1 → q ≡ pastPath f (p + 1)
-      → n ≡ word f q → d ≡ getD f (q + 2) 0 → a ≡ anchorAt (getD f (q + 3) 0)
-      → _≡_ {A = GuideItem} (record { guide = Gv.Just (p + 1) n d a; end = q + 4 }) (guideItem f p)
+  pub guide-some-view : (q n d : ℕ) (a : Anchor) (m : ℕ) → getD f p 0 ≡ 1 → q ≡ pastPath f (p + 1)
+      → n ≡ word f q → d ≡ getD f (q + 2) 0 → a ≡ anchorAt (getD f (q + 3) 0) → m ≡ word f (q + 4)
+      → _≡_ {A = GuideItem} (record { guide = Gv.Just (p + 1) n d a m; end = q + 6 }) (guideItem f p)
   unfolding guideItem byteAt
-  guide-some-view q n d a e g u v w = rw (u, v, w) (ap (guideThat f (p + 1)) g ∙ chosen f p 1 e (guideItems f (p + 1)) noGuide)
+  guide-some-view q n d a m e g u v w y = rw (u, v, w, y) (ap (guideThat f (p + 1)) g ∙ chosen f p 1 e (guideItems f (p + 1)) noGuide)
 
   -- an op
   pub op-bytes-view : (t : TextView) → getD f p 0 ≡ 0 → t ≡ textView f (p + 1)
@@ -143,55 +156,50 @@ module _ (f : List ℕ) (p : ℕ) where
   op-fuzzy-view n d a e u v w = rw (u, v, w) (chosen f p 5 e (narrowingItems f (p + 1)) noNarrowing)
 
   -- a residual
-  pub residual-view : (q : ℕ) (o : NarrowingItem) → q ≡ pastPath f p → o ≡ narrowingItem f q
-      → _≡_ {A = ResidualView} (record { path = p; op = o .narrowing; end = o .end }) (residualView f p)
+  pub residual-view : (q : ℕ) (o : NarrowingItem) (n : ℕ) → q ≡ pastPath f p → o ≡ narrowingItem f q → n ≡ word f (o .end)
+      → _≡_ {A = ResidualView} (record { path = p; op = o .narrowing; node = n; end = o .end + 2 }) (residualView f p)
   unfolding residualView
-  residual-view q o g h =
-      ap {B = ResidualView} (λ (w : NarrowingItem). record { path = p; op = w .narrowing; end = w .end }) (h
+  residual-view q o n g h e =
+      ap {B = ResidualView} (λ (j : ℕ). record { path = p; op = o .narrowing; node = j; end = o .end + 2 }) e
+      ∙ ap {B = ResidualView} (λ (w : NarrowingItem). record { path = p; op = w .narrowing; node = word f (w .end); end = w .end + 2 }) (h
       ∙ ap (narrowingItem f) g)
 
 -- one item after another
-pasts-more : (past : ℕ → ℕ) (m q e : ℕ) → 0 < m → e ≡ past q → pasts past m q ≡ pasts past (m - 1) e
-unfolding pasts
-pasts-more past zero q e h g = absurd (omega arith)
-pasts-more past (suc m) q e h g =
-    let k : m ≡ suc m - 1 = omega arith in
-    ap (pasts past m) (sym g) ∙ ap (λ (j : ℕ). pasts past j e) k
-
-pasts-none : (past : ℕ → ℕ) (m q : ℕ) → m ≡ 0 → pasts past m q ≡ q
-unfolding pasts
-pasts-none past m q h = ap (λ (j : ℕ). pasts past j q) h
-
-module _ (f : List ℕ) (m q : ℕ) where
-  pub parts-more : (i : PartItem) → 0 < m → i ≡ partItem f q → partsPast f m q ≡ partsPast f (m - 1) (i .end)
+module _ (f : List ℕ) (n p : ℕ) (s : Step) (q : ℕ) (g : q ≡ pastOf s) where
+  pub parts-past : s ≡ stepAt f (many n (itemOf 0)) p → q ≡ partsPast f n p
   unfolding partsPast
-  parts-more i h g = pasts-more (λ (o : ℕ). partItem f o .end) m q (i .end) h (ap (λ (w : PartItem). w .end) g)
+  parts-past e = g ∙ ap pastOf (e ∙ sym (alike-step f (alike-many alike-part n) p))
 
-  pub parts-none : m ≡ 0 → partsPast f m q ≡ q
+  pub residuals-past : s ≡ stepAt f (many n (itemOf 1)) p → q ≡ residualsPast f n p
+  unfolding residualsPast
+  residuals-past e = g ∙ ap pastOf (e ∙ sym (alike-step f (alike-many alike-residual n) p))
+
+-- and what is read there
+module _ (f : List ℕ) (n p q : ℕ) (h : p ≤ length f) where
+  pub parts-read : Found f (many n Reader.part) p → q ≡ partsPast f n p → readAt f (many n Reader.part) p ≡ got (itemsAt f Reader.part n p) (drop q f)
   unfolding partsPast
-  parts-none h = pasts-none (λ (o : ℕ). partItem f o .end) m q h
+  parts-read x e = items-read f Reader.part n p _ q (found-past f (many n Reader.part) (suffix-many suffix-part n) p q h x e)
 
-  pub residuals-more : (i : ResidualView) → 0 < m → i ≡ residualView f q → residualsPast f m q ≡ residualsPast f (m - 1) (i .end)
+  pub residuals-read : Found f (many n Reader.residual) p → q ≡ residualsPast f n p → readAt f (many n Reader.residual) p ≡ got (itemsAt f Reader.residual n p) (drop q f)
   unfolding residualsPast
-  residuals-more i h g = pasts-more (λ (o : ℕ). residualView f o .end) m q (i .end) h (ap (λ (w : ResidualView). w .end) g)
-
-  pub residuals-none : m ≡ 0 → residualsPast f m q ≡ q
-  unfolding residualsPast
-  residuals-none h = pasts-none (λ (o : ℕ). residualView f o .end) m q h
+  residuals-read x e = items-read f Reader.residual n p _ q (found-past f (many n Reader.residual) (suffix-many suffix-residual n) p q h x e)
 
 -- a seek
-pub prefix-view : (f : List ℕ) (p : ℕ) (t : TextView) → t ≡ textView f p
-    → _≡_ {A = SeekItem} (record { seek = Kv.Prefix t; end = t .at + t .len }) (prefixItem f p)
+pub prefix-view : (f : List ℕ) (n p : ℕ) (t : TextView) → t ≡ textView f p
+    → _≡_ {A = SeekItem} (record { seek = Kv.Prefix t (t .at + t .len); end = t .at + t .len + 2 * n }) (prefixItem f n p)
 unfolding prefixItem
-prefix-view f p t h = text-item {A = SeekItem} f p (λ (u : TextView) (o : ℕ). record { seek = Kv.Prefix u; end = o }) t h
+prefix-view f n p t h = text-item {A = SeekItem} f p (λ (u : TextView) (o : ℕ). record { seek = Kv.Prefix u o; end = o + 2 * n }) t h
 
 module _ (f : List ℕ) (n p q : ℕ) (g : q ≡ partsPast f n p) where
-  pub range-view : (t : TextView) (e : ℕ) → t ≡ textView f q → e ≡ pastPath f (t .at + t .len)
-      → _≡_ {A = SeekItem} (record { seek = Kv.PrefixRange p t (t .at + t .len); end = e }) (rangeItem f n p)
+  pub range-view : (t : TextView) (e m : ℕ) → t ≡ textView f q → e ≡ pastPath f (t .at + t .len) → m ≡ word f e
+      → _≡_ {A = SeekItem} (record { seek = Kv.PrefixRange p t (t .at + t .len) m; end = e + 2 }) (rangeItem f n p)
   unfolding rangeItem textView
-  range-view t e h k =
-      ap {B = SeekItem} (λ (j : ℕ). record { seek = Kv.PrefixRange p t (t .at + t .len); end = j }) k
-      ∙ ap {B = SeekItem} (λ (u : TextView). record { seek = Kv.PrefixRange p u (u .at + u .len); end = pastPath f (u .at + u .len) })
+  range-view t e m h k u =
+      ap {B = SeekItem} (λ (j : ℕ). record { seek = Kv.PrefixRange p t (t .at + t .len) j; end = e + 2 }) u
+      ∙ ap {B = SeekItem} (λ (j : ℕ). record { seek = Kv.PrefixRange p t (t .at + t .len) (word f j); end = j + 2 }) k
+      ∙ ap {B = SeekItem} (λ (u : TextView).
+      let o = pastPath f (u .at + u .len) in
+      record { seek = Kv.PrefixRange p u (u .at + u .len) (word f o); end = o + 2 })
       (h ∙ ap (textView f) g)
 
   abbrev fromLow : EdgeItem → SeekItem
@@ -205,7 +213,7 @@ module _ (f : List ℕ) (n p q : ℕ) (g : q ≡ partsPast f n p) where
       ∙ ap fromLow (h ∙ ap (edgeItem f) g)
 
 module _ (f : List ℕ) (n p : ℕ) where
-  pub seek-prefix-view : (s : SeekItem) → getD f p 0 ≡ 0 → s ≡ prefixItem f (p + 1) → s ≡ seekItem f n p
+  pub seek-prefix-view : (s : SeekItem) → getD f p 0 ≡ 0 → s ≡ prefixItem f n (p + 1) → s ≡ seekItem f n p
   unfolding seekItem
   seek-prefix-view s e h = h ∙ chosen f p 0 e (seekItems f n (p + 1)) noSeek
 

@@ -9,7 +9,7 @@ use Rattle.rules.specs.Read.Read.{got, refused}
 use Rattle.rules.specs.Reader as Reader
 use Rattle.rules.specs.File.{Binding}
 use Rattle.rules.specs.Events.{Code, Select, Diagnostic, Narrowing}
-use Rattle.rules.specs.Placement.{SeekKeyPart, Residual, Guide, RangeEdge, SeekKey}
+use Rattle.rules.specs.Placement.{SeekKeyPart, Part, Residual, Guide, RangeEdge, SeekKey}
 use Rattle.rules.specs.Plan.{PlanLevel, Plan}
 use Rattle.file.specs.Steps.{wordLimit, word, readAt}
 use Rattle.file.specs.declared.Step.{Step}
@@ -21,6 +21,7 @@ use Rattle.views.specs.declared.TextView.{TextView}
 use Rattle.plan_form.specs.Places.{Found}
 use Rattle.plan_items.specs.declared.PartView.{PartView}
 use Rattle.plan_items.specs.declared.PartView.the-variants as Pv
+use Rattle.plan_items.specs.declared.PartItem.{PartItem}
 use Rattle.plan_items.specs.declared.EdgeView.{EdgeView}
 use Rattle.plan_items.specs.declared.EdgeView.the-variants as Ev
 use Rattle.plan_items.specs.declared.GuideView.{GuideView}
@@ -57,10 +58,13 @@ abbrev pub pastOf : Step → ℕ
 pastOf (Next q) = q
 pastOf (Refused x) = 0
 
-abbrev pub partOf : List ℕ → PartView → SeekKeyPart
-partOf f (Pv.Bytes text) = SeekKeyPart.Bytes (textOf f text)
-partOf f (Pv.RegisterField a path) = SeekKeyPart.RegisterField (a .0) (pathAt f path)
-partOf f (Pv.RegisterFactId a) = SeekKeyPart.RegisterFactId (a .0)
+abbrev pub keyOf : List ℕ → PartView → SeekKeyPart
+keyOf f (Pv.Bytes text) = SeekKeyPart.Bytes (textOf f text)
+keyOf f (Pv.RegisterField a path) = SeekKeyPart.RegisterField (a .0) (pathAt f path)
+keyOf f (Pv.RegisterFactId a) = SeekKeyPart.RegisterFactId (a .0)
+
+abbrev pub partOf : List ℕ → PartItem → Part
+partOf f v = record { key = keyOf f (v .part); node = v .node }
 
 abbrev pub edgeOf : List ℕ → EdgeView → Option RangeEdge
 edgeOf f Ev.Nothing = none
@@ -69,7 +73,7 @@ edgeOf f (Ev.Inclusive text) = some (record { value = textOf f text; inclusive =
 
 abbrev pub guideOf : List ℕ → GuideView → Option Guide
 guideOf f Gv.Nothing = none
-guideOf f (Gv.Just path x distance a) = some (record { path = pathAt f path; term = x; distance = distance; anchor = anchorOf a })
+guideOf f (Gv.Just path x distance a n) = some (record { path = pathAt f path; term = x; distance = distance; anchor = anchorOf a; node = n })
 
 abbrev pub narrowingOf : List ℕ → NarrowingView → Narrowing
 narrowingOf f (Nv.Bytes text) = Narrowing.Bytes (textOf f text)
@@ -80,14 +84,14 @@ narrowingOf f (Nv.Tag disc) = Narrowing.Tag disc
 narrowingOf f (Nv.Fuzzy x distance a) = Narrowing.Fuzzy x distance (anchorOf a)
 
 abbrev pub residualOf : List ℕ → ResidualView → Residual
-residualOf f v = record { path = pathAt f (v .path); op = narrowingOf f (v .op) }
+residualOf f v = record { path = pathAt f (v .path); op = narrowingOf f (v .op); node = v .node }
 
 -- n is the level's number of parts
 abbrev pub seekOf : List ℕ → ℕ → SeekView → SeekKey
-seekOf f n (Kv.Prefix text) = SeekKey.Prefix (textOf f text)
+seekOf f n (Kv.Prefix text nodes) = SeekKey.Prefix (textOf f text) (itemsAt f u16 n nodes)
 seekOf f n (Kv.Composite parts) = SeekKey.Composite (itemsAt f Reader.part n parts)
-seekOf f n (Kv.PrefixRange parts text path) =
-    SeekKey.PrefixRange (itemsAt f Reader.part n parts) (record { path = pathAt f path; prefix = textOf f text })
+seekOf f n (Kv.PrefixRange parts text path node) =
+    SeekKey.PrefixRange (itemsAt f Reader.part n parts) (record { path = pathAt f path; prefix = textOf f text; node = node })
 seekOf f n (Kv.Bounded parts lo hi) = SeekKey.Bounded (itemsAt f Reader.part n parts) (edgeOf f lo) (edgeOf f hi)
 
 abbrev pub levelOf : List ℕ → LevelView → PlanLevel
@@ -147,7 +151,7 @@ EdgeInside f (Ev.Inclusive text) = TextInside f text
 
 abbrev pub GuideInside : List ℕ → GuideView → Type 0
 GuideInside f Gv.Nothing = Unit {0}
-GuideInside f (Gv.Just path x distance a) = Found f Reader.path path
+GuideInside f (Gv.Just path x distance a n) = Found f Reader.path path
 
 abbrev pub NarrowingInside : List ℕ → NarrowingView → Type 0
 NarrowingInside f (Nv.Bytes text) = TextInside f text
@@ -162,9 +166,9 @@ pub record ResidualInside (f : List ℕ) (v : ResidualView) : Type 0 where
   pub op : NarrowingInside f (v .op)
 
 abbrev pub SeekInside : List ℕ → ℕ → SeekView → Type 0
-SeekInside f n (Kv.Prefix text) = TextInside f text
+SeekInside f n (Kv.Prefix text nodes) = TextInside f text × Found f (many n u16) nodes
 SeekInside f n (Kv.Composite parts) = Found f (many n Reader.part) parts
-SeekInside f n (Kv.PrefixRange parts text path) = Found f (many n Reader.part) parts × TextInside f text × Found f Reader.path path
+SeekInside f n (Kv.PrefixRange parts text path node) = Found f (many n Reader.part) parts × TextInside f text × Found f Reader.path path
 SeekInside f n (Kv.Bounded parts lo hi) = Found f (many n Reader.part) parts × EdgeInside f lo × EdgeInside f hi
 
 pub record ListInside {A : Type 0} (f : List ℕ) (r : Reader A) (v : ListView) : Type 0 where

@@ -1,9 +1,9 @@
 -- Request [1]: the whole view of an item, from the bytes f of the plan and the item's position p. An item of several kinds begins with the
 -- byte of its kind, which chooses from the list of the kinds' views; `getD`'s last argument is never met where the item was found.
-use Prim.Native.Nat.{ℕ, zero, suc, _+_, _*_}
+use Prim.Native.Nat.{ℕ, _+_, _*_}
 use mathlib.Core.List.{List, [], _∷_}
 use lib.ListN.{length, getD}
-use Rattle.rules.specs.Read.{u16}
+use Rattle.rules.specs.Read.{u16, many}
 use Rattle.rules.specs.Reader as Reader
 use Rattle.file.specs.Steps.{word, stepAt}
 use Rattle.paths.specs.declared.Address.{Address}
@@ -12,6 +12,7 @@ use Rattle.views.specs.declared.SlotView.the-variants as Sv
 use Rattle.views.specs.declared.TextView.{TextView}
 use Rattle.plan_items.specs.Items.{listView, pastOf}
 use Rattle.plan_items.specs.declared.PartView.the-variants as Pv
+use Rattle.plan_items.specs.declared.KeyItem.{KeyItem}
 use Rattle.plan_items.specs.declared.PartItem.{PartItem}
 use Rattle.plan_items.specs.declared.EdgeView.the-variants as Ev
 use Rattle.plan_items.specs.declared.EdgeItem.{EdgeItem}
@@ -40,19 +41,23 @@ pastText f p = p + 2 + word f p
 abbrev pub addressAt : List ℕ → ℕ → Address
 addressAt f p = record { 0 = word f p }
 
--- a part by its kind, and of what follows the kind at q
-abbrev pub partItems : List ℕ → ℕ → List PartItem
-partItems f q =
-    record { part = Pv.Bytes (textView f q); end = pastText f q } ∷
-    record { part = Pv.RegisterField (addressAt f q) (q + 2); end = pastPath f (q + 2) } ∷
-    record { part = Pv.RegisterFactId (addressAt f q); end = q + 2 } ∷
+-- a part's key by its kind, and of what follows the kind at q
+abbrev pub keyItems : List ℕ → ℕ → List KeyItem
+keyItems f q =
+    record { key = Pv.Bytes (textView f q); end = pastText f q } ∷
+    record { key = Pv.RegisterField (addressAt f q) (q + 2); end = pastPath f (q + 2) } ∷
+    record { key = Pv.RegisterFactId (addressAt f q); end = q + 2 } ∷
     []
 
-abbrev pub noPart : PartItem
-noPart = record { part = Pv.RegisterFactId (record { 0 = 0 }); end = 0 }
+abbrev pub noKey : KeyItem
+noKey = record { key = Pv.RegisterFactId (record { 0 = 0 }); end = 0 }
 
+unfoldable pub keyItem : List ℕ → ℕ → KeyItem
+keyItem f p = getD (keyItems f (p + 1)) (byteAt f p) noKey
+
+-- a part: a key, then its node
 unfoldable pub partItem : List ℕ → ℕ → PartItem
-partItem f p = getD (partItems f (p + 1)) (byteAt f p) noPart
+partItem f p = let k = keyItem f p in record { part = k .key; node = word f (k .end); end = k .end + 2 }
 
 -- an edge
 abbrev pub edgeItems : List ℕ → ℕ → List EdgeItem
@@ -68,9 +73,9 @@ noEdge = record { edge = Ev.Nothing; end = 0 }
 unfoldable pub edgeItem : List ℕ → ℕ → EdgeItem
 edgeItem f p = getD (edgeItems f (p + 1)) (byteAt f p) noEdge
 
--- a guide: a path, then at o a name, a distance and an anchor
+-- a guide: a path, then at o a name, a distance, an anchor and a node
 abbrev pub guideThat : List ℕ → ℕ → ℕ → GuideItem
-guideThat f q o = record { guide = Gv.Just q (word f o) (byteAt f (o + 2)) (anchorAt (byteAt f (o + 3))); end = o + 4 }
+guideThat f q o = record { guide = Gv.Just q (word f o) (byteAt f (o + 2)) (anchorAt (byteAt f (o + 3))) (word f (o + 4)); end = o + 6 }
 
 abbrev pub guideItems : List ℕ → ℕ → List GuideItem
 guideItems f q = record { guide = Gv.Nothing; end = q } ∷ guideThat f q (pastPath f q) ∷ []
@@ -98,24 +103,22 @@ noNarrowing = record { narrowing = Nv.Tag 0; end = 0 }
 unfoldable pub narrowingItem : List ℕ → ℕ → NarrowingItem
 narrowingItem f p = getD (narrowingItems f (p + 1)) (byteAt f p) noNarrowing
 
--- a residual: a path, then an op
+-- a residual: a path, then an op, then its node
 unfoldable pub residualView : List ℕ → ℕ → ResidualView
-residualView f p = let o = narrowingItem f (pastPath f p) in record { path = p; op = o .narrowing; end = o .end }
+residualView f p =
+    let o = narrowingItem f (pastPath f p) in
+    record { path = p; op = o .narrowing; node = word f (o .end); end = o .end + 2 }
 
--- where n items end that stand one after another from p on, if one that begins at q ends at past q
-unfoldable pub pasts : (ℕ → ℕ) → ℕ → ℕ → ℕ
-pasts past zero p = p
-pasts past (suc n) p = pasts past n (past p)
-
+-- where n parts end, and n residuals, that stand one after another from p on
 unfoldable pub partsPast : List ℕ → ℕ → ℕ → ℕ
-partsPast f = pasts (λ q. partItem f q .end)
+partsPast f n p = pastOf (stepAt f (many n Reader.part) p)
 
 unfoldable pub residualsPast : List ℕ → ℕ → ℕ → ℕ
-residualsPast f = pasts (λ q. residualView f q .end)
+residualsPast f n p = pastOf (stepAt f (many n Reader.residual) p)
 
 -- what a seek of each kind holds, from p on; n is the level's number of parts
-unfoldable pub prefixItem : List ℕ → ℕ → SeekItem
-prefixItem f p = record { seek = Kv.Prefix (textView f p); end = pastText f p }
+unfoldable pub prefixItem : List ℕ → ℕ → ℕ → SeekItem
+prefixItem f n p = let nodes = pastText f p in record { seek = Kv.Prefix (textView f p) nodes; end = nodes + 2 * n }
 
 unfoldable pub compositeItem : List ℕ → ℕ → ℕ → SeekItem
 compositeItem f n p = record { seek = Kv.Composite p; end = partsPast f n p }
@@ -124,7 +127,8 @@ unfoldable pub rangeItem : List ℕ → ℕ → ℕ → SeekItem
 rangeItem f n p =
     let q = partsPast f n p in
     let path = pastText f q in
-    record { seek = Kv.PrefixRange p (textView f q) path; end = pastPath f path }
+    let o = pastPath f path in
+    record { seek = Kv.PrefixRange p (textView f q) path (word f o); end = o + 2 }
 
 unfoldable pub boundedItem : List ℕ → ℕ → ℕ → SeekItem
 boundedItem f n p =
@@ -136,7 +140,7 @@ abbrev pub noSeek : SeekItem
 noSeek = record { seek = Kv.Composite 0; end = 0 }
 
 abbrev pub seekItems : List ℕ → ℕ → ℕ → List SeekItem
-seekItems f n q = prefixItem f q ∷ compositeItem f n q ∷ rangeItem f n q ∷ boundedItem f n q ∷ []
+seekItems f n q = prefixItem f n q ∷ compositeItem f n q ∷ rangeItem f n q ∷ boundedItem f n q ∷ []
 
 unfoldable pub seekItem : List ℕ → ℕ → ℕ → SeekItem
 seekItem f n p = getD (seekItems f n (p + 1)) (byteAt f p) noSeek

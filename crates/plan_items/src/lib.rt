@@ -4,7 +4,7 @@
 // proofs/Places.antt.
 ghost use mathlib.Core.Path.{_≡_};
 ghost use Prim.Native.Nat.{_+_, _*_, _≤_, _<_};
-ghost use lib.ListN.{length, drop};
+ghost use lib.ListN.{length, getD, drop};
 ghost use Rattle.rules.specs.Limits.{stepLimit};
 ghost use Rattle.rules.specs.Read.{u16, many};
 ghost use Rattle.rules.specs.Read.Read.{got};
@@ -13,11 +13,11 @@ ghost use Rattle.file.specs.Steps.{wordLimit, word, readAt};
 ghost use Rattle.paths.specs.Paths.{pathOf, pathFor};
 ghost use Rattle.views.specs.Views.{pathAt, pastPath, textOf, slotViewed};
 ghost use Rattle.plan_form.specs.Places.{planOf, Opened, Found};
-ghost use Rattle.plan_items.specs.Items.{itemsAt, listOf, partOf, edgeOf, guideOf, narrowingOf, residualOf, seekOf, levelOf};
+ghost use Rattle.plan_items.specs.Items.{itemsAt, listOf, keyOf, partOf, edgeOf, guideOf, narrowingOf, residualOf, seekOf, levelOf};
 ghost use Rattle.plan_items.specs.Items.{bindingOf, selectOf, diagnosticOf, planViewed, pastOf, listView, SlotInside, PlanInside};
 ghost use Rattle.plan_items.specs.Items.{TextInside, PartInside, EdgeInside, GuideInside, NarrowingInside, ResidualInside};
 ghost use Rattle.plan_items.specs.Items.{SeekInside, ListInside, LevelInside};
-ghost use Rattle.plan_items.specs.Views.{textView, partItem, edgeItem, guideItem, narrowingItem, residualView};
+ghost use Rattle.plan_items.specs.Views.{textView, keyItem, partItem, edgeItem, guideItem, narrowingItem, residualView};
 ghost use Rattle.plan_items.specs.Views.{partsPast, residualsPast, prefixItem, rangeItem, boundedItem, seekItem};
 ghost use Rattle.plan_items.specs.Views.{residualsView, wordsView, levelView, fieldItem, slotItem, bindingItem};
 ghost use Rattle.plan_items.specs.Views.{selectView, diagnosticView, planView};
@@ -26,7 +26,10 @@ use file::word_at;
 use paths::Address;
 use paths::FieldPath;
 use plan_form::BINDINGS;
+use plan_form::PARTS;
+use plan_form::RESIDUALS;
 use plan_form::SELECTS;
+use plan_form::items_end;
 use plan_form::level_list_end;
 use plan_form::list_end;
 use plan_form::words_end;
@@ -39,16 +42,23 @@ use views::long_at;
 use views::maybe_predicate;
 use views::past_path;
 
-// A part of a seek. RegisterField has the position of its path.
+// The key of a part of a seek. RegisterField has the position of its path.
 pub enum PartView {
     Bytes(TextView),
     RegisterField(Address, usize),
     RegisterFactId(Address),
 }
 
-// A part, and where it ends.
+// The key of a part, and where it ends.
+pub struct KeyItem {
+    pub key: PartView,
+    pub end: usize,
+}
+
+// A part with the node that made it, and where it ends.
 pub struct PartItem {
     pub part: PartView,
+    pub node: usize,
     pub end: usize,
 }
 
@@ -65,10 +75,10 @@ pub struct EdgeItem {
     pub end: usize,
 }
 
-// A level's guide, if it has one: the position of its path, a name, a distance and an anchor.
+// A level's guide, if it has one: the position of its path, a name, a distance, an anchor and its node.
 pub enum GuideView {
     Nothing,
-    Just(usize, usize, u8, Anchor),
+    Just(usize, usize, u8, Anchor, usize),
 }
 
 // A guide, and where it ends.
@@ -93,18 +103,20 @@ pub struct NarrowingItem {
     pub end: usize,
 }
 
-// A residual: the position of its path, and its op.
+// A residual: the position of its path, its op and its node.
 pub struct ResidualView {
     pub path: usize,
     pub op: NarrowingView,
+    pub node: usize,
     pub end: usize,
 }
 
-// A level's seek. All but Prefix have the position of the first part; a PrefixRange has its text and the position of its path.
+// A level's seek. Prefix has its text and the position of the first part's node, the others have the position of the first part; a PrefixRange
+// has its text, the position of its path and its node.
 pub enum SeekView {
-    Prefix(TextView),
+    Prefix(TextView, usize),
     Composite(usize),
-    PrefixRange(usize, TextView, usize),
+    PrefixRange(usize, TextView, usize, usize),
     Bounded(usize, EdgeView, EdgeView),
 }
 
@@ -211,37 +223,56 @@ pub fn path_at(plan: &[u8], p: usize) -> FieldPath
     views::path_at(plan, p)
 }
 
-// The part at p.
-pub fn part_at(plan: &[u8], p: usize) -> PartItem
-    requires { ⌜ Found (now plan) Reader.part p ⌝ }
+// The key of the part at p.
+fn key_at(plan: &[u8], p: usize) -> KeyItem
+    requires { ⌜ Found (now plan) Reader.partKey p ⌝ }
     ensures reads { λ r. ⌜ (
         let bytes = now (plan .entry) in
-        readAt bytes Reader.part p ≡ got (partOf bytes (r .part)) (drop (r .end) bytes)
+        readAt bytes Reader.partKey p ≡ got (keyOf bytes (r .key)) (drop (r .end) bytes)
         ) ⌝ }
-    ensures inside { λ r. ⌜ PartInside (now (plan .entry)) (r .part) ⌝ }
-    ensures view { λ r. ⌜ r ≡ partItem (now (plan .entry)) p ⌝ }
+    ensures inside { λ r. ⌜ PartInside (now (plan .entry)) (r .key) ⌝ }
+    ensures view { λ r. ⌜ r ≡ keyItem (now (plan .entry)) p ⌝ }
 {
     let q = p + 1;
     match plan[p] {
         0 => {
             let text = text_at(plan, q);
-            PartItem {
-                part: PartView::Bytes(text),
+            KeyItem {
+                key: PartView::Bytes(text),
                 end: text.at + text.len,
             }
         }
         1 => {
             let address = Address(half_at(plan, q));
             let path = q + 2;
-            PartItem {
-                part: PartView::RegisterField(address, path),
+            KeyItem {
+                key: PartView::RegisterField(address, path),
                 end: path_past(plan, path),
             }
         }
-        _ => PartItem {
-            part: PartView::RegisterFactId(Address(half_at(plan, q))),
+        _ => KeyItem {
+            key: PartView::RegisterFactId(Address(half_at(plan, q))),
             end: q + 2,
         },
+    }
+}
+
+// The part at p: its key, then its node.
+pub fn part_at(plan: &[u8], p: usize) -> PartItem
+    requires { ⌜ Found (now plan) Reader.part p ⌝ }
+    ensures reads { λ r. ⌜ (
+        let bytes = now (plan .entry) in
+        readAt bytes Reader.part p ≡ got (partOf bytes r) (drop (r .end) bytes)
+        ) ⌝ }
+    ensures inside { λ r. ⌜ PartInside (now (plan .entry)) (r .part) ⌝ }
+    ensures view { λ r. ⌜ r ≡ partItem (now (plan .entry)) p ⌝ }
+{
+    let k = key_at(plan, p);
+    let part = k.key;
+    PartItem {
+        part,
+        node: word_at(plan, k.end),
+        end: k.end + 2,
     }
 }
 
@@ -299,9 +330,10 @@ pub fn guide_at(plan: &[u8], p: usize) -> GuideItem
     let term = word_at(plan, q);
     let distance = plan[q + 2];
     let anchor = anchor_of(plan[q + 3]);
+    let node = word_at(plan, q + 4);
     GuideItem {
-        guide: GuideView::Just(path, term, distance, anchor),
-        end: q + 4,
+        guide: GuideView::Just(path, term, distance, anchor, node),
+        end: q + 6,
     }
 }
 
@@ -370,68 +402,66 @@ pub fn residual_at(plan: &[u8], p: usize) -> ResidualView
     ResidualView {
         path: p,
         op,
-        end: o.end,
+        node: word_at(plan, o.end),
+        end: o.end + 2,
+    }
+}
+
+// Where what was read ends; what was found has no fault.
+fn past(step: Step) -> usize
+    ensures { λ r. ⌜ r ≡ pastOf step ⌝ }
+{
+    match step {
+        Step::Next(q) => q,
+        Step::Refused(_) => 0,
     }
 }
 
 // Where n parts from p on end.
 fn parts_past(plan: &[u8], n: usize, p: usize) -> usize
-    requires { ⌜ Found (now plan) (many n Reader.part) p ⌝ }
+    requires { ⌜ (p ≤ length (now plan)) × Found (now plan) (many n Reader.part) p ⌝ }
     ensures reads { λ r. ⌜ (
         let bytes = now (plan .entry) in
         readAt bytes (many n Reader.part) p ≡ got (itemsAt bytes Reader.part n p) (drop r bytes)
         ) ⌝ }
     ensures view { λ r. ⌜ r ≡ partsPast (now (plan .entry)) n p ⌝ }
 {
-    let mut q = p;
-    let mut left = n;
-    while left > 0 {
-        let part = part_at(plan, q);
-        q = part.end;
-        left -= 1;
-    }
-    q
+    past(items_end(plan, PARTS, n, p))
 }
 
 // Where n residuals from p on end.
 fn residuals_past(plan: &[u8], n: usize, p: usize) -> usize
-    requires { ⌜ Found (now plan) (many n Reader.residual) p ⌝ }
+    requires { ⌜ (p ≤ length (now plan)) × Found (now plan) (many n Reader.residual) p ⌝ }
     ensures reads { λ r. ⌜ (
         let bytes = now (plan .entry) in
         readAt bytes (many n Reader.residual) p ≡ got (itemsAt bytes Reader.residual n p) (drop r bytes)
         ) ⌝ }
     ensures view { λ r. ⌜ r ≡ residualsPast (now (plan .entry)) n p ⌝ }
 {
-    let mut q = p;
-    let mut left = n;
-    while left > 0 {
-        let residual = residual_at(plan, q);
-        q = residual.end;
-        left -= 1;
-    }
-    q
+    past(items_end(plan, RESIDUALS, n, p))
 }
 
-// What a Prefix seek holds, from p on.
+// What a Prefix seek of n parts holds, from p on.
 fn prefix_seek(plan: &[u8], n: usize, p: usize) -> SeekItem
-    requires { ⌜ Found (now plan) Reader.prefixSeek p ⌝ }
+    requires { ⌜ Found (now plan) (Reader.prefixSeek n) p ⌝ }
     ensures reads { λ r. ⌜ (
         let bytes = now (plan .entry) in
-        readAt bytes Reader.prefixSeek p ≡ got (seekOf bytes n (r .seek)) (drop (r .end) bytes)
+        readAt bytes (Reader.prefixSeek n) p ≡ got (seekOf bytes n (r .seek)) (drop (r .end) bytes)
         ) ⌝ }
     ensures inside { λ r. ⌜ SeekInside (now (plan .entry)) n (r .seek) ⌝ }
-    ensures view { λ r. ⌜ r ≡ prefixItem (now (plan .entry)) p ⌝ }
+    ensures view { λ r. ⌜ r ≡ prefixItem (now (plan .entry)) n p ⌝ }
 {
     let text = text_at(plan, p);
+    let nodes = text.at + text.len;
     SeekItem {
-        seek: SeekView::Prefix(text),
-        end: text.at + text.len,
+        seek: SeekView::Prefix(text, nodes),
+        end: nodes + 2 * n,
     }
 }
 
 // What a PrefixRange seek of n parts holds, from p on.
 fn range_seek(plan: &[u8], n: usize, p: usize) -> SeekItem
-    requires { ⌜ Found (now plan) (Reader.rangeSeek n) p ⌝ }
+    requires { ⌜ (p ≤ length (now plan)) × Found (now plan) (Reader.rangeSeek n) p ⌝ }
     ensures reads { λ r. ⌜ (
         let bytes = now (plan .entry) in
         readAt bytes (Reader.rangeSeek n) p ≡ got (seekOf bytes n (r .seek)) (drop (r .end) bytes)
@@ -442,15 +472,16 @@ fn range_seek(plan: &[u8], n: usize, p: usize) -> SeekItem
     let q = parts_past(plan, n, p);
     let text = text_at(plan, q);
     let path = text.at + text.len;
+    let o = path_past(plan, path);
     SeekItem {
-        seek: SeekView::PrefixRange(p, text, path),
-        end: path_past(plan, path),
+        seek: SeekView::PrefixRange(p, text, path, word_at(plan, o)),
+        end: o + 2,
     }
 }
 
 // What a Bounded seek of n parts holds, from p on.
 fn bounded_seek(plan: &[u8], n: usize, p: usize) -> SeekItem
-    requires { ⌜ Found (now plan) (Reader.boundedSeek n) p ⌝ }
+    requires { ⌜ (p ≤ length (now plan)) × Found (now plan) (Reader.boundedSeek n) p ⌝ }
     ensures reads { λ r. ⌜ (
         let bytes = now (plan .entry) in
         readAt bytes (Reader.boundedSeek n) p ≡ got (seekOf bytes n (r .seek)) (drop (r .end) bytes)
@@ -572,6 +603,15 @@ pub fn number_at(plan: &[u8], p: usize) -> usize
     word_at(plan, p)
 }
 
+// The node of part k of a Prefix seek of n parts, whose nodes stand from p on.
+pub fn node_at(plan: &[u8], n: usize, p: usize, k: usize) -> usize
+    requires { ⌜ Found (now plan) (many n u16) p × (k < n) ⌝ }
+    ensures is { λ r. ⌜ r ≡ getD (itemsAt (now (plan .entry)) u16 n p) k 0 ⌝ }
+    ensures view { λ r. ⌜ r ≡ word (now (plan .entry)) (p + 2 * k) ⌝ }
+{
+    word_at(plan, p + 2 * k)
+}
+
 // What a Field slot holds, from p on: address, path, type.
 fn field_slot(plan: &[u8], p: usize) -> SlotItem
     requires { ⌜ Found (now plan) Reader.fieldSlot p ⌝ }
@@ -684,16 +724,6 @@ pub fn diagnostic_at(plan: &[u8], p: usize) -> DiagnosticView
         node: word_at(plan, p),
         code: plan[p + 2],
         end: p + 3,
-    }
-}
-
-// Where what was read ends; a plan that was opened has no fault.
-fn past(step: Step) -> usize
-    ensures { λ r. ⌜ r ≡ pastOf step ⌝ }
-{
-    match step {
-        Step::Next(q) => q,
-        Step::Refused(_) => 0,
     }
 }
 

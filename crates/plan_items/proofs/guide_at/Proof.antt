@@ -40,11 +40,23 @@ shared-slice-read-anchor-of c = omega (arith, guide-room _ _ (c .before .before 
 anchor-of-requires : tie.Need-anchor-of-requires
 anchor-of-requires c κs = guide-anchor _ _ (c .before .before .before .before .before .before .before .pre) (c .before .before .before .path-past .result) (omega (arith, guide-known _ _ (c .before .before .before .before .before .before .before .pre))) (c .before .before .before .path-past .ensures .0)
 
-add-t12 : tie.Need-add-t12
-add-t12 c = omega (arith, guide-room _ _ (c .before .before .before .before .before .before .before .before .pre) (c .before .before .before .before .path-past .result) (omega (arith, guide-known _ _ (c .before .before .before .before .before .before .before .before .pre))) (c .before .before .before .before .path-past .ensures .0))
+add-word-at : tie.Need-add-word-at
+add-word-at c = omega (arith, guide-room _ _ (c .before .before .before .before .before .before .before .before .pre) (c .before .before .before .before .path-past .result) (omega (arith, guide-known _ _ (c .before .before .before .before .before .before .before .before .pre))) (c .before .before .before .before .path-past .ensures .0))
+
+word-at-requires-2 : tie.Need-word-at-requires-2
+word-at-requires-2 c κs = omega (arith, guide-room _ _ (c .before .before .before .before .before .before .before .before .pre) (c .before .before .before .before .path-past .result) (omega (arith, guide-known _ _ (c .before .before .before .before .before .before .before .before .pre))) (c .before .before .before .before .path-past .ensures .0))
+
+add-t13 : tie.Need-add-t13
+add-t13 c = omega (arith, guide-room _ _ (c .before .before .before .before .before .before .before .before .before .pre) (c .before .before .before .before .before .path-past .result) (omega (arith, guide-known _ _ (c .before .before .before .before .before .before .before .before .before .pre))) (c .before .before .before .before .before .path-past .ensures .0))
 
 returns-2 : tie.Need-returns-2
-returns-2 c = (guide-some _ _ (c .before .before .before .before .before .before .before .before .pre) (c .before .before .before .before .path-past .result) (omega (arith, guide-known _ _ (c .before .before .before .before .before .before .before .before .pre))) (c .before .before .before .before .path-past .ensures .0) _ _ _ (c .before .before .before .word-at .ensures .0) refl (c .anchor-of .ensures), (guide-path _ _ (c .before .before .before .before .before .before .before .before .pre) (omega (arith, guide-known _ _ (c .before .before .before .before .before .before .before .before .pre))), guide-some-view _ _ (c .before .before .before .before .path-past .result) _ _ _ (omega (arith, guide-known _ _ (c .before .before .before .before .before .before .before .before .pre))) (c .before .before .before .before .path-past .ensures .1) (c .before .before .before .word-at .ensures .0) refl (c .anchor-of .ensures)))
+returns-2 c =
+    let x = c .before .before .before .before .before .before .before .before .before .pre in
+    let path = c .before .before .before .before .before .path-past in
+    let name = c .before .before .before .before .word-at .ensures .0 in
+    let anchor = c .before .anchor-of .ensures in
+    let node = c .word-at2 .ensures .0 in
+    (guide-some _ _ x (path .result) (omega (arith, guide-known _ _ x)) (path .ensures .0) _ _ _ _ name refl anchor node, (guide-path _ _ x (omega (arith, guide-known _ _ x)), guide-some-view _ _ (path .result) _ _ _ _ (omega (arith, guide-known _ _ x)) (path .ensures .1) name refl anchor node))
 
 pub guide-at-spec : {M : Type 1} → statement M
 guide-at-spec =
@@ -60,5 +72,7 @@ guide-at-spec =
     add-anchor-of
     shared-slice-read-anchor-of
     anchor-of-requires
-    add-t12
+    add-word-at
+    word-at-requires-2
+    add-t13
     returns-2)

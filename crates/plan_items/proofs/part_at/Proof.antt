@@ -1,64 +1,28 @@
 use native.Mathlib.Omega.{arith}
-use Rattle.plan_items.proofs.Leaves.{part-inside, part-known, part-text, part-bytes, part-address, part-path, part-register, part-fact-inside, part-fact}
-use Rattle.plan_items.proofs.Views.{part-bytes-view, part-register-view, part-fact-view}
-use borrow.Author.Needs.{needs}
+use Rattle.plan_items.proofs.Leaves.{part-key, part-room, part-reads}
+use Rattle.plan_items.proofs.Views.{part-view}
 use Rattle.plan_items.proofs.part_at.Statement.{statement}
 use Rattle.plan_items.proofs.part_at.Tie as tie
 use Rattle.plan_items.proofs.part_at.Reads as reads
 use Rattle.plan_items.proofs.part_at.Lts as lts
-use Rattle.plan_items.proofs.path_past.Reads as path-past-reads
-use Rattle.plan_items.proofs.text_at.Reads as text-at-reads
-use Rattle.views.proofs.half_at.Reads as half-at-reads
+use Rattle.file.proofs.word_at.Reads as word-at-reads
+use Rattle.plan_items.proofs.key_at.Reads as key-at-reads
 
-add-q : tie.Need-add-q
-add-q c = omega (arith, part-inside _ _ (c .before .pre))
+key-at-requires : tie.Need-key-at-requires
+key-at-requires c κs = part-key _ _ (c .before .pre)
 
-shared-slice-read-match : tie.Need-shared-slice-read-match
-shared-slice-read-match c = part-inside _ _ (c .before .before .pre)
+word-at-requires : tie.Need-word-at-requires
+word-at-requires c κs = part-room _ _ (c .before .before .pre) _ (c .key-at .result .end) (c .key-at .ensures .0)
 
-text-at-requires : tie.Need-text-at-requires
-text-at-requires c κs = part-text _ _ (c .before .before .before .pre) (omega arith)
-
-add-t12 : tie.Need-add-t12
-add-t12 c = search needs
-
-half-at-requires : tie.Need-half-at-requires
-half-at-requires c κs = part-address _ _ (c .before .before .before .pre) (omega arith)
-
-add-path : tie.Need-add-path
-add-path c = omega (arith, part-address _ _ (c .before .before .before .before .pre) (omega arith))
-
-path-past-requires : tie.Need-path-past-requires
-path-past-requires c κs = part-path _ _ (c .before .before .before .before .pre) (omega arith)
-
-half-at-requires-2 : tie.Need-half-at-requires-2
-half-at-requires-2 c κs = part-fact-inside _ _ (c .before .before .before .pre) (omega (arith, part-known _ _ (c .before .before .before .pre)))
-
-add-t19 : tie.Need-add-t19
-add-t19 c = omega (arith, part-fact-inside _ _ (c .before .before .before .before .pre) (omega (arith, part-known _ _ (c .before .before .before .before .pre))))
+add-t6 : tie.Need-add-t6
+add-t6 c = omega (arith, part-room _ _ (c .before .before .before .before .pre) _ (c .before .before .key-at .result .end) (c .before .before .key-at .ensures .0))
 
 returns : tie.Need-returns
-returns c = (part-bytes _ _ (c .before .before .before .before .before .pre) (c .before .text-at .result) (omega arith) (c .before .text-at .ensures .0), (c .before .text-at .ensures .1 .0, part-bytes-view _ _ (c .before .text-at .result) (omega arith) (c .before .text-at .ensures .1 .1)))
-
-returns-2 : tie.Need-returns-2
-returns-2 c = (part-register _ _ (c .before .before .before .before .before .pre) _ (c .path-past .result) (omega arith) (c .before .half-at .ensures) (c .path-past .ensures .0), (part-path _ _ (c .before .before .before .before .before .pre) (omega arith), part-register-view _ _ _ (c .path-past .result) (omega arith) (c .before .half-at .ensures) (c .path-past .ensures .1)))
-
-returns-3 : tie.Need-returns-3
-returns-3 c = (part-fact _ _ (c .before .before .before .before .pre) _ (omega (arith, part-known _ _ (c .before .before .before .before .pre))) (c .half-at2 .ensures), (tt, part-fact-view _ _ _ (omega (arith, part-known _ _ (c .before .before .before .before .pre))) (c .half-at2 .ensures)))
+returns c =
+    let x = c .before .before .before .before .pre in
+    let key = c .before .before .key-at in
+    let node = c .before .word-at .ensures .0 in
+    (part-reads _ _ x _ (key .result .end) (key .ensures .0) _ node, (key .ensures .1 .0, part-view _ _ (key .result) _ (key .ensures .1 .1) node))
 
 pub part-at-spec : {M : Type 1} → statement M
-part-at-spec =
-    tie.close
-    (tie.spec
-    add-q
-    shared-slice-read-match
-    text-at-requires
-    add-t12
-    half-at-requires
-    add-path
-    path-past-requires
-    half-at-requires-2
-    add-t19
-    returns
-    returns-2
-    returns-3)
+part-at-spec = tie.close (tie.spec key-at-requires word-at-requires add-t6 returns)

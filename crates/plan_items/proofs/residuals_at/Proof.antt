@@ -15,7 +15,7 @@ add-at : tie.Need-add-at
 add-at c = omega (arith, counted-inside _ _ _ (c .before .before .pre))
 
 residuals-past-requires : tie.Need-residuals-past-requires
-residuals-past-requires c κs = counted-found _ _ _ (c .before .before .pre) _ (c .word-at .ensures .0)
+residuals-past-requires c κs = (omega (arith, counted-inside _ _ _ (c .before .before .pre)), counted-found _ _ _ (c .before .before .pre) _ (c .word-at .ensures .0))
 
 returns : tie.Need-returns
 returns c = (counted-reads _ _ _ (c .before .before .before .pre) _ (c .residuals-past .result) (c .before .word-at .ensures .0) (c .residuals-past .ensures .0), (record { found = counted-found _ _ _ (c .before .before .before .pre) _ (c .before .word-at .ensures .0); few = c .before .word-at .ensures .1 }, residuals-view _ _ _ (c .residuals-past .result) (c .before .word-at .ensures .0) (c .residuals-past .ensures .1)))

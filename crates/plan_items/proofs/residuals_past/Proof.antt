@@ -1,48 +1,23 @@
-use native.Mathlib.Omega.{arith}
-use mathlib.Core.Path.{_≡_, refl, sym, _∙_}
-use Rattle.rules.specs.Reader as Reader
-use Rattle.plan_items.specs.Views.{residualsPast}
-use Rattle.plan_items.proofs.Founds.{found-one, Left, left-all, left-more, left-none}
-use Rattle.plan_items.proofs.Views.{residuals-more, residuals-none}
+use Rattle.plan_items.proofs.Views.{residuals-past, residuals-read}
+use borrow.Author.Needs.{needs}
 use Rattle.plan_items.proofs.residuals_past.Statement.{statement}
 use Rattle.plan_items.proofs.residuals_past.Tie as tie
 use Rattle.plan_items.proofs.residuals_past.Reads as reads
 use Rattle.plan_items.proofs.residuals_past.Lts as lts
-use Rattle.plan_items.proofs.residual_at.Reads as residual-at-reads
+use Rattle.plan_form.proofs.items_end.Reads as items-end-reads
+use Rattle.plan_items.proofs.past.Reads as past-reads
 
-abbrev Inv-loop : tie.InvT-loop
-Inv-loop plan n p q₀ left₀ q left = (Left plan Reader.residual n p left q) × (residualsPast plan n p ≡ residualsPast plan left q)
+items-end-requires : tie.Need-items-end-requires
+items-end-requires c κs = search needs
 
-abbrev μ-loop : tie.MeasureT-loop
-μ-loop plan n p q₀ left₀ q left = left
+past-requires : tie.Need-past-requires
+past-requires c κs = search needs
 
-loop-holds : tie.Need-loop-holds Inv-loop μ-loop
-loop-holds c = (left-all _ _ _ _ (c .before .pre), refl)
-
-residual-at-requires : tie.Need-residual-at-requires Inv-loop μ-loop
-residual-at-requires c κs = found-one _ _ _ _ (omega arith) (c .before .loop .inv .0 .found)
-
-sub-left : tie.Need-sub-left Inv-loop μ-loop
-sub-left c = omega arith
-
-loop-less : tie.Need-loop-less Inv-loop μ-loop
-loop-less c = omega arith
-
-loop-again : tie.Need-loop-again Inv-loop μ-loop
-loop-again c = (left-more _ _ _ _ _ _ _ _ (omega arith) (c .residual-at .ensures .0) (c .before .before .loop .inv .0), c .before .before .loop .inv .1 ∙ residuals-more _ _ _ (c .residual-at .result) (omega arith) (c .residual-at .ensures .1 .1))
-
-returns : tie.Need-returns Inv-loop μ-loop
-returns c = (left-none _ _ _ _ _ _ (omega arith) (c .before .loop .inv .0), sym (c .before .loop .inv .1 ∙ residuals-none _ _ _ (omega arith)))
+returns : tie.Need-returns
+returns c =
+    let x = c .before .before .before .pre in
+    let view = residuals-past _ _ _ _ _ (c .past .ensures) (c .before .items-end .ensures) in
+    (residuals-read _ _ _ _ (x .0) (x .1) view, view)
 
 pub residuals-past-spec : {M : Type 1} → statement M
-residuals-past-spec =
-    tie.close
-    (tie.spec
-    Inv-loop
-    μ-loop
-    loop-holds
-    residual-at-requires
-    sub-left
-    loop-less
-    loop-again
-    returns)
+residuals-past-spec = tie.close (tie.spec items-end-requires past-requires returns)

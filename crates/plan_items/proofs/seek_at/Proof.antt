@@ -20,13 +20,13 @@ prefix-seek-requires : tie.Need-prefix-seek-requires
 prefix-seek-requires c κs = prefix-found _ _ _ (c .before .before .before .pre) (omega arith)
 
 parts-past-requires : tie.Need-parts-past-requires
-parts-past-requires c κs = composite-parts _ _ _ (composite-found _ _ _ (c .before .before .before .pre) (omega arith))
+parts-past-requires c κs = (omega (arith, seek-inside _ _ _ (c .before .before .before .pre)), composite-parts _ _ _ (composite-found _ _ _ (c .before .before .before .pre) (omega arith)))
 
 range-seek-requires : tie.Need-range-seek-requires
-range-seek-requires c κs = range-found _ _ _ (c .before .before .before .pre) (omega arith)
+range-seek-requires c κs = (omega (arith, seek-inside _ _ _ (c .before .before .before .pre)), range-found _ _ _ (c .before .before .before .pre) (omega arith))
 
 bounded-seek-requires : tie.Need-bounded-seek-requires
-bounded-seek-requires c κs = bounded-found _ _ _ (c .before .before .before .pre) (omega (arith, seek-known _ _ _ (c .before .before .before .pre)))
+bounded-seek-requires c κs = (omega (arith, seek-inside _ _ _ (c .before .before .before .pre)), bounded-found _ _ _ (c .before .before .before .pre) (omega (arith, seek-known _ _ _ (c .before .before .before .pre))))
 
 returns : tie.Need-returns
 returns c = (seek-prefix _ _ _ (c .before .before .before .before .pre) _ (c .prefix-seek .result .end) (omega arith) (c .prefix-seek .ensures .0), (c .prefix-seek .ensures .1 .0, seek-prefix-view _ _ _ (c .prefix-seek .result) (omega arith) (c .prefix-seek .ensures .1 .1)))
