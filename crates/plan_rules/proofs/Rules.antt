@@ -13,7 +13,7 @@ use Rattle.rules.specs.Read.{u16, many}
 use Rattle.rules.specs.Read.Read.{got}
 use Rattle.rules.specs.Lookup.{samePath}
 use Rattle.rules.specs.File as File
-use Rattle.rules.specs.Placement.{SeekKeyPart, Guide, RangeEdge, SeekKey, joined}
+use Rattle.rules.specs.Placement.{asBytes, SeekKeyPart, Part, Guide, Range, RangeEdge, SeekKey, joined}
 use Rattle.rules.specs.Plan.{PlanLevel}
 use Rattle.rules.specs.Demand3.{number, seekRange, seekEdges}
 use Rattle.rules.specs.Reader as Reader
@@ -50,24 +50,33 @@ module _ (f : List ℕ) (v : LevelView) (x : LevelInside f v) where
   folded-is n e = ap (λ (j : ℕ). eqb j (v .folded .count)) e ∙ ap (eqb (seekEdges (seekOf f (v .parts) (v .seek)))) (sym (items-length f u16 _ _ (x .folded .found)))
 
 -- Composite: the parts one by one
-abbrev pub Asks : List SeekKeyPart → Option Guide → Bool
+abbrev pub Asks : List Part → Option Guide → Bool
 Asks parts g = seekKeeps (SeekKey.Composite parts) g
 
-composite-more : (a : SeekKeyPart) (xs : List SeekKeyPart) (g : Option Guide) → isBytes a ≡ true → Asks (a ∷ xs) g ≡ Asks xs g
-unfolding seekKeeps joined _whenSome_
-composite-more (SeekKeyPart.Bytes bytes) xs g e = go (joined xs)
+composite-more : (a : Part) (xs : List Part) (g : Option Guide) → isBytes (a .key) ≡ true → Asks (a ∷ xs) g ≡ Asks xs g
+unfolding seekKeeps joined asBytes _whenSome_
+composite-more a xs g e = key (a .key) e
   where
-    go : (o : Option (List ℕ)) → _≡_ {A = Bool} (elim (o whenSome λ rest. some (bytes ++ rest)) as (λ _. Bool) [ none ↦ true | some b ↦ false ]) (elim o as (λ _. Bool) [ none ↦ true | some b ↦ false ])
-    go none = refl
-    go (some b) = refl
-composite-more (SeekKeyPart.RegisterField a p) xs g e = let z : _≡_ {A = ℕ} 0 1 = cc in absurd (omega arith)
-composite-more (SeekKeyPart.RegisterFactId a) xs g e = let z : _≡_ {A = ℕ} 0 1 = cc in absurd (omega arith)
+    chain : List ℕ → Option (List ℕ) → Option (List ℕ)
+    chain bytes o = o whenSome λ rest. some (bytes ++ rest)
 
-composite-met : (a : SeekKeyPart) (xs : List SeekKeyPart) (g : Option Guide) → isBytes a ≡ false → Asks (a ∷ xs) g ≡ true
-unfolding seekKeeps joined
-composite-met (SeekKeyPart.Bytes bytes) xs g e = let z : _≡_ {A = ℕ} 0 1 = cc in absurd (omega arith)
-composite-met (SeekKeyPart.RegisterField a p) xs g e = refl
-composite-met (SeekKeyPart.RegisterFactId a) xs g e = refl
+    go : (bytes : List ℕ) (o : Option (List ℕ)) → _≡_ {A = Bool} (elim (chain bytes o) as (λ _. Bool) [ none ↦ true | some b ↦ false ]) (elim o as (λ _. Bool) [ none ↦ true | some b ↦ false ])
+    go bytes none = refl
+    go bytes (some b) = refl
+
+    key : (k : SeekKeyPart) → isBytes k ≡ true → _≡_ {A = Bool} (elim (asBytes k whenSome λ bytes. chain bytes (joined xs)) as (λ _. Bool) [ none ↦ true | some b ↦ false ]) (Asks xs g)
+    key (SeekKeyPart.Bytes bytes) e = go bytes (joined xs)
+    key (SeekKeyPart.RegisterField b p) e = let z : _≡_ {A = ℕ} 0 1 = cc in absurd (omega arith)
+    key (SeekKeyPart.RegisterFactId b) e = let z : _≡_ {A = ℕ} 0 1 = cc in absurd (omega arith)
+
+composite-met : (a : Part) (xs : List Part) (g : Option Guide) → isBytes (a .key) ≡ false → Asks (a ∷ xs) g ≡ true
+unfolding seekKeeps joined asBytes _whenSome_
+composite-met a xs g e = key (a .key) e
+  where
+    key : (k : SeekKeyPart) → isBytes k ≡ false → _≡_ {A = Bool} (elim (asBytes k whenSome λ bytes. joined xs whenSome λ rest. some (bytes ++ rest)) as (λ _. Bool) [ none ↦ true | some b ↦ false ]) true
+    key (SeekKeyPart.Bytes bytes) e = let z : _≡_ {A = ℕ} 0 1 = cc in absurd (omega arith)
+    key (SeekKeyPart.RegisterField b p) e = refl
+    key (SeekKeyPart.RegisterFactId b) e = refl
 
 -- the n parts from p on, of which those before q are bytes
 pub record Bytes (f : List ℕ) (n p left q : ℕ) : Type 0 where
@@ -81,46 +90,48 @@ module _ (f : List ℕ) (n p left q : ℕ) (x : Bytes f n p left q) where
   pub bytes-next : 0 < left → Found f Reader.part q
   bytes-next h = found-one f Reader.part left q h (x .found)
 
-  pub bytes-more : (a : SeekKeyPart) (e : ℕ) → 0 < left → readAt f Reader.part q ≡ got a (drop e f) → isBytes a ≡ true → Bytes f n p (left - 1) e
+  pub bytes-more : (a : Part) (e : ℕ) → 0 < left → readAt f Reader.part q ≡ got a (drop e f) → isBytes (a .key) ≡ true → Bytes f n p (left - 1) e
   bytes-more a e h r b =
       record {
         found = found-more f Reader.part left q h (x .found) a e r;
-        same = λ g. sym (composite-more a _ g b) ∙ ap (λ (l : List SeekKeyPart). Asks l g) (sym (items-more f Reader.part left q h (x .found) a e r)) ∙ x .same g;
+        same = λ g. sym (composite-more a _ g b) ∙ ap (λ (l : List Part). Asks l g) (sym (items-more f Reader.part left q h (x .found) a e r)) ∙ x .same g;
       }
 
-  pub bytes-met : (a : SeekKeyPart) (e : ℕ) → 0 < left → readAt f Reader.part q ≡ got a (drop e f) → isBytes a ≡ false → (g : Option Guide) → true ≡ Asks (itemsAt f Reader.part n p) g
-  bytes-met a e h r b g = sym (composite-met a _ g b) ∙ ap (λ (l : List SeekKeyPart). Asks l g) (sym (items-more f Reader.part left q h (x .found) a e r)) ∙ x .same g
+  pub bytes-met : (a : Part) (e : ℕ) → 0 < left → readAt f Reader.part q ≡ got a (drop e f) → isBytes (a .key) ≡ false → (g : Option Guide) → true ≡ Asks (itemsAt f Reader.part n p) g
+  bytes-met a e h r b g = sym (composite-met a _ g b) ∙ ap (λ (l : List Part). Asks l g) (sym (items-more f Reader.part left q h (x .found) a e r)) ∙ x .same g
 
   pub bytes-only : left ≡ 0 → (g : Option Guide) → false ≡ Asks (itemsAt f Reader.part n p) g
   unfolding seekKeeps joined
-  bytes-only h g = ap (λ (l : List SeekKeyPart). Asks l g) (sym (no-items h)) ∙ x .same g
+  bytes-only h g = ap (λ (l : List Part). Asks l g) (sym (no-items h)) ∙ x .same g
     where
       no-items : left ≡ 0 → itemsAt f Reader.part left q ≡ []
       no-items h = empty (itemsAt f Reader.part left q) (items-length f Reader.part left q (x .found) ∙ h)
         where
-          empty : (l : List SeekKeyPart) → length l ≡ 0 → l ≡ []
+          empty : (l : List Part) → length l ≡ 0 → l ≡ []
           empty [] e = refl
           empty (a ∷ l) e = absurd (omega arith)
 
 -- PrefixRange: the guide's path beside the range's
-module _ (f : List ℕ) (p : ℕ) (guide : GuideView) (parts : List SeekKeyPart) (prefix : List ℕ) where
-  pub range-alone : guide ≡ Gv.Nothing → true ≡ seekKeeps (SeekKey.PrefixRange parts (record { path = pathAt f p; prefix = prefix })) (guideOf f guide)
-  unfolding seekKeeps
-  range-alone e = ap (λ (v : GuideView). seekKeeps (SeekKey.PrefixRange parts (record { path = pathAt f p; prefix = prefix })) (guideOf f v)) (sym e)
+module _ (f : List ℕ) (p : ℕ) (guide : GuideView) (parts : List Part) (prefix : List ℕ) (node : ℕ) where
+  abbrev beside : Option Guide → Bool
+  beside g = seekKeeps (SeekKey.PrefixRange parts (record { path = pathAt f p; prefix = prefix; node = node })) g
 
-  pub range-beside : (at x d : ℕ) (a : Anchor) (u v : File.FieldPath) (l o : List ℕ) → guide ≡ Gv.Just at x d a → Found f Reader.path at → Found f Reader.path p
-      → readAt f Reader.path at ≡ got u l → readAt f Reader.path p ≡ got v o
-      → samePath u v ≡ seekKeeps (SeekKey.PrefixRange parts (record { path = pathAt f p; prefix = prefix })) (guideOf f guide)
+  pub range-alone : guide ≡ Gv.Nothing → true ≡ beside (guideOf f guide)
   unfolding seekKeeps
-  range-beside at x d a u v l o k m n e g =
-      ap (λ (w : File.FieldPath). samePath w v) (value-of e (path-reads f at m)) ∙ ap (samePath (pathAt f at)) (value-of g (path-reads f p n))
-      ∙ ap (λ (w : GuideView). seekKeeps (SeekKey.PrefixRange parts (record { path = pathAt f p; prefix = prefix })) (guideOf f w)) (sym k)
+  range-alone e = ap (λ (v : GuideView). beside (guideOf f v)) (sym e)
+
+  pub range-beside : (at x d : ℕ) (a : Anchor) (m : ℕ) (u v : File.FieldPath) (l o : List ℕ) → guide ≡ Gv.Just at x d a m → Found f Reader.path at → Found f Reader.path p
+      → readAt f Reader.path at ≡ got u l → readAt f Reader.path p ≡ got v o → samePath u v ≡ beside (guideOf f guide)
+  unfolding seekKeeps
+  range-beside at x d a m u v l o k s n e g =
+      ap (λ (w : File.FieldPath). samePath w v) (value-of e (path-reads f at s)) ∙ ap (samePath (pathAt f at)) (value-of g (path-reads f p n))
+      ∙ ap (λ (w : GuideView). beside (guideOf f w)) (sym k)
 
 pub guide-as : (f : List ℕ) (v w : GuideView) → v ≡ w → GuideInside f v → GuideInside f w
 guide-as f v w e x = subst (GuideInside f) e x
 
 -- Bounded: an edge, and no guide
-module _ (parts : List SeekKeyPart) (lo hi : Option RangeEdge) (guide : Option Guide) where
+module _ (parts : List Part) (lo hi : Option RangeEdge) (guide : Option Guide) where
   pub no-edge : number lo + number hi < 1 → false ≡ seekKeeps (SeekKey.Bounded parts lo hi) guide
   unfolding seekKeeps
   no-edge h = ap (λ (t : Bool). both t (eqb (number guide) 0)) (sym (lt-leb _ _ h))
@@ -140,9 +151,9 @@ module _ (f : List ℕ) (v : LevelView) (x : LevelInside f v) where
   abbrev Kept : SeekView → Bool
   Kept s = seekKeeps (seekOf f (v .parts) s) (guideOf f (v .guide))
 
-  pub prefix-keeps : (t : TextView) → v .seek ≡ Kv.Prefix t → true ≡ Kept (v .seek)
+  pub prefix-keeps : (t : TextView) (nodes : ℕ) → v .seek ≡ Kv.Prefix t nodes → true ≡ Kept (v .seek)
   unfolding seekKeeps
-  prefix-keeps t e = ap Kept (sym e)
+  prefix-keeps t nodes e = ap Kept (sym e)
 
   pub composite-parts : (parts : ℕ) → v .seek ≡ Kv.Composite parts → Found f (many (v .parts) Reader.part) parts
   composite-parts parts e = subst (SeekInside f (v .parts)) e (x .seek)
@@ -150,18 +161,16 @@ module _ (f : List ℕ) (v : LevelView) (x : LevelInside f v) where
   pub composite-keeps : (parts : ℕ) (r : Bool) → v .seek ≡ Kv.Composite parts → ((g : Option Guide) → r ≡ seekKeeps (SeekKey.Composite (itemsAt f Reader.part (v .parts) parts)) g) → r ≡ Kept (v .seek)
   composite-keeps parts r e k = k (guideOf f (v .guide)) ∙ ap Kept (sym e)
 
-  range-inside : (parts : ℕ) (t : TextView) (path : ℕ) → v .seek ≡ Kv.PrefixRange parts t path → SeekInside f (v .parts) (Kv.PrefixRange parts t path)
-  range-inside parts t path e = subst (SeekInside f (v .parts)) e (x .seek)
+  pub range-path : (parts : ℕ) (t : TextView) (path node : ℕ) → v .seek ≡ Kv.PrefixRange parts t path node → Found f Reader.path path
+  range-path parts t path node e = let inside : SeekInside f (v .parts) (Kv.PrefixRange parts t path node) = subst (SeekInside f (v .parts)) e (x .seek) in inside .2
 
-  pub range-path : (parts : ℕ) (t : TextView) (path : ℕ) → v .seek ≡ Kv.PrefixRange parts t path → Found f Reader.path path
-  range-path parts t path e = range-inside parts t path e .2
-
-  pub range-keeps : (parts : ℕ) (t : TextView) (path : ℕ) (r : Bool) → v .seek ≡ Kv.PrefixRange parts t path
-      → ((ps : List SeekKeyPart) (prefix : List ℕ) → r ≡ seekKeeps (SeekKey.PrefixRange ps (record { path = pathAt f path; prefix = prefix })) (guideOf f (v .guide))) → r ≡ Kept (v .seek)
-  range-keeps parts t path r e k = k (itemsAt f Reader.part (v .parts) parts) (textOf f t) ∙ ap Kept (sym e)
+  pub range-keeps : (parts : ℕ) (t : TextView) (path node : ℕ) (r : Bool) → v .seek ≡ Kv.PrefixRange parts t path node
+      → ((ps : List Part) (prefix : List ℕ) (m : ℕ) → let range : Range = record { path = pathAt f path; prefix = prefix; node = m } in r ≡ seekKeeps (SeekKey.PrefixRange ps range) (guideOf f (v .guide)))
+      → r ≡ Kept (v .seek)
+  range-keeps parts t path node r e k = k (itemsAt f Reader.part (v .parts) parts) (textOf f t) node ∙ ap Kept (sym e)
 
   pub bounded-keeps : (parts : ℕ) (lo hi : EdgeView) (r : Bool) → v .seek ≡ Kv.Bounded parts lo hi
-      → ((g : List ℕ) (ps : List SeekKeyPart) → r ≡ seekKeeps (SeekKey.Bounded ps (edgeOf g lo) (edgeOf g hi)) (guideOf g (v .guide))) → r ≡ Kept (v .seek)
+      → ((g : List ℕ) (ps : List Part) → r ≡ seekKeeps (SeekKey.Bounded ps (edgeOf g lo) (edgeOf g hi)) (guideOf g (v .guide))) → r ≡ Kept (v .seek)
   bounded-keeps parts lo hi r e k = k f (itemsAt f Reader.part (v .parts) parts) ∙ ap Kept (sym e)
 
 -- a level's rules in their order

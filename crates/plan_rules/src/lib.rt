@@ -5,14 +5,14 @@ ghost use mathlib.Core.Option.{Option};
 ghost use Prim.Native.Nat.{ℕ, _≤_, _<_};
 ghost use Rattle.rules.specs.Base.{all};
 ghost use Rattle.rules.specs.Read.{many};
-ghost use Rattle.rules.specs.Placement.{SeekKeyPart, Guide, SeekKey};
+ghost use Rattle.rules.specs.Placement.{Part, Guide, Range, SeekKey};
 ghost use Rattle.rules.specs.Demand3.{number, seekRange, seekEdges};
 ghost use Rattle.rules.specs.Reader as Reader;
 ghost use Rattle.rules.specs.Reader.{closersAmongParts, narrowingsSum, edgesFolded, seekKeeps, levelRules};
 ghost use Rattle.file.specs.Steps.{wordLimit};
 ghost use Rattle.views.specs.Views.{pathAt};
 ghost use Rattle.plan_form.specs.Places.{planOf, Opened, Found};
-ghost use Rattle.plan_items.specs.Items.{itemsAt, partOf, edgeOf, guideOf, seekOf, levelOf, GuideInside, LevelInside};
+ghost use Rattle.plan_items.specs.Items.{itemsAt, keyOf, edgeOf, guideOf, seekOf, levelOf, GuideInside, LevelInside};
 ghost use Rattle.plan_rules.specs.Parts.{isBytes};
 use file::word_at;
 use plan_items::EdgeView;
@@ -43,7 +43,7 @@ fn guide_number(guide: GuideView) -> usize
 {
     match guide {
         GuideView::Nothing => 0,
-        GuideView::Just(_, _, _, _) => 1,
+        GuideView::Just(_, _, _, _, _) => 1,
     }
 }
 
@@ -53,9 +53,9 @@ fn range_number(seek: SeekView) -> usize
     ensures most { λ r. ⌜ r ≤ 1 ⌝ }
 {
     match seek {
-        SeekView::Prefix(_) => 0,
+        SeekView::Prefix(_, _) => 0,
         SeekView::Composite(_) => 0,
-        SeekView::PrefixRange(_, _, _) => 1,
+        SeekView::PrefixRange(_, _, _, _) => 1,
         SeekView::Bounded(_, _, _) => 0,
     }
 }
@@ -65,9 +65,9 @@ fn edges_number(seek: SeekView) -> usize
     ensures { λ r. ⌜ ((f : List ℕ) (n : ℕ) → r ≡ seekEdges (seekOf f n seek)) ⌝ }
 {
     match seek {
-        SeekView::Prefix(_) => 0,
+        SeekView::Prefix(_, _) => 0,
         SeekView::Composite(_) => 0,
-        SeekView::PrefixRange(_, _, _) => 0,
+        SeekView::PrefixRange(_, _, _, _) => 0,
         SeekView::Bounded(_, lo, hi) => edge_number(lo) + edge_number(hi),
     }
 }
@@ -103,7 +103,7 @@ fn edges_folded(level: LevelView) -> bool
 
 // Whether a part is bytes.
 fn is_bytes(part: PartView) -> bool
-    ensures { λ r. ⌜ ((f : List ℕ) → r ≡ isBytes (partOf f part)) ⌝ }
+    ensures { λ r. ⌜ ((f : List ℕ) → r ≡ isBytes (keyOf f part)) ⌝ }
 {
     match part {
         PartView::Bytes(_) => true,
@@ -138,14 +138,15 @@ fn composite_keeps(plan: &[u8], n: usize, p: usize) -> bool
 fn range_keeps(plan: &[u8], p: usize, guide: GuideView) -> bool
     requires { ⌜ Found (now plan) Reader.path p ⌝ }
     requires { ⌜ GuideInside (now plan) guide ⌝ }
-    ensures { λ r. ⌜ ((parts : List SeekKeyPart) (prefix : List ℕ) →
+    ensures { λ r. ⌜ ((parts : List Part) (prefix : List ℕ) (node : ℕ) →
         let bytes = now (plan .entry) in
-        r ≡ seekKeeps (SeekKey.PrefixRange parts (record { path = pathAt bytes p; prefix = prefix })) (guideOf bytes guide)
+        let range : Range = record { path = pathAt bytes p; prefix = prefix; node = node } in
+        r ≡ seekKeeps (SeekKey.PrefixRange parts range) (guideOf bytes guide)
         ) ⌝ }
 {
     match guide {
         GuideView::Nothing => true,
-        GuideView::Just(at, _, _, _) => {
+        GuideView::Just(at, _, _, _, _) => {
             let path = path_at(plan, at);
             path.same(path_at(plan, p))
         }
@@ -154,7 +155,7 @@ fn range_keeps(plan: &[u8], p: usize, guide: GuideView) -> bool
 
 // Bounded has an edge, and an edge excludes a guide.
 fn bounded_keeps(lo: EdgeView, hi: EdgeView, guide: GuideView) -> bool
-    ensures { λ r. ⌜ ((f : List ℕ) (parts : List SeekKeyPart) →
+    ensures { λ r. ⌜ ((f : List ℕ) (parts : List Part) →
         r ≡ seekKeeps (SeekKey.Bounded parts (edgeOf f lo) (edgeOf f hi)) (guideOf f guide)
         ) ⌝ }
 {
@@ -175,9 +176,9 @@ fn seek_keeps(plan: &[u8], level: LevelView) -> bool
     let seek = level.seek;
     let guide = level.guide;
     match seek {
-        SeekView::Prefix(_) => true,
+        SeekView::Prefix(_, _) => true,
         SeekView::Composite(parts) => composite_keeps(plan, level.parts, parts),
-        SeekView::PrefixRange(_, _, path) => range_keeps(plan, path, guide),
+        SeekView::PrefixRange(_, _, path, _) => range_keeps(plan, path, guide),
         SeekView::Bounded(_, lo, hi) => bounded_keeps(lo, hi, guide),
     }
 }

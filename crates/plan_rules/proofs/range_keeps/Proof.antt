@@ -24,10 +24,10 @@ same-requires : tie.Need-same-requires
 same-requires c κs = search needs
 
 returns : tie.Need-returns
-returns c = λ parts prefix. range-alone _ _ _ parts prefix (c .enum-told .given .1)
+returns c = λ parts prefix node. range-alone _ _ _ parts prefix node (c .enum-told .given .1)
 
 returns-2 : tie.Need-returns-2
-returns-2 c = λ parts prefix. c .same .ensures ∙ range-beside _ _ _ parts prefix _ _ _ _ _ _ _ _ (c .before .before .before .before .guide .given .1) (guide-as _ _ _ (c .before .before .before .before .guide .given .1) (c .before .before .before .before .before .before .before .pre .1)) (c .before .before .before .before .before .before .before .pre .0) (c .before .before .path-at .ensures .0) (c .before .path-at2 .ensures .0)
+returns-2 c = λ parts prefix node. c .same .ensures ∙ range-beside _ _ _ parts prefix node _ _ _ _ _ _ _ _ _ (c .before .before .before .before .guide .given .1) (guide-as _ _ _ (c .before .before .before .before .guide .given .1) (c .before .before .before .before .before .before .before .pre .1)) (c .before .before .before .before .before .before .before .pre .0) (c .before .before .path-at .ensures .0) (c .before .path-at2 .ensures .0)
 
 pub range-keeps-spec : {M : Type 1} → statement M
 range-keeps-spec =

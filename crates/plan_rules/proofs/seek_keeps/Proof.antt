@@ -21,7 +21,7 @@ enum-known-seek-2 : tie.Need-enum-known-seek-2
 enum-known-seek-2 c = search needs
 
 range-keeps-requires : tie.Need-range-keeps-requires
-range-keeps-requires c κs = (range-path _ _ (c .before .before .before .before .pre) _ _ _ (c .before .seek2 .given .1), c .before .before .before .before .pre .guide)
+range-keeps-requires c κs = (range-path _ _ (c .before .before .before .before .pre) _ _ _ _ (c .before .seek2 .given .1), c .before .before .before .before .pre .guide)
 
 enum-known-seek-3 : tie.Need-enum-known-seek-3
 enum-known-seek-3 c = search needs
@@ -30,13 +30,13 @@ bounded-keeps-requires : tie.Need-bounded-keeps-requires
 bounded-keeps-requires c κs = search needs
 
 returns : tie.Need-returns
-returns c = prefix-keeps _ _ (c .before .before .before .pre) _ (c .enum-told .given .1)
+returns c = prefix-keeps _ _ (c .before .before .before .pre) _ _ (c .enum-told .given .1)
 
 returns-2 : tie.Need-returns-2
 returns-2 c = composite-keeps _ _ (c .before .before .before .before .before .pre) _ _ (c .before .before .seek .given .1) (c .composite-keeps .ensures)
 
 returns-3 : tie.Need-returns-3
-returns-3 c = range-keeps _ _ (c .before .before .before .before .before .pre) _ _ _ _ (c .before .before .seek2 .given .1) (c .range-keeps .ensures)
+returns-3 c = range-keeps _ _ (c .before .before .before .before .before .pre) _ _ _ _ _ (c .before .before .seek2 .given .1) (c .range-keeps .ensures)
 
 returns-4 : tie.Need-returns-4
 returns-4 c = bounded-keeps _ _ (c .before .before .before .before .before .pre) _ _ _ _ (c .before .before .seek3 .given .1) (c .bounded-keeps .ensures)
