@@ -111,8 +111,8 @@ pub struct ResidualView {
     pub end: usize,
 }
 
-// A level's seek. Prefix has its text and the position of the first part's node, the others have the position of the first part; a PrefixRange
-// has its text, the position of its path and its node.
+// A level's seek. Prefix has its text and the position of the first part's node, the others the position of the first part; a
+// PrefixRange has its text, the position of its path and its node.
 pub enum SeekView {
     Prefix(TextView, usize),
     Composite(usize),
