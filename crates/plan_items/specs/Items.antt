@@ -73,7 +73,8 @@ edgeOf f (Ev.Inclusive text) = some (record { value = textOf f text; inclusive =
 
 abbrev pub guideOf : List ℕ → GuideView → Option Guide
 guideOf f Gv.Nothing = none
-guideOf f (Gv.Just path x distance a n) = some (record { path = pathAt f path; term = x; distance = distance; anchor = anchorOf a; node = n })
+guideOf f (Gv.Just path x distance a n) =
+    some (record { path = pathAt f path; term = x; distance = distance; anchor = anchorOf a; node = n })
 
 abbrev pub narrowingOf : List ℕ → NarrowingView → Narrowing
 narrowingOf f (Nv.Bytes text) = Narrowing.Bytes (textOf f text)
