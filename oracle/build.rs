@@ -11,6 +11,8 @@ mod count;
 mod cut;
 #[path = "build/mutate.rs"]
 mod mutate;
+#[path = "build/note.rs"]
+mod note;
 #[path = "build/tokens.rs"]
 mod tokens;
 
@@ -49,6 +51,7 @@ fn write_modules(out: &Path, cut: &cut::Cut) {
         &cut.module(|item| item.text.clone()),
     );
     write_counted(out, cut);
+    write(&out.join("noted.rs"), &note::module(cut));
     if env::var_os("CARGO_FEATURE_MUTANTS").is_some() {
         write_mutants(out, cut);
     }

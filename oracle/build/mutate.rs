@@ -4,12 +4,12 @@
 
 use crate::cut::{Cut, Item};
 
-struct Edit {
-    function: &'static str,
-    old: &'static str,
+pub struct Edit {
+    pub function: &'static str,
+    pub old: &'static str,
     /// Which occurrence, of how many: another count means the source changed.
-    which: (usize, usize),
-    new: &'static str,
+    pub which: (usize, usize),
+    pub new: &'static str,
 }
 
 pub struct Mutant {
@@ -38,7 +38,7 @@ const fn mutant(
     }
 }
 
-const ONLY: (usize, usize) = (1, 1);
+pub const ONLY: (usize, usize) = (1, 1);
 const FALL: &str = "level.building = false";
 const BUILDING: &str = "if level.building {";
 const UNBOUND: &str = "self.lookup(*symbol).is_none()";
@@ -464,7 +464,7 @@ pub fn module(cut: &Cut, mutant: &Mutant) -> String {
     text
 }
 
-fn edited(item: &Item, edit: &Edit) -> String {
+pub fn edited(item: &Item, edit: &Edit) -> String {
     if item.name != format!("fn {}", edit.function) {
         return item.text.clone();
     }

@@ -13,6 +13,17 @@ pub mod original {
     include!(concat!(env!("OUT_DIR"), "/bodies.rs"));
 }
 
+/// The copy that says which node makes each entry.
+#[allow(dead_code, unused_imports, clippy::all)]
+pub mod noted {
+    use crate::standin::*;
+    use std::sync::Arc;
+
+    use self::Compare as CompareOp;
+
+    include!(concat!(env!("OUT_DIR"), "/noted.rs"));
+}
+
 /// The copy that counts its branches.
 #[allow(
     dead_code,

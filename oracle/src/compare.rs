@@ -6,6 +6,7 @@ use std::sync::mpsc;
 use std::time::Duration;
 
 use crate::compile::{hex, line};
+use crate::nodes::line_dropped;
 use crate::run::answer;
 use crate::shrink::shrink;
 
@@ -21,9 +22,20 @@ pub struct Compare<'a> {
 #[derive(Default)]
 pub struct Outcome {
     pub compared: usize,
+    /// Lines that differ with the nodes left aside.
     pub different: usize,
+    /// Other lines: these differ in their nodes alone.
+    pub nodes: usize,
     /// Files that the bodies take too long for.
     pub left_out: usize,
+}
+
+/// How a line differs from the expected one.
+#[derive(Clone, Copy, PartialEq, Eq)]
+enum Differs {
+    Not,
+    InNodes,
+    Else,
 }
 
 impl Compare<'_> {
@@ -40,22 +52,31 @@ impl Compare<'_> {
                 continue;
             };
             outcome.compared += 1;
-            if differs {
-                outcome.different += 1;
-                report(self.shown(&file));
+            match differs {
+                Differs::Not => continue,
+                Differs::InNodes => outcome.nodes += 1,
+                Differs::Else => outcome.different += 1,
             }
+            report(self.shown(&file, differs));
         }
         outcome
     }
 
-    fn differs(&self, file: &[u8]) -> Option<bool> {
+    fn differs(&self, file: &[u8]) -> Option<Differs> {
         let expected = line(&answer(file)?);
-        Some(self.answer(file) != expected)
+        let given = self.answer(file);
+        Some(if given == expected {
+            Differs::Not
+        } else if line_dropped(&given) == line_dropped(&expected) {
+            Differs::InNodes
+        } else {
+            Differs::Else
+        })
     }
 
     /// The difference on the smallest file found.
-    fn shown(&self, file: &[u8]) -> String {
-        let small = shrink(file, TRIES, |file| self.differs(file) == Some(true));
+    fn shown(&self, file: &[u8], differs: Differs) -> String {
+        let small = shrink(file, TRIES, |file| self.differs(file) == Some(differs));
         let expected = answer(&small).map_or(String::from("no answer"), |o| line(&o));
         let given = self.answer(&small);
         format!(

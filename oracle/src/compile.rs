@@ -3,7 +3,7 @@
 use std::panic::{AssertUnwindSafe, catch_unwind, resume_unwind};
 
 use crate::file::{MAX_FILE, MIN_WORK, RuleFile};
-use crate::plan::{Plan, plan_bytes};
+use crate::plan::{Plan, base_bytes, plan_bytes};
 use crate::standin::OutOfFuel;
 use crate::{check, read};
 
@@ -26,18 +26,26 @@ pub fn front(file: &[u8], work_len: usize) -> Result<RuleFile, u8> {
     Ok(file)
 }
 
-/// The plan, or the refusal's number. The caller gives the stack: a file may
+/// The plan, or the refusal's number, by the copy of the bodies that notes the
+/// nodes. The caller gives the stack: a file may
 /// nest its nodes some 2,000 deep (see [`on_large_stack`]).
 ///
 /// # Panics
 /// Where the build found no source of the bodies ([`HAS_BODIES`]).
 pub fn compile(file: &[u8], plan_len: usize, work_len: usize) -> Result<Vec<u8>, u8> {
     let file = front(file, work_len)?;
-    plan_bytes(&original(&file, u64::MAX), plan_len)
+    plan_bytes(&noted(&file, u64::MAX), plan_len)
 }
 
-/// As [`compile`], but none where the bodies look at more than `fuel` nodes.
-pub fn compile_within(
+/// As [`compile`], by the original bodies themselves: in the base's form, which has
+/// no nodes.
+pub fn compile_base(file: &[u8], plan_len: usize, work_len: usize) -> Result<Vec<u8>, u8> {
+    let file = front(file, work_len)?;
+    base_bytes(&original(&file, u64::MAX), plan_len)
+}
+
+/// As [`compile_base`], but none where the bodies look at more than `fuel` nodes.
+pub fn base_within(
     walk: Walk,
     fuel: u64,
     file: &[u8],
@@ -45,7 +53,7 @@ pub fn compile_within(
     work_len: usize,
 ) -> Option<Result<Vec<u8>, u8>> {
     let plan = plan_within(walk, fuel, file, work_len)?;
-    Some(plan.and_then(|plan| plan_bytes(&plan, plan_len)))
+    Some(plan.and_then(|plan| base_bytes(&plan, plan_len)))
 }
 
 /// The plan as data, before it is written; none where the bodies look at more
@@ -76,6 +84,11 @@ pub fn original(file: &RuleFile, fuel: u64) -> Plan {
 pub fn original(_: &RuleFile, _: u64) -> Plan {
     panic!("built without the bodies: FJORD_SRC named no source")
 }
+
+#[cfg(not(fjord_bodies))]
+pub use self::original as noted;
+#[cfg(fjord_bodies)]
+pub use crate::noted::noted;
 
 /// The line that program `plan` prints for an outcome.
 pub fn line(outcome: &Result<Vec<u8>, u8>) -> String {

@@ -2,7 +2,7 @@
 
 use std::cell::Cell;
 
-use crate::compile::compile_within;
+use crate::compile::base_within;
 use crate::file::{MAX_PLAN, MIN_WORK};
 use crate::run::FUEL;
 
@@ -53,7 +53,7 @@ pub fn measure(files: impl Iterator<Item = Vec<u8>>) -> Report {
     let (mut count, mut out_of_fuel) = (0, 0);
     for file in files {
         count += 1;
-        let done = compile_within(counted, FUEL, &file, MAX_PLAN, MIN_WORK);
+        let done = base_within(counted, FUEL, &file, MAX_PLAN, MIN_WORK);
         out_of_fuel += usize::from(done.is_none());
     }
     let unreached: Vec<Site> = (0..SITES.len())
@@ -71,7 +71,7 @@ pub fn measure(files: impl Iterator<Item = Vec<u8>>) -> Report {
 /// The sites that one file reaches.
 pub fn reached_by(file: &[u8]) -> Vec<usize> {
     let before: Vec<u64> = (0..SITES.len()).map(hits).collect();
-    compile_within(counted, FUEL, file, MAX_PLAN, MIN_WORK);
+    base_within(counted, FUEL, file, MAX_PLAN, MIN_WORK);
     let reached = |site: &usize| hits(*site) > before[*site];
     (0..SITES.len()).filter(reached).collect()
 }

@@ -200,6 +200,7 @@ fn level_data(builder: &SeekBuilder, seek: SeekKey) -> plan::Level {
         guide: builder.guide.as_ref().map(guide_data),
         residuals: builder.residuals.iter().map(residual_data).collect(),
         folded: builder.folded.clone(),
+        nodes: vec![],
     }
 }
 

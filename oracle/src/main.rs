@@ -147,11 +147,12 @@ fn compare(program: &str, seed: u64, count: u64) -> ExitCode {
     if outcome.left_out > 0 {
         println!("{} left out, too long for the bodies", outcome.left_out);
     }
+    println!("{} different in their nodes alone", outcome.nodes);
     println!(
         "{} compared, {} different",
         outcome.compared, outcome.different
     );
-    if outcome.different > 0 {
+    if outcome.different + outcome.nodes > 0 {
         return ExitCode::FAILURE;
     }
     ExitCode::SUCCESS

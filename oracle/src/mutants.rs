@@ -1,9 +1,9 @@
 //! The bodies with one mistake each, made by the build, and how many files tell
 //! them from the original.
 
-use crate::compile::{Walk, compile_within};
+use crate::compile::{Walk, base_within};
 use crate::file::{MAX_PLAN, MIN_WORK};
-use crate::run::{FUEL, answer};
+use crate::run::{FUEL, base_answer};
 
 pub struct Mutant {
     pub name: &'static str,
@@ -31,7 +31,7 @@ include!(concat!(env!("OUT_DIR"), "/mutants.rs"));
 pub fn different(files: impl Iterator<Item = Vec<u8>>) -> Vec<usize> {
     let mut counts = vec![0; MUTANTS.len()];
     for file in files {
-        let Some(expected) = answer(&file) else {
+        let Some(expected) = base_answer(&file) else {
             continue;
         };
         for (mutant, count) in MUTANTS.iter().zip(&mut counts) {
@@ -44,6 +44,6 @@ pub fn different(files: impl Iterator<Item = Vec<u8>>) -> Vec<usize> {
 
 /// A mutant may panic or run away; either is a difference.
 fn run(mutant: &Mutant, file: &[u8]) -> Option<Result<Vec<u8>, u8>> {
-    let work = || compile_within(mutant.walk, 2 * FUEL, file, MAX_PLAN, MIN_WORK);
+    let work = || base_within(mutant.walk, 2 * FUEL, file, MAX_PLAN, MIN_WORK);
     std::panic::catch_unwind(work).ok().flatten()
 }

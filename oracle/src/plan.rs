@@ -1,4 +1,7 @@
-//! A plan as data, and its bytes.
+//! A plan as data, and its bytes: with its nodes, and in the base's form, which
+//! has none.
+
+use std::slice::Iter;
 
 use crate::file::{Anchor, Binding, MAX_PLAN, Path};
 use crate::write::Writer;
@@ -50,6 +53,18 @@ pub struct Level {
     pub guide: Option<(Path, Fuzzy)>,
     pub residuals: Vec<(Path, ResidualOp)>,
     pub folded: Vec<usize>,
+    /// The node of each entry, in the order in which they stand in a plan: of the
+    /// parts, the range, the guide, the residuals. The original bodies have none.
+    pub nodes: Vec<u16>,
+}
+
+impl Level {
+    /// How many of its entries have a node.
+    pub fn entries(&self) -> usize {
+        let ranges = usize::from(matches!(self.seek, Seek::PrefixRange(..)));
+        let guides = usize::from(self.guide.is_some());
+        self.parts + ranges + guides + self.residuals.len()
+    }
 }
 
 #[derive(Debug, Clone, PartialEq, Eq, Default)]
@@ -64,18 +79,58 @@ pub struct Plan {
 /// The plan's bytes, or refusal 15 where they do not fit.
 pub fn plan_bytes(plan: &Plan, buffer: usize) -> Result<Vec<u8>, u8> {
     let bytes = write_plan(plan);
-    if bytes.len() > MAX_PLAN || bytes.len() > buffer {
+    fitting(bytes.len(), buffer)?;
+    Ok(bytes)
+}
+
+/// The plan's bytes in the base's form, or refusal 15 where they do not fit with
+/// two bytes more for each node.
+pub fn base_bytes(plan: &Plan, buffer: usize) -> Result<Vec<u8>, u8> {
+    let bytes = write_base(plan);
+    let entries: usize = plan.levels.iter().map(Level::entries).sum();
+    fitting(bytes.len() + 2 * entries, buffer)?;
+    Ok(bytes)
+}
+
+fn fitting(length: usize, buffer: usize) -> Result<(), u8> {
+    if length > MAX_PLAN || length > buffer {
         return Err(15);
     }
-    Ok(bytes)
+    Ok(())
 }
 
 /// The plan's bytes, however many there are.
 pub fn write_plan(plan: &Plan) -> Vec<u8> {
+    written(plan, |level| Nodes(Some(level.nodes.iter())))
+}
+
+/// The plan's bytes in the base's form, without its nodes.
+pub fn write_base(plan: &Plan) -> Vec<u8> {
+    written(plan, |_| Nodes(None))
+}
+
+/// What is left of a level's nodes; none at all in the base's form.
+struct Nodes<'a>(Option<Iter<'a, u16>>);
+
+impl Nodes<'_> {
+    /// Behind an entry.
+    fn write(&mut self, w: &mut Writer) {
+        if let Some(nodes) = &mut self.0 {
+            w.u16(*nodes.next().expect("each entry has a node"));
+        }
+    }
+
+    fn end(self) {
+        let left = self.0.map_or(0, |nodes| nodes.len());
+        assert_eq!(left, 0, "each node has an entry");
+    }
+}
+
+fn written(plan: &Plan, nodes: fn(&Level) -> Nodes) -> Vec<u8> {
     let mut w = Writer::default();
     w.count(plan.levels.len());
     for level in &plan.levels {
-        w.level(level);
+        w.level(level, nodes(level));
     }
     w.count(plan.bindings.len());
     for binding in &plan.bindings {
@@ -100,56 +155,63 @@ pub fn write_plan(plan: &Plan) -> Vec<u8> {
 }
 
 impl Writer {
-    fn level(&mut self, level: &Level) {
+    fn level(&mut self, level: &Level, mut nodes: Nodes) {
         self.count(level.narrowings);
         self.count(level.closers);
         self.count(level.parts);
-        self.seek(&level.seek);
+        self.seek(level, &mut nodes);
         match &level.guide {
             None => self.u8(0),
             Some((path, fuzzy)) => {
                 self.u8(1);
                 self.path(path);
                 self.fuzzy(fuzzy);
+                nodes.write(self);
             }
         }
         self.count(level.residuals.len());
         for (path, op) in &level.residuals {
             self.path(path);
             self.residual(op);
+            nodes.write(self);
         }
         self.count(level.folded.len());
         for &index in &level.folded {
             self.count(index);
         }
+        nodes.end();
     }
 
-    fn seek(&mut self, seek: &Seek) {
-        match seek {
+    fn seek(&mut self, level: &Level, nodes: &mut Nodes) {
+        match &level.seek {
             Seek::Prefix(bytes) => {
                 self.u8(0);
                 self.text(bytes);
+                for _ in 0..level.parts {
+                    nodes.write(self);
+                }
             }
             Seek::Composite(parts) => {
                 self.u8(1);
-                self.parts(parts);
+                self.parts(parts, nodes);
             }
             Seek::PrefixRange(parts, prefix, path) => {
                 self.u8(2);
-                self.parts(parts);
+                self.parts(parts, nodes);
                 self.text(prefix);
                 self.path(path);
+                nodes.write(self);
             }
             Seek::Bounded(parts, lo, hi) => {
                 self.u8(3);
-                self.parts(parts);
+                self.parts(parts, nodes);
                 self.edge(lo);
                 self.edge(hi);
             }
         }
     }
 
-    fn parts(&mut self, parts: &[Part]) {
+    fn parts(&mut self, parts: &[Part], nodes: &mut Nodes) {
         for part in parts {
             match part {
                 Part::Bytes(bytes) => {
@@ -166,6 +228,7 @@ impl Writer {
                     self.u16(*address);
                 }
             }
+            nodes.write(self);
         }
     }
 

@@ -1,5 +1,6 @@
 //! The plan reader of request [1], written from the papers: refusals 15 to 18,
-//! or the plan as data.
+//! or the plan as data. It reads the nodes of request [2]; the base's form, without
+//! them, is read by its form alone.
 
 use crate::file::*;
 use crate::plan::{Edge, Fuzzy, Level, Part, Plan, ResidualOp, Seek};
@@ -27,13 +28,25 @@ pub fn reread(bytes: &[u8], room: usize) -> Result<Plan, u8> {
 
 /// The plan that bytes tell by their form alone: 16 and 17.
 pub fn form(bytes: &[u8]) -> Result<Plan, u8> {
-    Left::new(bytes).plan()
+    Left::new(bytes, true).plan()
+}
+
+/// As [`form`], of a plan in the base's form: its levels have no nodes.
+pub fn base_form(bytes: &[u8]) -> Result<Plan, u8> {
+    Left::new(bytes, false).plan()
+}
+
+/// Where the nodes of a plan stand, two bytes each, front to back.
+pub fn node_places(bytes: &[u8]) -> Result<Vec<usize>, u8> {
+    let mut left = Left::new(bytes, true);
+    left.plan()?;
+    Ok(left.places)
 }
 
 /// The places of a plan's bytes that have a list of meanings, each with the last
 /// one: seeks, parts, edges, guides, ops, anchors, slots, step counts, codes.
 pub fn marked(bytes: &[u8]) -> Vec<(usize, u8)> {
-    let mut left = Left::new(bytes);
+    let mut left = Left::new(bytes, true);
     // Of bytes that are no plan, as far as they go.
     let _ = left.plan();
     left.marked
@@ -101,20 +114,31 @@ fn edges(level: &Level) -> usize {
     }
 }
 
-/// The bytes not read yet, how many there were, and which had a list of meanings.
+/// The bytes not read yet, how many there were, which had a list of meanings, and
+/// the nodes: where they stood, and those of the level at hand.
 struct Left<'a> {
     rest: &'a [u8],
     length: usize,
     marked: Vec<(usize, u8)>,
+    with_nodes: bool,
+    places: Vec<usize>,
+    nodes: Vec<u16>,
 }
 
 impl<'a> Left<'a> {
-    fn new(bytes: &'a [u8]) -> Self {
+    fn new(bytes: &'a [u8], with_nodes: bool) -> Self {
         Self {
             rest: bytes,
             length: bytes.len(),
             marked: vec![],
+            with_nodes,
+            places: vec![],
+            nodes: vec![],
         }
+    }
+
+    fn at(&self) -> usize {
+        self.length - self.rest.len()
     }
 
     fn plan(&mut self) -> Result<Plan, u8> {
@@ -157,7 +181,7 @@ impl<'a> Left<'a> {
 
     /// A byte that has a meaning.
     fn one_of(&mut self, known: std::ops::RangeInclusive<u8>) -> Result<u8, u8> {
-        let at = self.length - self.rest.len();
+        let at = self.at();
         let byte = self.u8()?;
         self.marked.push((at, *known.end()));
         if known.contains(&byte) {
@@ -165,6 +189,16 @@ impl<'a> Left<'a> {
         } else {
             Err(MEANINGLESS)
         }
+    }
+
+    /// What an entry's node stands behind.
+    fn noded<T>(&mut self, entry: T) -> Result<T, u8> {
+        if self.with_nodes {
+            self.places.push(self.at());
+            let node = self.u16()?;
+            self.nodes.push(node);
+        }
+        Ok(entry)
     }
 
     fn times<T>(
@@ -212,32 +246,49 @@ impl<'a> Left<'a> {
             seek: self.seek(parts)?,
             guide: match self.one_of(0..=1)? {
                 0 => None,
-                _ => Some((self.path()?, self.fuzzy()?)),
+                _ => Some(self.guide()?),
             },
-            residuals: self.counted(|left| Ok((left.path()?, left.op()?)))?,
+            residuals: self.counted(Self::residual)?,
             folded: self.counted(|left| left.u16().map(usize::from))?,
+            nodes: std::mem::take(&mut self.nodes),
         })
+    }
+
+    fn guide(&mut self) -> Result<(Path, Fuzzy), u8> {
+        let guide = (self.path()?, self.fuzzy()?);
+        self.noded(guide)
+    }
+
+    fn residual(&mut self) -> Result<(Path, ResidualOp), u8> {
+        let residual = (self.path()?, self.op()?);
+        self.noded(residual)
     }
 
     fn seek(&mut self, parts: usize) -> Result<Seek, u8> {
         let kind = self.one_of(0..=3)?;
         if kind == 0 {
-            return self.text().map(Seek::Prefix);
+            let joined = self.text()?;
+            self.times(parts, |left| left.noded(()))?;
+            return Ok(Seek::Prefix(joined));
         }
         let parts = self.times(parts, Self::part)?;
         Ok(match kind {
             1 => Seek::Composite(parts),
-            2 => Seek::PrefixRange(parts, self.text()?, self.path()?),
+            2 => {
+                let range = Seek::PrefixRange(parts, self.text()?, self.path()?);
+                self.noded(range)?
+            }
             _ => Seek::Bounded(parts, self.edge()?, self.edge()?),
         })
     }
 
     fn part(&mut self) -> Result<Part, u8> {
-        Ok(match self.one_of(0..=2)? {
+        let part = match self.one_of(0..=2)? {
             0 => Part::Bytes(self.text()?),
             1 => Part::RegisterField(self.u16()?, self.path()?),
             _ => Part::RegisterFactId(self.u16()?),
-        })
+        };
+        self.noded(part)
     }
 
     fn edge(&mut self) -> Result<Option<Edge>, u8> {

@@ -2,7 +2,7 @@
 
 #![cfg(fjord_bodies)]
 
-use oracle::compile::{compile_within, original};
+use oracle::compile::{base_within, original};
 use oracle::coverage::{self, SITES, counted, events};
 use oracle::draw::boundary::plan_of_length;
 use oracle::file::{MAX_PLAN, MIN_WORK};
@@ -16,10 +16,18 @@ const LIST: &str = include_str!("../fixed/pairs.txt");
 
 #[test]
 fn d1_to_the_byte() {
-    let paper = "0100 0200 0000 0100 02 00 0900 028000000000000007 0200 036b 010000 00 \
+    let paper = "0100 0200 0000 0100 02 00 0900 028000000000000007 0000 0200 036b 010000 0100 00 \
                  0000 0000 0000 0000 0000 0000";
-    let outcome = compile(&write(&fixed::door::d1()), MAX_PLAN, MIN_WORK);
+    let file = write(&fixed::door::d1());
+    let outcome = compile(&file, MAX_PLAN, MIN_WORK);
     assert_eq!(line(&outcome), paper.replace(' ', ""));
+    let base = "0100 0200 0000 0100 02 00 0900 028000000000000007 0200 036b 010000 00 \
+                0000 0000 0000 0000 0000 0000";
+    let outcome = base_within(original, FUEL, &file, MAX_PLAN, MIN_WORK);
+    assert_eq!(
+        outcome.map(|outcome| line(&outcome)),
+        Some(base.replace(' ', ""))
+    );
 }
 
 #[test]
@@ -203,6 +211,6 @@ fn the_longest_chain_of_reads() {
 #[test]
 fn a_walk_without_fuel_gives_nothing() {
     let file = write(&fixed::door::d1());
-    assert_eq!(compile_within(original, 3, &file, MAX_PLAN, MIN_WORK), None);
-    assert!(compile_within(original, FUEL, &file, MAX_PLAN, MIN_WORK).is_some());
+    assert_eq!(base_within(original, 3, &file, MAX_PLAN, MIN_WORK), None);
+    assert!(base_within(original, FUEL, &file, MAX_PLAN, MIN_WORK).is_some());
 }

@@ -75,7 +75,8 @@ mod with_bodies {
     fn compare_agrees_with_itself() {
         let output = oracle(&["compare", &format!("{ORACLE} plan"), "3", "150"], &[]);
         assert_eq!(output.status.code(), Some(0));
-        assert!(text(&output).ends_with("150 compared, 0 different\n"));
+        let counts = "0 different in their nodes alone\n150 compared, 0 different\n";
+        assert!(text(&output).ends_with(counts));
     }
 
     #[test]

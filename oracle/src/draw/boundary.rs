@@ -174,8 +174,11 @@ const FRAME: usize = 10;
 /// What a level takes beside its seek's own bytes.
 const LEVEL: usize = 12;
 const LONGEST_NAME: usize = 255;
-/// A level with a constant text: the text's length, 03 and 00, and the level.
-const TEXT_LEVEL: usize = LEVEL + 2 + 2;
+/// What an entry takes for its node.
+const NODE: usize = 2;
+/// A level with a constant text: the text's length, 03 and 00, the node, and the
+/// level.
+const TEXT_LEVEL: usize = LEVEL + 2 + 2 + NODE;
 
 /// A file whose plan has exactly this many bytes, 16,000 or so: levels with one
 /// text key, of several forms and each of a known length, then texts that fill
@@ -214,7 +217,7 @@ pub fn plan_of_length(length: usize, rng: &mut Rng) -> RuleFile {
             // A diagnostic.
             2 => LEVEL + 2 + 3,
             // A guide.
-            3 => LEVEL + 2 + 7,
+            3 => LEVEL + 2 + 7 + NODE,
             // The name is new once; then it is its own row's field.
             _ if captured => LEVEL + 2 + 3,
             _ => {

@@ -122,8 +122,9 @@ fn binding(rng: &mut Rng) -> Binding {
 
 fn level(rng: &mut Rng) -> Level {
     let parts = some(rng, 3, part);
-    // A Prefix's parts are a number alone, and may be any.
-    let [many_closers, many_parts] = [number(rng), number(rng)].map(usize::from);
+    // A Prefix's parts are their nodes alone, and may be many.
+    let many_closers = usize::from(number(rng));
+    let many_parts = [rng.below(4), rng.below(MANY)][rng.weighted(&[80, 20])];
     let mut level = Level {
         narrowings: 0,
         closers: [rng.below(4), many_closers][rng.below(2)],
@@ -137,6 +138,7 @@ fn level(rng: &mut Rng) -> Level {
         guide: rng.chance(40).then(|| (path(rng), fuzzy(rng))),
         residuals: some(rng, 3, residual),
         folded: vec![],
+        nodes: vec![],
     };
     match (&level.seek, &mut level.guide) {
         (Seek::PrefixRange(_, _, range), Some((path, _))) => *path = range.clone(),
@@ -144,6 +146,12 @@ fn level(rng: &mut Rng) -> Level {
         _ => {}
     }
     counted(&mut level);
+    noded(rng, level)
+}
+
+/// The level with a node for each entry.
+fn noded(rng: &mut Rng, mut level: Level) -> Level {
+    level.nodes = (0..level.entries()).map(|_| number(rng)).collect();
     level
 }
 
@@ -171,13 +179,12 @@ fn counted(level: &mut Level) {
     level.folded.resize(edges, 1);
     let guides = usize::from(level.guide.is_some());
     level.narrowings = level.parts - level.closers + level.residuals.len() + ranges + guides;
-    let above = level.narrowings.saturating_sub(MOST);
-    level.closers += above;
-    level.narrowings -= above;
 }
 
 /// The most that a number of a level can be.
 const MOST: usize = 0xFFFF;
+/// A Prefix has fewer parts: each of them has a node.
+const MANY: usize = 600;
 
 /// A level that breaks the rule of this place in `reread::RULES`, and keeps the
 /// others; but too many closers may stand beside a sum that is cut off at 0.
@@ -185,7 +192,6 @@ pub fn spoiled(rng: &mut Rng, rule: usize) -> Level {
     let mut level = level(rng);
     match rule {
         0 => too_many_closers(rng, &mut level),
-        1 if rng.chance(20) => overflowing(rng, &mut level),
         1 => {
             let change = [1, rng.within(1, 4), 256, MOST][rng.below(4)];
             level.narrowings = (level.narrowings + change) & MOST;
@@ -215,17 +221,7 @@ pub fn spoiled(rng: &mut Rng, rule: usize) -> Level {
             counted(&mut level);
         }
     }
-    level
-}
-
-/// Narrowings that are the sum in two bytes, and not the sum.
-fn overflowing(rng: &mut Rng, level: &mut Level) {
-    level.seek = Seek::Prefix(text(rng));
-    level.residuals.push(residual(rng));
-    level.folded.clear();
-    (level.parts, level.closers) = (MOST, 0);
-    let guides = usize::from(level.guide.is_some());
-    level.narrowings = (MOST + level.residuals.len() + guides) & MOST;
+    noded(rng, level)
 }
 
 fn too_many_closers(rng: &mut Rng, level: &mut Level) {
@@ -330,7 +326,7 @@ fn stretched(rng: &mut Rng, plan: &Plan) -> Vec<u8> {
     let mut last = level(rng);
     last.seek = Seek::Prefix(vec![]);
     counted(&mut last);
-    plan.levels.push(last);
+    plan.levels.push(noded(rng, last));
     let rest = MAX_PLAN.saturating_sub(write_plan(&plan).len());
     let filler = (rest + rng.below(3)).saturating_sub(1);
     if let Some(last) = plan.levels.last_mut() {

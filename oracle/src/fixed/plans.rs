@@ -8,8 +8,7 @@ use crate::draw::boundary::plan_of_length;
 use crate::draw::plans::{made, spoiled};
 use crate::file::MAX_PLAN;
 use crate::fixed::door::d1;
-use crate::fixed::sketch::field;
-use crate::plan::{Edge, Level, Plan, ResidualOp, Seek, write_plan};
+use crate::plan::{Edge, Level, Plan, Seek, write_plan};
 use crate::reread::{RULES, broken, reread};
 use crate::rng::Rng;
 use crate::run::planned;
@@ -107,27 +106,30 @@ fn rooms() -> Vec<Entry> {
 const EVERY_ITEM: &[(&str, &str)] = &[
     ("levels", "0400"),
     ("counts", "0900 0000 0300"), ("seek", "03"),
-        ("part", "00"), ("text", "0200 0107"),
-        ("part", "01"), ("register", "0500"), ("field", "0100"), ("step count", "01"), ("step", "07000000"),
-        ("part", "02"), ("register", "0600"),
+        ("part", "00"), ("text", "0200 0107"), ("node", "0a00"),
+        ("part", "01"), ("register", "0500"), ("field", "0100"), ("step count", "01"), ("step", "07000000"), ("node", "0b00"),
+        ("part", "02"), ("register", "0600"), ("node", "0c00"),
         ("edge", "02"), ("text", "0100 03"), ("edge", "01"), ("text", "0100 09"),
         ("guide", "00"),
         ("residuals", "0600"),
-            ("field", "0000"), ("step count", "00"), ("op", "00"), ("text", "0100 ff"),
-            ("field", "0100"), ("step count", "02"), ("steps", "0000000001000000"), ("op", "01"), ("text", "0000"),
+            ("field", "0000"), ("step count", "00"), ("op", "00"), ("text", "0100 ff"), ("node", "0000"),
+            ("field", "0100"), ("step count", "02"), ("steps", "0000000001000000"), ("op", "01"), ("text", "0000"), ("node", "0001"),
             ("field", "0200"), ("step count", "00"), ("op", "02"), ("register", "0700"), ("field", "0300"), ("step count", "00"),
-            ("field", "0300"), ("step count", "00"), ("op", "03"), ("register", "ffff"),
-            ("field", "0400"), ("step count", "00"), ("op", "04"), ("disc", "ffffffff"),
-            ("field", "0500"), ("step count", "00"), ("op", "05"), ("name, distance", "0300 ff"), ("anchor", "00"),
+                ("node", "fffe"),
+            ("field", "0300"), ("step count", "00"), ("op", "03"), ("register", "ffff"), ("node", "ffff"),
+            ("field", "0400"), ("step count", "00"), ("op", "04"), ("disc", "ffffffff"), ("node", "0d00"),
+            ("field", "0500"), ("step count", "00"), ("op", "05"), ("name, distance", "0300 ff"), ("anchor", "00"), ("node", "0e00"),
         ("folded", "0200 0000 0100"),
     ("counts", "0200 0100 0100"), ("seek", "02"),
-        ("part", "00"), ("text", "0100 00"),
-        ("text", "0100 03"), ("field", "0100"), ("step count", "01"), ("step", "02000000"),
+        ("part", "00"), ("text", "0100 00"), ("node", "0f00"),
+        ("text", "0100 03"), ("field", "0100"), ("step count", "01"), ("step", "02000000"), ("node", "1000"),
         ("guide", "01"), ("field", "0100"), ("step count", "01"), ("step", "02000000"), ("name, distance", "0000 02"), ("anchor", "01"),
+            ("node", "1100"),
         ("residuals, folded", "0000 0000"),
-    ("counts", "0100 0000 0100"), ("seek", "01"), ("part", "02"), ("register", "0000"), ("guide", "00"),
+    ("counts", "0100 0000 0100"), ("seek", "01"), ("part", "02"), ("register", "0000"), ("node", "1200"), ("guide", "00"),
         ("residuals, folded", "0000 0000"),
-    ("counts", "0000 0000 0000"), ("seek", "00"), ("text", "0000"), ("guide", "00"), ("residuals, folded", "0000 0000"),
+    ("counts", "0100 0100 0200"), ("seek", "00"), ("text", "0200 0300"), ("node", "1300"), ("node", "1400"),
+        ("guide", "00"), ("residuals, folded", "0000 0000"),
     ("bindings", "0600"),
         ("name", "0000"), ("slot", "00"), ("row", "0100 ffff"),
         ("name", "0100"), ("slot", "01"), ("key", "0100 0000"),
@@ -263,8 +265,11 @@ fn rules() -> Vec<Entry> {
     found
 }
 
-/// Levels of numbers alone: narrowings, closers, parts of a Prefix; and lists
-/// that are a level's only item.
+/// A plan of one Prefix without text has 24 bytes, and two for each part's node.
+const MOST_PARTS: usize = (MAX_PLAN - 24) / 2;
+
+/// Levels of numbers alone: narrowings, closers, parts of a Prefix with their nodes;
+/// and lists that are a level's only item.
 fn counts() -> Vec<Entry> {
     let level = |[narrowings, closers, parts]: [usize; 3]| Level {
         narrowings,
@@ -274,12 +279,12 @@ fn counts() -> Vec<Entry> {
         guide: None,
         residuals: vec![],
         folded: vec![],
+        nodes: vec![0x0102; parts],
     };
     let of_counts = |shows: &str, counts| entry(shows, of_levels(vec![level(counts)]));
-    let one_more = Level {
-        residuals: vec![(field(0, &[]), ResidualOp::RegisterFactId(0))],
-        ..level([0, 0, 0xFFFF])
-    };
+    // The parts are counted, and all but the last of their nodes are there.
+    let mut short = of_levels(vec![level([3, 0, 3])]);
+    short.drain(15..17);
     let edge = Edge {
         inclusive: true,
         bytes: vec![3],
@@ -301,14 +306,20 @@ fn counts() -> Vec<Entry> {
         ),
         of_counts(
             "closers above parts, and the sum in two bytes",
-            [0xFFFE, 0xFFFF, 0xFFFD],
+            [0xFFFE, 4, 2],
         ),
         of_counts("256 narrowings too many", [256, 0, 0]),
         of_counts("256 narrowings too few", [0, 0, 256]),
-        of_counts("as many as there can be", [0xFFFF, 0, 0xFFFF]),
-        of_counts("as many as there can be", [0, 0xFFFF, 0xFFFF]),
-        of_counts("as many as there can be", [0xFFFE, 1, 0xFFFF]),
-        entry("the sum in two bytes alone", of_levels(vec![one_more])),
+        of_counts("closers alone", [0, 3, 3]),
+        of_counts(
+            "as many parts as there can be",
+            [MOST_PARTS - 1, 1, MOST_PARTS],
+        ),
+        entry("more parts than nodes", short),
+        entry(
+            "more parts than bytes",
+            vec![1, 0, 0xFF, 0xFF, 0, 0, 0xFF, 0xFF, 0, 0, 0, 1, 0],
+        ),
         edges(0),
         edges(1),
         edges(2),

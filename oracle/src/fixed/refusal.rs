@@ -319,7 +319,10 @@ pub fn long_plans() -> Vec<Entry> {
     vec![
         entry("a plan of 16,383 bytes", plan(MAX_PLAN - 1)),
         entry("a plan of 16,384 bytes", plan(MAX_PLAN)),
-        entry("15: a plan of 16,385 bytes", plan(MAX_PLAN + 1)),
+        entry(
+            "15: a plan of 16,385 bytes, fewer without its nodes",
+            plan(MAX_PLAN + 1),
+        ),
     ]
 }
 
