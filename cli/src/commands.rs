@@ -116,25 +116,31 @@ fn plan(source: &Source, manner: Manner, output: Option<&str>) -> Outcome {
     };
     match Plan::open(bytes) {
         Ok(plan) => Outcome::Done {
-            output: printed(&plan, Some((&rules, source.predicates())), manner).into_bytes(),
+            output: printed(&plan, Some((&rules, source)), manner).into_bytes(),
             told,
         },
         Err(refusal) => Outcome::Failed(format!("{}: its plan: {refusal}\n", source.name)),
     }
 }
 
-/// A plan as it is printed, with the names of its rule file and the labels of
-/// its predicates where these are at hand.
-fn printed(plan: &Plan, rules: Option<(&RuleFile, &[String])>, manner: Manner) -> String {
+/// A plan as it is printed, with the names and patterns of its rule file, and the
+/// labels and lines of its text, where these are at hand.
+fn printed(plan: &Plan, rules: Option<(&RuleFile, &Source)>, manner: Manner) -> String {
     match (manner, rules) {
         (Manner::Hex, _) => hex(&plan.to_bytes()),
         (Manner::Json, _) => format!("{}\n", json::plan(plan, rules.map(|(rules, _)| rules))),
         (Manner::Readable, None) => plan.to_string(),
-        (Manner::Readable, Some((rules, labels))) => plan.shown(rules).labelled(labels).to_string(),
+        (Manner::Readable, Some((rules, source))) => plan
+            .shown(rules)
+            .labelled(source.predicates())
+            .placed(source.places())
+            .to_string(),
         (Manner::Brief, None) => plan.described(&RuleFile::default()).to_string(),
-        (Manner::Brief, Some((rules, labels))) => {
-            plan.described(rules).labelled(labels).to_string()
-        }
+        (Manner::Brief, Some((rules, source))) => plan
+            .described(rules)
+            .labelled(source.predicates())
+            .placed(source.places())
+            .to_string(),
     }
 }
 
@@ -162,7 +168,7 @@ fn open(command: &Command, manner: Manner) -> Result<Outcome, Trouble> {
         Ok(rules) => rules,
         Err(fault) => return Ok(refused(fault_told(&source, &fault))),
     };
-    let output = printed(&plan, Some((&rules, source.predicates())), manner);
+    let output = printed(&plan, Some((&rules, &source)), manner);
     let same = compile(&source.bytes, &mut Buffers::new()).is_ok_and(|made| made == bytes);
     Ok(Outcome::Done {
         output: output.into_bytes(),

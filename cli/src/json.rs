@@ -2,7 +2,7 @@
 
 use std::fmt;
 
-use sinalvento::plan::{Edge, Fuzzy, Part, Plan, PlanLevel, Residual, ResidualOp, Seek};
+use sinalvento::plan::{Edge, Fuzzy, KeyPart, Part, Plan, PlanLevel, Residual, ResidualOp, Seek};
 use sinalvento::rules::{Anchor, Binding, Path, RuleFile, Slot};
 
 enum Json {
@@ -86,6 +86,7 @@ fn level(at: usize, level: &PlanLevel, rules: Option<&RuleFile>) -> Json {
     let guide = level.guide.as_ref().map_or(Null, |guide| {
         let mut members = vec![("path", path(&guide.path))];
         members.extend(fuzzy(guide.fuzzy));
+        members.push(("node", number(guide.node)));
         Object(members)
     });
     let mut members = vec![
@@ -107,10 +108,17 @@ fn level(at: usize, level: &PlanLevel, rules: Option<&RuleFile>) -> Json {
 
 fn seek(seek: &Seek) -> Vec<(&'static str, Json)> {
     match seek {
-        Seek::Prefix(bytes) => vec![("bytes", hex(bytes))],
+        Seek::Prefix(bytes, nodes) => vec![
+            ("bytes", hex(bytes)),
+            ("nodes", list(nodes, |node| number(*node))),
+        ],
         Seek::Composite(parts) => vec![("parts", list(parts, part))],
-        Seek::PrefixRange(parts, prefix, place) => {
-            let range = vec![("path", path(place)), ("prefix", hex(prefix))];
+        Seek::PrefixRange(parts, range) => {
+            let range = vec![
+                ("path", path(&range.path)),
+                ("prefix", hex(&range.prefix)),
+                ("node", number(range.node)),
+            ];
             vec![("parts", list(parts, part)), ("range", Object(range))]
         }
         Seek::Bounded(parts, lo, hi) => vec![
@@ -122,13 +130,15 @@ fn seek(seek: &Seek) -> Vec<(&'static str, Json)> {
 }
 
 fn part(part: &Part) -> Json {
-    Object(match part {
-        Part::Bytes(bytes) => vec![("bytes", hex(bytes))],
-        Part::RegisterField(address, place) => {
+    let mut members = match &part.key {
+        KeyPart::Bytes(bytes) => vec![("bytes", hex(bytes))],
+        KeyPart::RegisterField(address, place) => {
             vec![("register", number(*address)), ("path", path(place))]
         }
-        Part::RegisterFact(address) => vec![("fact", number(*address))],
-    })
+        KeyPart::RegisterFact(address) => vec![("fact", number(*address))],
+    };
+    members.push(("node", number(part.node)));
+    Object(members)
 }
 
 fn edge(edge: Option<&Edge>) -> Json {
@@ -164,6 +174,7 @@ fn residual(residual: &Residual) -> Json {
         ResidualOp::Disc(disc) => members.push(("disc", number(*disc))),
         ResidualOp::Fuzzy(near) => members.extend(fuzzy(*near)),
     }
+    members.push(("node", number(residual.node)));
     Object(members)
 }
 

@@ -6,7 +6,7 @@ use std::io::{self, Read};
 use std::path::Path;
 
 use sinalvento::rules::Section;
-use sinalvento::text::{self, Parsed};
+use sinalvento::text::{self, Parsed, Places};
 
 use crate::arguments::Form;
 
@@ -57,11 +57,17 @@ impl Source {
 
     /// Where a record stands: the file's name, and its place in the text.
     pub fn place(&self, section: Section, record: usize) -> String {
-        let places = self.parsed.as_ref().map(|parsed| &parsed.places);
-        match places.and_then(|places| places.of(section, record)) {
+        match self.places().of(section, record) {
             Some(position) => format!("{}: {position}", self.name),
             None => self.name.clone(),
         }
+    }
+
+    /// Where the records stand in the text; nowhere if there is none.
+    pub fn places(&self) -> &Places {
+        const NOWHERE: &Places = &Places::nowhere();
+        let parsed = self.parsed.as_ref();
+        parsed.map_or(NOWHERE, |parsed| &parsed.places)
     }
 
     /// The predicates' labels, if there is a text that has them.

@@ -63,20 +63,24 @@ fn plans_for_people_and_programs() {
     let hex = run(&["plan", "--hex", "-"], &bytes);
     assert_eq!(
         hex.text(),
-        "0100020000000100020009000280000000000000070200036b01000000000000000000000000000000\n"
+        "01000200000001000200090002800000000000000700000200036b010000010000000000000000000000000000\n"
     );
-    let readable =
-        "seek PrefixRange, 2 narrowings, 1 part\n    part: room = 7\n    range: tag = \"k\"..\n";
+    let readable = |facts: &str, line: &str| {
+        format!(
+            "level 0: {facts}, seek PrefixRange, 2 narrowings, 1 part\n    \
+             part: room = 7 (node 0{line}: 7)\n    range: tag = \"k\".. (node 1{line}: \"k\"..)\n"
+        )
+    };
     let of_bytes = run(&["plan", "-"], &bytes);
-    assert_eq!(of_bytes.text(), format!("level 0: p0 in r0, {readable}"));
+    assert_eq!(of_bytes.text(), readable("p0 in r0", ""));
     let of_text = run(&["plan", "--text", "-"], DOOR.as_bytes());
-    assert_eq!(of_text.text(), format!("level 0: door in r0, {readable}"));
+    assert_eq!(of_text.text(), readable("door in r0", ", line 2"));
     let json = run(&["plan", "--json", "-"], &bytes);
     assert_eq!(
         json.text(),
         "{\"names\":[\"room\",\"tag\",\"k\"],\"levels\":[{\"predicate\":0,\"register\":0,\"narrowings\":2,\"closers\":0,\
-         \"part_count\":1,\"seek\":\"PrefixRange\",\"parts\":[{\"bytes\":\"028000000000000007\"}],\
-         \"range\":{\"path\":{\"field\":1,\"steps\":[]},\"prefix\":\"036b\"},\"guide\":null,\"residuals\":[],\"folded\":[]}],\
+         \"part_count\":1,\"seek\":\"PrefixRange\",\"parts\":[{\"bytes\":\"028000000000000007\",\"node\":0}],\
+         \"range\":{\"path\":{\"field\":1,\"steps\":[]},\"prefix\":\"036b\",\"node\":1},\"guide\":null,\"residuals\":[],\"folded\":[]}],\
          \"bindings\":[],\"constrained\":[],\"selects\":[],\"diagnostics\":[]}\n"
     );
 }
@@ -88,13 +92,13 @@ fn plans_are_opened() {
     let [rules, plan_name] = [&rules, &plan].map(|path| path.to_str().expect("text"));
     assert_eq!(run(&["plan", "-o", plan_name, rules], &[]).status, 0);
     let bytes = fs::read(&plan).expect("it was written");
-    assert_eq!(bytes.len(), 41);
+    assert_eq!(bytes.len(), 45);
 
     let bare = run(&["open", "-"], &bytes);
     assert_eq!(bare.status, 0);
     assert_eq!(
         bare.text(),
-        "level 0: seek PrefixRange, 2 narrowings, 1 part\n    part: 7\n    range: [1] = \"k\"..\n"
+        "level 0: seek PrefixRange, 2 narrowings, 1 part\n    part: 7 (node 0)\n    range: [1] = \"k\".. (node 1)\n"
     );
     for manner in [vec![], vec!["--brief"], vec!["--json"]] {
         let planned = run(&[&["plan", rules][..], &manner].concat(), &[]);
@@ -105,12 +109,13 @@ fn plans_are_opened() {
     let brief = run(&["open", "--brief", "-", rules], &bytes);
     assert_eq!(
         brief.text(),
-        "level 0 (door in r0): seek prefix \"k\" of field 1 (tag) after room = 7\n"
+        "level 0 (door in r0): seek prefix \"k\" (node 1, line 2: \"k\"..) of field 1 (tag) \
+         after room = 7 (node 0, line 2: 7)\n"
     );
     let brief = run(&["open", "--brief", "-"], &bytes);
     assert_eq!(
         brief.text(),
-        "level 0: seek prefix \"k\" of field 1 after 7\n"
+        "level 0: seek prefix \"k\" (node 1) of field 1 after 7 (node 0)\n"
     );
     let json = run(&["open", "--json", "-"], &bytes);
     assert!(

@@ -2,7 +2,9 @@
 //! each level:
 //!
 //!     cargo run --example describe ../examples/key-by-prefix.rules
-//!     level 0 (door in r0): seek prefix "key-" of field 1 (tag) after room = 7
+//!     level 0 (door in r0): seek prefix "key-" (node 3, line 7: "key-"..) of field 1 (tag) after room = 7 (node 0, line 6: 7)
+//!
+//! In brackets stands the node that made an entry, its line and its pattern.
 //!
 //! With a second file it opens the plan there instead of compiling: what the
 //! game has loaded, with the names of the rule file beside it.
@@ -12,15 +14,18 @@ use std::process::ExitCode;
 use std::{env, fs};
 
 use sinalvento::plan::PlanFault;
-use sinalvento::{Buffers, Plan, RuleFile, compile, explain, text};
+use sinalvento::text::{self, Parsed};
+use sinalvento::{Buffers, Plan, RuleFile, compile, explain};
 
-/// A rule file, and the labels of its predicates where it is a text.
-fn rule_file(name: &str) -> Result<(RuleFile, Vec<String>), Box<dyn Error>> {
+/// A rule file; where it is a text, with the labels of its predicates and its lines.
+fn rule_file(name: &str) -> Result<Parsed, Box<dyn Error>> {
     if name.ends_with(".rules") {
-        let parsed = text::parse(&fs::read_to_string(name)?)?;
-        return Ok((parsed.rules, parsed.predicates));
+        return Ok(text::parse(&fs::read_to_string(name)?)?);
     }
-    Ok((RuleFile::read(&fs::read(name)?)?, vec![]))
+    Ok(Parsed {
+        rules: RuleFile::read(&fs::read(name)?)?,
+        ..Parsed::default()
+    })
 }
 
 /// Compiles the rules; of a refused file it says where and why.
@@ -46,7 +51,11 @@ fn described(names: &[String]) -> Result<String, Box<dyn Error>> {
         [file, plan] => (file, Some(plan)),
         _ => return Err("usage: describe FILE [PLAN]".into()),
     };
-    let (rules, labels) = rule_file(file)?;
+    let Parsed {
+        rules,
+        places,
+        predicates,
+    } = rule_file(file)?;
     let bytes = match plan {
         Some(plan) => fs::read(plan)?,
         None => compiled(&rules)?,
@@ -57,7 +66,8 @@ fn described(names: &[String]) -> Result<String, Box<dyn Error>> {
         bytes,
         "a plan is written back to its bytes"
     );
-    Ok(plan.described(&rules).labelled(&labels).to_string())
+    let described = plan.described(&rules).labelled(&predicates);
+    Ok(described.placed(&places).to_string())
 }
 
 fn main() -> ExitCode {

@@ -44,7 +44,9 @@
 //!         2, 0, 0, 0, 1, 0,                           //   narrowings, closers, parts
 //!         2,                                          //   seek: PrefixRange
 //!             0, 9, 0, 2, 0x80, 0, 0, 0, 0, 0, 0, 7,  //     part: a text, Int 7
+//!             0, 0,                                   //       which node 0 made
 //!             2, 0, 3, b'k', 1, 0, 0,                 //     prefix "k" of field 1, no steps
+//!             1, 0,                                   //       which node 1 made
 //!         0,                                          //   no guide
 //!         0, 0, 0, 0,                                 //   no residuals, nothing folded
 //!     0, 0, 0, 0, 0, 0, 0, 0,                         // no bindings, constrained names, selects, diagnostics
@@ -65,8 +67,9 @@
 //! [`explain`] says where and why a file is refused, or what its plan reports;
 //! [`text`] has rule files as text; [`RuleFile`] and [`Plan`] are the two formats as
 //! data. [`Plan::open`] has a plan's bytes accepted by the proved reader first;
-//! [`Plan::shown`] and [`Plan::described`] are a plan in words. All this is ordinary
-//! Rust beside the proved functions, and tested against them.
+//! [`Plan::shown`] and [`Plan::described`] are a plan in words, with the pattern that
+//! made each part, range, guide and residual. All this is ordinary Rust beside the
+//! proved functions, and tested against them.
 //!
 //! # Memory, stack and time
 //!

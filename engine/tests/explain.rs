@@ -93,7 +93,7 @@ fn the_level_that_makes_a_plan_too_long() {
     assert_eq!(fault.refusal, Refusal::PlanTooLong);
     let level = fault.record.expect("a level");
     assert!(0 < level && level < 64);
-    let bytes = 10 + level * 271;
+    let bytes = 10 + level * 273;
     assert_eq!(
         fault.found,
         format!("more: the {level} levels before this one take {bytes} bytes")

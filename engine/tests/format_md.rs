@@ -234,7 +234,7 @@ fn refusals_by_length_are_at_their_boundary() {
     }
 }
 
-/// "61 levels that each search for a text of 255 letters are enough" for 15,
+/// "60 levels that each search for a text of 255 letters are enough" for 15,
 /// however long the buffer is.
 #[test]
 fn a_plan_that_no_buffer_holds() {
@@ -248,8 +248,8 @@ fn a_plan_that_no_buffer_holds() {
         file.extend(vec![0; 6 * usize::from(count)]);
         file
     };
-    assert!(answer(&levels(60), 4 * MAX_PLAN, MIN_WORK).is_ok());
-    assert_eq!(answer(&levels(61), 4 * MAX_PLAN, MIN_WORK), Err(15));
+    assert!(answer(&levels(59), 4 * MAX_PLAN, MIN_WORK).is_ok());
+    assert_eq!(answer(&levels(60), 4 * MAX_PLAN, MIN_WORK), Err(15));
 }
 
 /// The file without the bytes from `start` to `end`.

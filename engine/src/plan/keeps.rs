@@ -2,7 +2,7 @@
 
 use std::fmt;
 
-use super::{Part, PlanLevel, Seek};
+use super::{KeyPart, PlanLevel, Seek};
 
 /// A rule of every level of a plan.
 #[derive(Debug, Clone, Copy, PartialEq, Eq, PartialOrd, Ord, Hash)]
@@ -55,10 +55,11 @@ impl LevelRule {
             (LevelRule::NarrowingsSum, _) => usize::from(level.narrowings) == level.narrowed(),
             (LevelRule::EdgesFolded, seek) => seek.edges() == level.folded.len(),
             (LevelRule::CompositePart, Seek::Composite(parts)) => {
-                parts.iter().any(|part| !matches!(part, Part::Bytes(_)))
+                let bytes = |key: &KeyPart| matches!(key, KeyPart::Bytes(_));
+                parts.iter().any(|part| !bytes(&part.key))
             }
-            (LevelRule::GuideInRange, Seek::PrefixRange(_, _, path)) => {
-                level.guide.iter().all(|guide| guide.path == *path)
+            (LevelRule::GuideInRange, Seek::PrefixRange(_, range)) => {
+                level.guide.iter().all(|guide| guide.path == range.path)
             }
             (LevelRule::BoundedEdge, seek @ Seek::Bounded(..)) => seek.edges() > 0,
             (LevelRule::BoundedGuide, Seek::Bounded(..)) => level.guide.is_none(),

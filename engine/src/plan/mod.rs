@@ -1,5 +1,8 @@
 //! A plan as data: levels with their seeks, and what was added to the four lists.
 //!
+//! Each part, residual, range and guide carries the number of the node of its rule
+//! file that made it.
+//!
 //! [`Plan::open`] opens a plan's bytes, [`Plan::to_bytes`] gives them back;
 //! [`Plan::shown`] and [`Plan::described`] are for people.
 
@@ -55,19 +58,29 @@ pub struct PlanLevel {
 /// How a level's facts are found.
 #[derive(Debug, Clone, PartialEq, Eq)]
 pub enum Seek {
-    /// Keys that begin with these bytes.
-    Prefix(Vec<u8>),
+    /// Keys that begin with these bytes: the level's parts, joined, then the node
+    /// of each of them.
+    Prefix(Vec<u8>, Vec<u16>),
     /// Keys that begin with these parts.
     Composite(Vec<Part>),
-    /// Keys that begin with these parts, then with a text at a path.
-    PrefixRange(Vec<Part>, Vec<u8>, Path),
+    /// Keys that begin with these parts, then with a text.
+    PrefixRange(Vec<Part>, Range),
     /// Keys that begin with these parts, then lie between edges, lo and hi.
     Bounded(Vec<Part>, Option<Edge>, Option<Edge>),
 }
 
 /// A part of a key's beginning.
 #[derive(Debug, Clone, PartialEq, Eq)]
-pub enum Part {
+pub struct Part {
+    /// What stands there.
+    pub key: KeyPart,
+    /// The node that made it.
+    pub node: u16,
+}
+
+/// What stands in a part of a key's beginning.
+#[derive(Debug, Clone, PartialEq, Eq)]
+pub enum KeyPart {
     /// Bytes.
     Bytes(Vec<u8>),
     /// A field of a register's key.
@@ -76,7 +89,19 @@ pub enum Part {
     RegisterFact(u16),
 }
 
-/// An end of a range.
+/// A text that a field begins with.
+#[derive(Debug, Clone, PartialEq, Eq)]
+pub struct Range {
+    /// The text, encoded and left open.
+    pub prefix: Vec<u8>,
+    /// The field.
+    pub path: Path,
+    /// The node that made it.
+    pub node: u16,
+}
+
+/// An end of what a Bounded seek looks through. It carries no node: its level's
+/// folded comparisons say where it comes from.
 #[derive(Debug, Clone, PartialEq, Eq)]
 pub struct Edge {
     /// Whether the bytes themselves belong to the range.
@@ -103,6 +128,8 @@ pub struct Guide {
     pub path: Path,
     /// The text.
     pub fuzzy: Fuzzy,
+    /// The node that made it.
+    pub node: u16,
 }
 
 /// A test of each fact that a seek finds.
@@ -112,6 +139,8 @@ pub struct Residual {
     pub path: Path,
     /// What it must be.
     pub op: ResidualOp,
+    /// The node that made it.
+    pub node: u16,
 }
 
 /// What a residual's field must be.
@@ -146,7 +175,7 @@ impl Seek {
     /// What it is called.
     pub const fn name(&self) -> &'static str {
         match self {
-            Seek::Prefix(_) => "Prefix",
+            Seek::Prefix(..) => "Prefix",
             Seek::Composite(_) => "Composite",
             Seek::PrefixRange(..) => "PrefixRange",
             Seek::Bounded(..) => "Bounded",

@@ -120,13 +120,9 @@ impl Reader<'_> {
 
     fn seek(&mut self, count: u16) -> Read<Seek> {
         match self.u8()? {
-            0 => Ok(Seek::Prefix(self.text()?)),
+            0 => Ok(Seek::Prefix(self.text()?, self.nodes(count)?)),
             1 => Ok(Seek::Composite(self.parts(count)?)),
-            2 => Ok(Seek::PrefixRange(
-                self.parts(count)?,
-                self.text()?,
-                self.path()?,
-            )),
+            2 => Ok(Seek::PrefixRange(self.parts(count)?, self.range()?)),
             3 => Ok(Seek::Bounded(
                 self.parts(count)?,
                 self.edge()?,
@@ -141,12 +137,26 @@ impl Reader<'_> {
     }
 
     fn part(&mut self) -> Read<Part> {
-        match self.u8()? {
-            0 => Ok(Part::Bytes(self.text()?)),
-            1 => Ok(Part::RegisterField(self.u16()?, self.path()?)),
-            2 => Ok(Part::RegisterFact(self.u16()?)),
-            _ => self.meaningless(),
-        }
+        let key = match self.u8()? {
+            0 => KeyPart::Bytes(self.text()?),
+            1 => KeyPart::RegisterField(self.u16()?, self.path()?),
+            2 => KeyPart::RegisterFact(self.u16()?),
+            _ => return self.meaningless(),
+        };
+        let node = self.u16()?;
+        Ok(Part { key, node })
+    }
+
+    fn nodes(&mut self, count: u16) -> Read<Vec<u16>> {
+        (0..count).map(|_| self.u16()).collect()
+    }
+
+    fn range(&mut self) -> Read<Range> {
+        Ok(Range {
+            prefix: self.text()?,
+            path: self.path()?,
+            node: self.u16()?,
+        })
     }
 
     fn edge(&mut self) -> Read<Option<Edge>> {
@@ -166,6 +176,7 @@ impl Reader<'_> {
             1 => Ok(Some(Guide {
                 path: self.path()?,
                 fuzzy: self.fuzzy()?,
+                node: self.u16()?,
             })),
             _ => self.meaningless(),
         }
@@ -196,7 +207,8 @@ impl Reader<'_> {
             5 => ResidualOp::Fuzzy(self.fuzzy()?),
             _ => return self.meaningless(),
         };
-        Ok(Residual { path, op })
+        let node = self.u16()?;
+        Ok(Residual { path, op, node })
     }
 
     fn binding(&mut self) -> Read<Binding> {

@@ -3,44 +3,64 @@
 
 use std::fmt;
 
-use super::values::{Piece, alternative, pieces, prefix, values};
+use super::values::{Piece, alternative, pieces, prefix, told_apart, values};
 use super::*;
+use crate::rules::Section;
 use crate::rules::{Level, Node, RuleFile, Slot, Type};
-use crate::text::{shown_bytes, shown_name, shown_text};
+use crate::text::{Patterns, Places, shown_bytes, shown_name, shown_text};
 
 /// A plan as people read it, with the names of its rule file if that is at hand.
-#[derive(Clone, Copy)]
+///
+/// Each part, range, guide and residual is followed by the node that made it, in
+/// brackets: `(node 7)`, with a rule file also the pattern, `(node 7: "k"..)`, and
+/// with the places of its text the line, `(node 7, line 5: "k"..)`.
 pub struct Shown<'a> {
     plan: &'a Plan,
     rules: Option<&'a RuleFile>,
+    patterns: Option<Patterns<'a>>,
     predicates: &'a [String],
+    places: Option<&'a Places>,
 }
 
 impl Plan {
     /// The plan as people read it, with the names of the rule file that it is of.
     pub fn shown<'a>(&'a self, rules: &'a RuleFile) -> Shown<'a> {
         Shown {
-            plan: self,
             rules: Some(rules),
+            patterns: Some(Patterns::of(rules)),
+            ..self.bare()
+        }
+    }
+
+    fn bare(&self) -> Shown<'_> {
+        Shown {
+            plan: self,
+            rules: None,
+            patterns: None,
             predicates: &[],
+            places: None,
         }
     }
 
     /// The plan in a sentence for each level, such as
-    /// `seek prefix "k" of field 1 (tag) after room = 7`.
+    /// `seek prefix "k" (node 1: "k"..) of field 1 (tag) after room = 7 (node 0: 7)`.
     pub fn described<'a>(&'a self, rules: &'a RuleFile) -> Described<'a> {
         Described(self.shown(rules))
     }
 }
 
-/// A plan in sentences, for those who write rules.
-#[derive(Clone, Copy)]
+/// A plan in sentences, for those who write rules. Nodes are told as in [`Shown`].
 pub struct Described<'a>(Shown<'a>);
 
 impl<'a> Described<'a> {
     /// With the predicates' labels, which a rule file does not keep.
     pub fn labelled(self, predicates: &'a [String]) -> Self {
         Self(self.0.labelled(predicates))
+    }
+
+    /// With the lines of the rule file's text.
+    pub fn placed(self, places: &'a Places) -> Self {
+        Self(self.0.placed(places))
     }
 }
 
@@ -62,20 +82,33 @@ impl fmt::Display for Described<'_> {
 
 impl fmt::Display for Plan {
     fn fmt(&self, f: &mut fmt::Formatter<'_>) -> fmt::Result {
-        let (rules, predicates) = (None, [].as_slice());
-        Shown {
-            plan: self,
-            rules,
-            predicates,
-        }
-        .fmt(f)
+        self.bare().fmt(f)
     }
 }
 
 impl<'a> Shown<'a> {
     /// With the predicates' labels, which a rule file does not keep.
-    pub fn labelled(self, predicates: &'a [String]) -> Self {
-        Self { predicates, ..self }
+    pub fn labelled(mut self, predicates: &'a [String]) -> Self {
+        self.predicates = predicates;
+        if let Some(patterns) = &mut self.patterns {
+            patterns.label(predicates);
+        }
+        self
+    }
+
+    /// With the lines of the rule file's text.
+    pub fn placed(mut self, places: &'a Places) -> Self {
+        self.places = Some(places);
+        self
+    }
+
+    /// A node, with its line and its pattern where these are at hand.
+    fn node(&self, node: u16) -> String {
+        let place = (self.places).and_then(|places| places.of(Section::Nodes, node.into()));
+        let line = place.map_or_else(String::new, |place| format!(", line {}", place.line));
+        let pattern = self.patterns.as_ref().and_then(|all| all.shown(node));
+        let pattern = pattern.map_or_else(String::new, |pattern| format!(": {pattern}"));
+        format!("(node {node}{line}{pattern})")
     }
 }
 
@@ -203,10 +236,12 @@ impl<'a> Shown<'a> {
     ) -> fmt::Result {
         if let Some(guide) = &level.guide {
             let (place, _) = self.place(key, &guide.path);
-            writeln!(f, "    guide: {place} = {}", self.fuzzy(guide.fuzzy))?;
+            let (fuzzy, node) = (self.fuzzy(guide.fuzzy), self.node(guide.node));
+            writeln!(f, "    guide: {place} = {fuzzy} {node}")?;
         }
         for residual in &level.residuals {
-            writeln!(f, "    residual: {}", self.residual(key, residual))?;
+            let (test, node) = (self.residual(key, residual), self.node(residual.node));
+            writeln!(f, "    residual: {test} {node}")?;
         }
         for index in &level.folded {
             writeln!(f, "    folded: comparison {index}")?;
@@ -235,11 +270,12 @@ impl<'a> Shown<'a> {
         let parts = self.parts(seek, cursor);
         let mut lines: Vec<String> = parts.iter().map(|part| format!("part: {part}")).collect();
         match seek {
-            Seek::Prefix(bytes) if bytes.is_empty() => lines.push(String::from("every fact")),
-            Seek::Prefix(_) | Seek::Composite(_) => {}
-            Seek::PrefixRange(_, text, path) => {
-                let (place, _) = self.place(cursor.key, path);
-                lines.push(format!("range: {place} = {}..", shown_prefix(text)));
+            Seek::Prefix(bytes, _) if bytes.is_empty() => lines.push(String::from("every fact")),
+            Seek::Prefix(..) | Seek::Composite(_) => {}
+            Seek::PrefixRange(_, range) => {
+                let (place, _) = self.place(cursor.key, &range.path);
+                let (text, node) = (shown_prefix(&range.prefix), self.node(range.node));
+                lines.push(format!("range: {place} = {text}.. {node}"));
             }
             Seek::Bounded(..) => {
                 let edges = self.edges(seek, cursor);
@@ -257,14 +293,14 @@ impl<'a> Shown<'a> {
             parts => format!(" after {}", parts.join(", ")),
         };
         match seek {
-            Seek::Prefix(_) | Seek::Composite(_) if parts.is_empty() => String::from("every fact"),
-            Seek::Prefix(_) | Seek::Composite(_) => parts.join(", "),
-            Seek::PrefixRange(_, text, path) => {
-                let (prefix, mut place) = (shown_prefix(text), in_words(path));
+            Seek::Prefix(..) | Seek::Composite(_) if parts.is_empty() => String::from("every fact"),
+            Seek::Prefix(..) | Seek::Composite(_) => parts.join(", "),
+            Seek::PrefixRange(_, Range { prefix, path, node }) => {
+                let (prefix, mut place) = (shown_prefix(prefix), in_words(path));
                 if let Some((name, _)) = self.named(cursor.key, path) {
                     place = format!("{place} ({name})");
                 }
-                format!("prefix {prefix} of {place}{known}")
+                format!("prefix {prefix} {} of {place}{known}", self.node(*node))
             }
             Seek::Bounded(..) => format!("{}{known}", self.edges(seek, cursor).join(" and ")),
         }
@@ -286,31 +322,46 @@ impl<'a> Shown<'a> {
         both.into_iter().filter_map(edge).collect()
     }
 
-    /// Its parts in words. A Prefix's bytes are all of them, joined.
+    /// Its parts in words, each with its node.
     fn parts(&self, seek: &Seek, cursor: &mut Cursor<'a>) -> Vec<String> {
         match seek {
-            Seek::Prefix(bytes) => self.pieces(bytes, cursor),
+            Seek::Prefix(bytes, nodes) => self.joined(bytes, nodes, cursor),
             Seek::Composite(parts) | Seek::PrefixRange(parts, ..) | Seek::Bounded(parts, ..) => {
                 let parts = parts.iter();
-                parts.flat_map(|part| self.part(part, cursor)).collect()
+                parts.map(|part| self.part(part, cursor)).collect()
             }
         }
     }
 
-    fn part(&self, part: &Part, cursor: &mut Cursor<'a>) -> Vec<String> {
-        let value = match part {
-            Part::Bytes(bytes) => return self.pieces(bytes, cursor),
-            Part::RegisterField(address, path) => self.register(*address, path).0,
-            Part::RegisterFact(address) => format!("row r{address}"),
+    fn part(&self, part: &Part, cursor: &mut Cursor<'a>) -> String {
+        let node = self.node(part.node);
+        let value = match &part.key {
+            KeyPart::Bytes(bytes) => {
+                let pieces = pieces(bytes).into_iter();
+                let told: Vec<_> = pieces.map(|piece| self.piece(piece, cursor)).collect();
+                return format!("{} {node}", told.join(", "));
+            }
+            KeyPart::RegisterField(address, path) => self.register(*address, path).0,
+            KeyPart::RegisterFact(address) => format!("row r{address}"),
         };
         let (place, _) = self.next_place(cursor);
         cursor.pass();
-        vec![format!("{}{value}", equal(place))]
+        format!("{}{value} {node}", equal(place))
     }
 
-    fn pieces(&self, bytes: &[u8], cursor: &mut Cursor<'a>) -> Vec<String> {
-        let pieces = pieces(bytes).into_iter();
-        pieces.map(|piece| self.piece(piece, cursor)).collect()
+    /// A Prefix's bytes are all parts, joined. Where they cannot be told apart, as
+    /// in a plan that no compile wrote, the nodes follow the last piece.
+    fn joined(&self, bytes: &[u8], nodes: &[u16], cursor: &mut Cursor<'a>) -> Vec<String> {
+        let Some(parts) = told_apart(bytes, nodes) else {
+            let pieces = pieces(bytes).into_iter();
+            let mut told: Vec<_> = pieces.map(|piece| self.piece(piece, cursor)).collect();
+            told.extend(nodes.iter().map(|&node| self.node(node)));
+            return told;
+        };
+        let parts = parts.into_iter().zip(nodes);
+        let told = parts.map(|(piece, &node)| (self.piece(piece, cursor), self.node(node)));
+        told.map(|(piece, node)| format!("{piece} {node}"))
+            .collect()
     }
 
     fn piece(&self, piece: Piece, cursor: &mut Cursor<'a>) -> String {

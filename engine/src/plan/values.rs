@@ -52,6 +52,52 @@ pub(super) fn pieces(bytes: &[u8]) -> Vec<Piece> {
     found
 }
 
+/// The pieces of parts that were joined, one for each node; none where there are
+/// not as many.
+///
+/// A union that is one value may also be a tag, what it carries and a closer, which
+/// then have a node each: first and last the union's own.
+pub(super) fn told_apart(bytes: &[u8], nodes: &[u16]) -> Option<Vec<Piece>> {
+    let whole = pieces(bytes);
+    let mut apart = Apart {
+        nodes,
+        more: nodes.len().checked_sub(whole.len())?,
+        found: vec![],
+    };
+    for piece in whole {
+        match piece {
+            Piece::Value(value) => apart.value(value),
+            other => apart.found.push(other),
+        }
+    }
+    (apart.more == 0).then_some(apart.found)
+}
+
+/// Pieces found so far, and how many more there are to be than values.
+struct Apart<'a> {
+    nodes: &'a [u16],
+    more: usize,
+    found: Vec<Piece>,
+}
+
+impl Apart<'_> {
+    fn value(&mut self, value: Value) {
+        let (start, more) = (self.found.len(), self.more);
+        if let (Value::Union(disc, payload), 2..) = (&value, more) {
+            self.more -= 2;
+            self.found.push(Piece::Tag(*disc));
+            self.value(Value::clone(payload));
+            if self.nodes.get(self.found.len()) == Some(&self.nodes[start]) {
+                self.found.push(Piece::Closer);
+                return;
+            }
+            self.found.truncate(start);
+            self.more = more;
+        }
+        self.found.push(Piece::Value(value));
+    }
+}
+
 struct Reader<'a> {
     bytes: &'a [u8],
 }

@@ -38,6 +38,7 @@ fn level(bytes: &mut Writer, level: &PlanLevel) {
             bytes.u8(1);
             bytes.path(&guide.path);
             fuzzy(bytes, guide.fuzzy);
+            bytes.u16(guide.node);
         }
     }
     bytes.section(&level.residuals, residual);
@@ -46,19 +47,21 @@ fn level(bytes: &mut Writer, level: &PlanLevel) {
 
 fn seek(bytes: &mut Writer, seek: &Seek) {
     match seek {
-        Seek::Prefix(prefix) => {
+        Seek::Prefix(prefix, nodes) => {
             bytes.u8(0);
             text(bytes, prefix);
+            nodes.iter().for_each(|node| bytes.u16(*node));
         }
         Seek::Composite(parts) => {
             bytes.u8(1);
             parts.iter().for_each(|each| part(bytes, each));
         }
-        Seek::PrefixRange(parts, prefix, path) => {
+        Seek::PrefixRange(parts, range) => {
             bytes.u8(2);
             parts.iter().for_each(|each| part(bytes, each));
-            text(bytes, prefix);
-            bytes.path(path);
+            text(bytes, &range.prefix);
+            bytes.path(&range.path);
+            bytes.u16(range.node);
         }
         Seek::Bounded(parts, lo, hi) => {
             bytes.u8(3);
@@ -74,21 +77,22 @@ fn text(bytes: &mut Writer, text: &[u8]) {
 }
 
 fn part(bytes: &mut Writer, part: &Part) {
-    match part {
-        Part::Bytes(part) => {
+    match &part.key {
+        KeyPart::Bytes(part) => {
             bytes.u8(0);
             text(bytes, part);
         }
-        Part::RegisterField(address, path) => {
+        KeyPart::RegisterField(address, path) => {
             bytes.u8(1);
             bytes.u16(*address);
             bytes.path(path);
         }
-        Part::RegisterFact(address) => {
+        KeyPart::RegisterFact(address) => {
             bytes.u8(2);
             bytes.u16(*address);
         }
     }
+    bytes.u16(part.node);
 }
 
 fn edge(bytes: &mut Writer, edge: Option<&Edge>) {
@@ -135,4 +139,5 @@ fn residual(bytes: &mut Writer, residual: &Residual) {
             fuzzy(bytes, *text);
         }
     }
+    bytes.u16(residual.node);
 }

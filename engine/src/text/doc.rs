@@ -45,6 +45,13 @@ impl Doc {
         out
     }
 
+    /// In one line, however long.
+    pub fn line(&self) -> String {
+        let mut out = String::new();
+        self.flat(&mut out);
+        out
+    }
+
     fn flat(&self, out: &mut String) {
         out.push_str(&self.head);
         if let Some(items) = &self.items {

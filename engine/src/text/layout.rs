@@ -17,7 +17,36 @@ pub(super) struct Trees {
     count: usize,
 }
 
+/// How deep a pattern that is shown by itself goes.
+const SHOWN_DEPTH: usize = 16;
+
 impl Trees {
+    /// Every child inside the first parent that names it, for patterns that are
+    /// shown and not parsed again. What lies too deep, or not below its parent,
+    /// stays outside.
+    pub fn shown(rules: &RuleFile) -> Self {
+        let count = rules.nodes.len();
+        let (mut depth, mut owned) = (vec![1; count], vec![false; count]);
+        let mut inside = Vec::with_capacity(count);
+        for (number, node) in rules.nodes.iter().enumerate() {
+            let mut within = vec![];
+            for child in node.children().into_iter().map(usize::from) {
+                let fits = child < number && !owned[child] && depth[child] < SHOWN_DEPTH;
+                if fits {
+                    owned[child] = true;
+                    depth[number] = depth[number].max(depth[child] + 1);
+                }
+                within.push(fits);
+            }
+            inside.push(within);
+        }
+        Self {
+            inside,
+            roots: vec![],
+            count,
+        }
+    }
+
     pub fn of(rules: &RuleFile) -> Self {
         let count = rules.nodes.len();
         let (mut first, mut depth) = (vec![0; count], vec![1; count]);

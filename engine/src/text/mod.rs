@@ -75,6 +75,7 @@ use std::error::Error;
 use std::fmt;
 
 pub use parse::{Parsed, parse};
+pub(crate) use print::Patterns;
 pub use print::print;
 pub(crate) use quote::{shown_bytes, shown_name, shown_text};
 
@@ -120,6 +121,11 @@ impl Error for TextFault {}
 pub struct Places([Vec<Position>; 10]);
 
 impl Places {
+    /// Of a file without a text.
+    pub const fn nowhere() -> Self {
+        Self([const { vec![] }; 10])
+    }
+
     /// Where a record stands; none where the file has no such record.
     pub fn of(&self, section: Section, record: usize) -> Option<Position> {
         self.0[section as usize].get(record).copied()

@@ -22,6 +22,35 @@ pub fn print(rules: &RuleFile) -> String {
     }
 }
 
+/// The patterns of a rule file, each by itself and in one line.
+pub(crate) struct Patterns<'a>(Printer<'a>);
+
+/// A longer pattern is cut off.
+const LONGEST_SHOWN: usize = 60;
+
+impl<'a> Patterns<'a> {
+    pub fn of(rules: &'a RuleFile) -> Self {
+        let mut printer = Printer::new(rules);
+        printer.trees = Trees::shown(rules);
+        Self(printer)
+    }
+
+    /// With the predicates' labels.
+    pub fn label(&mut self, predicates: &'a [String]) {
+        self.0.predicates = predicates;
+    }
+
+    /// A node's pattern as it is written; none where the file has no such node.
+    pub fn shown(&self, node: u16) -> Option<String> {
+        self.0.rules.node(node)?;
+        let line = self.0.pattern(node).line();
+        match line.char_indices().nth(LONGEST_SHOWN) {
+            Some((end, _)) => Some(format!("{} ...", line[..end].trim_end())),
+            None => Some(line),
+        }
+    }
+}
+
 /// How many types ahead a declared one may reach, with what it holds.
 const REACH: usize = 32;
 /// How deep a type may be written inside others.
@@ -29,6 +58,8 @@ const INSIDE: usize = 16;
 
 struct Printer<'a> {
     rules: &'a RuleFile,
+    /// The predicates' labels, where they have other ones than their numbers'.
+    predicates: &'a [String],
     trees: Trees,
     out: String,
     /// What the last statement was about: a change leaves a line free.
@@ -51,6 +82,7 @@ impl<'a> Printer<'a> {
         let (mut names, mut types) = (HashSet::new(), HashSet::new());
         Self {
             rules,
+            predicates: &[],
             trees: Trees::of(rules),
             out: String::new(),
             group: 0,
@@ -126,6 +158,9 @@ impl<'a> Printer<'a> {
     }
 
     fn predicate_name(&self, number: u16) -> String {
+        if let Some(label) = self.predicates.get(usize::from(number)) {
+            return label.clone();
+        }
         if usize::from(number) < self.rules.predicates.len() {
             return format!("p{number}");
         }
