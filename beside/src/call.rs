@@ -6,6 +6,7 @@ use std::hint::black_box;
 use oracle::compile::hex;
 use oracle::file::{MAX_FILE, MIN_WORK};
 use oracle::line;
+use oracle::nodes::{dropped, nodes};
 use oracle::rng::Rng;
 
 use crate::lent::Lent;
@@ -37,6 +38,50 @@ pub fn expected(file: &[u8], answer: &Answer, lengths: Lengths) -> Answer {
     }
 }
 
+/// What a call is to give.
+pub struct Expected<'a> {
+    pub answer: &'a Answer,
+    /// Where this is an accepted compile: the original Rust's plan, which has no
+    /// nodes. What is written is held against it with its nodes dropped; the nodes
+    /// are looked at by themselves.
+    pub base: Option<&'a [u8]>,
+}
+
+impl<'a> Expected<'a> {
+    /// These very bytes, or this refusal.
+    pub fn exactly(answer: &'a Answer) -> Self {
+        Self { answer, base: None }
+    }
+
+    /// A compile's, beside the original Rust's answer.
+    pub fn beside(answer: &'a Answer, base: &'a Answer) -> Self {
+        let base = base.as_deref().ok().filter(|_| answer.is_ok());
+        Self { answer, base }
+    }
+
+    fn written(&self) -> &'a [u8] {
+        self.answer.as_deref().unwrap_or_default()
+    }
+
+    /// Whether the output buffer is as it should be, the nodes of a compile left
+    /// aside.
+    fn is_held(&self, output: &[u8]) -> bool {
+        let Some(base) = self.base else {
+            return holds(output, self.written());
+        };
+        let (plan, rest) = output.split_at(self.written().len());
+        dropped(plan).as_deref() == Ok(base) && holds(rest, &[])
+    }
+
+    fn has_nodes(&self, output: &[u8]) -> bool {
+        let written = self.written();
+        nodes(&output[..written.len()]) == nodes(written)
+    }
+}
+
+/// What is said of a plan that differs in its nodes.
+const NODES: &str = "nodes";
+
 /// A call whose result, or whose bytes, are not what they should be.
 pub struct Difference {
     lengths: Lengths,
@@ -55,11 +100,18 @@ impl fmt::Display for Difference {
     }
 }
 
+impl Difference {
+    /// Whether all is well with the nodes left aside.
+    pub fn is_of_nodes_alone(&self) -> bool {
+        self.faults == [NODES]
+    }
+}
+
 /// Calls `function` on random memory and looks at every byte of it afterwards.
 pub fn difference(
     function: Call,
     input: &[u8],
-    expected: &Answer,
+    expected: &Expected,
     lengths: Lengths,
     rng: &mut Rng,
 ) -> Option<Difference> {
@@ -72,10 +124,14 @@ pub fn difference(
         black_box(lent);
     }
 
-    let written = expected.as_deref().unwrap_or_default();
+    let held = expected.is_held(output.slice());
     let checks = [
-        ("result", result == result_of(expected)),
-        ("output buffer", holds(output.slice(), written)),
+        ("result", result == result_of(expected.answer)),
+        ("output buffer", held),
+        (
+            NODES,
+            !held || expected.base.is_none() || expected.has_nodes(output.slice()),
+        ),
         ("work area", holds(work.slice(), &[])),
         ("input", lent.slice() == input),
         ("bytes around the output buffer", output.guarded()),
@@ -86,7 +142,7 @@ pub fn difference(
     let faults: Vec<&str> = wrong.map(|(what, _)| *what).collect();
     (!faults.is_empty()).then(|| Difference {
         lengths,
-        expected: line(expected),
+        expected: line(expected.answer),
         given: told(result, output.slice()),
         faults,
     })
@@ -164,7 +220,8 @@ mod tests {
                     for work in [0, MIN_WORK - 1, MIN_WORK, MIN_WORK + 1] {
                         let answer = oracle::compile(&file, plan, work);
                         let lengths = Lengths { output: plan, work };
-                        let found = difference(sinalvento::call, &file, &answer, lengths, &mut rng);
+                        let exact = Expected::exactly(&answer);
+                        let found = difference(sinalvento::call, &file, &exact, lengths, &mut rng);
                         assert!(found.is_none(), "{file:02x?}\n{}", found.unwrap());
                         accepted += usize::from(answer.is_ok());
                     }
@@ -175,10 +232,53 @@ mod tests {
         assert_eq!(accepted, 4 * 2 * 2);
     }
 
-    /// A compile of D1 that is right but for what `spoil` does.
+    /// What is wrong with a compile of D1.
     fn faults(answer: Answer, compile: Call) -> Vec<&'static str> {
-        let found = difference(compile, &write(&d1()), &answer, ENOUGH, &mut Rng::new(1, 1));
+        faults_beside(&Expected::exactly(&answer), compile)
+    }
+
+    fn faults_beside(expected: &Expected, compile: Call) -> Vec<&'static str> {
+        let mut rng = Rng::new(1, 1);
+        let found = difference(compile, &write(&d1()), expected, ENOUGH, &mut rng);
         found.map_or(vec![], |found| found.faults)
+    }
+
+    /// One level with one part, an empty text, which node 7 made.
+    const PLAN: [u8; 28] = [
+        1, 0, 1, 0, 0, 0, 1, 0, 0, 2, 0, 3, 0, 7, 0, 0, 0, 0, 0, 0, 0, 0, 0, 0, 0, 0, 0, 0,
+    ];
+    const AT_NODE: usize = 13;
+
+    /// A compile that changes a byte of that plan.
+    fn changing<const AT: usize>(_: &[u8], plan: &mut [u8], work: &mut [u8]) -> u64 {
+        plan.fill(0);
+        work.fill(0);
+        plan[..PLAN.len()].copy_from_slice(&PLAN);
+        plan[AT] ^= 1;
+        PLAN.len() as u64
+    }
+
+    #[test]
+    fn nodes_are_looked_at_by_themselves() {
+        let answer = Ok(PLAN.to_vec());
+        let base = Ok([&PLAN[..AT_NODE], &PLAN[AT_NODE + 2..]].concat());
+        let expected = Expected::beside(&answer, &base);
+        let faults = |compile: Call| faults_beside(&expected, compile);
+        assert_eq!(faults(changing::<AT_NODE>), ["nodes"]);
+        assert_eq!(faults(changing::<{ AT_NODE + 1 }>), ["nodes"]);
+        for other in [
+            changing::<0>,
+            changing::<{ AT_NODE - 2 }>,
+            changing::<{ PLAN.len() - 1 }>,
+            changing::<{ PLAN.len() }>,
+        ] {
+            assert_eq!(faults(other), ["output buffer"]);
+        }
+        let exact = Expected::exactly(&answer);
+        assert_eq!(
+            faults_beside(&exact, changing::<AT_NODE>),
+            ["output buffer"]
+        );
     }
 
     #[test]

@@ -63,7 +63,7 @@ fn read(seed: u64, count: u64) -> ExitCode {
 
 fn ended(outcome: &Outcome) -> ExitCode {
     print(outcome);
-    if outcome.different > 0 {
+    if outcome.different + outcome.nodes_different > 0 {
         return ExitCode::FAILURE;
     }
     ExitCode::SUCCESS
@@ -75,6 +75,12 @@ fn print(outcome: &Outcome) {
     }
     if outcome.left_out > 0 {
         println!("{} left out, too long for the bodies", outcome.left_out);
+    }
+    if outcome.noded > 0 {
+        println!(
+            "nodes of {} plans compared, {} different",
+            outcome.noded, outcome.nodes_different
+        );
     }
     println!(
         "{} compared, {} different",

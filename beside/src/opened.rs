@@ -2,7 +2,9 @@
 
 use oracle::file as data;
 use oracle::plan as made;
-use sinalvento::plan::{Edge, Fuzzy, Part, Plan, PlanFault, PlanLevel, ResidualOp, Seek};
+use sinalvento::plan::{
+    Edge, Fuzzy, KeyPart, Part, Plan, PlanFault, PlanLevel, Range, ResidualOp, Seek,
+};
 use sinalvento::rules::{Anchor, Binding, Path, Slot};
 
 /// What `Plan::open` gives: the data and the bytes that these are written to, or
@@ -63,26 +65,48 @@ fn level(level: &PlanLevel) -> made::Level {
             .map(|residual| (path(&residual.path), op(&residual.op)))
             .collect(),
         folded: level.folded.iter().map(|&index| index.into()).collect(),
+        nodes: nodes(level),
     }
+}
+
+/// In the order of a plan's bytes: of the parts, the range, the guide, the residuals.
+fn nodes(level: &PlanLevel) -> Vec<u16> {
+    let mut found: Vec<u16> = match &level.seek {
+        Seek::Prefix(_, nodes) => nodes.clone(),
+        Seek::Composite(parts) | Seek::PrefixRange(parts, _) | Seek::Bounded(parts, ..) => {
+            parts.iter().map(|part| part.node).collect()
+        }
+    };
+    if let Seek::PrefixRange(_, range) = &level.seek {
+        found.push(range.node);
+    }
+    found.extend(level.guide.iter().map(|guide| guide.node));
+    found.extend(level.residuals.iter().map(|residual| residual.node));
+    found
 }
 
 fn seek(seek: &Seek) -> made::Seek {
     let parts = |parts: &[Part]| parts.iter().map(part).collect();
     match seek {
-        Seek::Prefix(bytes) => made::Seek::Prefix(bytes.clone()),
+        Seek::Prefix(bytes, _) => made::Seek::Prefix(bytes.clone()),
         Seek::Composite(all) => made::Seek::Composite(parts(all)),
-        Seek::PrefixRange(all, text, place) => {
-            made::Seek::PrefixRange(parts(all), text.clone(), path(place))
-        }
+        Seek::PrefixRange(
+            all,
+            Range {
+                prefix,
+                path: place,
+                ..
+            },
+        ) => made::Seek::PrefixRange(parts(all), prefix.clone(), path(place)),
         Seek::Bounded(all, lo, hi) => made::Seek::Bounded(parts(all), edge(lo), edge(hi)),
     }
 }
 
 fn part(part: &Part) -> made::Part {
-    match part {
-        Part::Bytes(bytes) => made::Part::Bytes(bytes.clone()),
-        Part::RegisterField(address, place) => made::Part::RegisterField(*address, path(place)),
-        Part::RegisterFact(address) => made::Part::RegisterFactId(*address),
+    match &part.key {
+        KeyPart::Bytes(bytes) => made::Part::Bytes(bytes.clone()),
+        KeyPart::RegisterField(address, place) => made::Part::RegisterField(*address, path(place)),
+        KeyPart::RegisterFact(address) => made::Part::RegisterFactId(*address),
     }
 }
 

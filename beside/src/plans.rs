@@ -14,7 +14,7 @@ use oracle::rng::Rng;
 use oracle::run::planned;
 use oracle::shrink::shrink;
 
-use crate::call::{Answer, Call, Lengths, difference};
+use crate::call::{Answer, Call, Expected, Lengths, difference};
 use crate::run::{Outcome, SHOWN, TRIES, plan_kind};
 
 /// Drawn bytes for each plan, beside the plan itself.
@@ -75,7 +75,8 @@ impl Plans {
             .into_iter()
             .find_map(|lengths| {
                 let expected = expected(bytes, lengths.output);
-                let found = difference(self.read, bytes, &expected, lengths, &mut rng);
+                let exact = Expected::exactly(&expected);
+                let found = difference(self.read, bytes, &exact, lengths, &mut rng);
                 found.map(|found| found.to_string())
             });
         calls.or_else(|| self.data_differs(bytes, data))

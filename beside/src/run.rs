@@ -6,10 +6,10 @@ use oracle::compile::hex;
 use oracle::draw;
 use oracle::file::{MAX_PLAN, MIN_WORK};
 use oracle::rng::Rng;
-use oracle::run::answer;
+use oracle::run::{answer, base_answer};
 use oracle::shrink::shrink;
 
-use crate::call::{Answer, Call, Difference, Lengths, difference, expected};
+use crate::call::{Answer, Call, Difference, Expected, Lengths, difference, expected};
 
 /// How often a file that shows a difference is tried smaller.
 pub const TRIES: usize = 400;
@@ -21,11 +21,33 @@ const MEMORY: u64 = 0x6D65_6D6F_7279;
 #[derive(Default)]
 pub struct Outcome {
     pub compared: usize,
+    /// With the nodes of a compile left aside.
     pub different: usize,
+    /// Compiled plans whose nodes were looked at, and those that differ in their
+    /// nodes alone.
+    pub noded: usize,
+    pub nodes_different: usize,
     /// Files that the bodies take too long for.
     pub left_out: usize,
     /// Calls by what was lent and by what is expected.
     pub calls: BTreeMap<String, usize>,
+}
+
+/// What the bodies answer to a file: the original ones, whose plans have no nodes,
+/// and the copy that notes these.
+struct Answers {
+    with_nodes: Answer,
+    base: Answer,
+}
+
+impl Answers {
+    /// None where the file costs them too much.
+    fn to(file: &[u8]) -> Option<Self> {
+        Some(Self {
+            with_nodes: answer(file)?,
+            base: base_answer(file)?,
+        })
+    }
 }
 
 pub struct Run {
@@ -38,18 +60,26 @@ impl Run {
         let mut outcome = Outcome::default();
         for index in 0..count {
             let file = draw::file(self.seed, index);
-            let Some(answer) = answer(&file) else {
+            let Some(answers) = Answers::to(&file) else {
                 outcome.left_out += 1;
                 continue;
             };
             outcome.compared += 1;
+            outcome.noded += usize::from(answers.with_nodes.is_ok());
             let rng = self.memory(index);
-            count_calls(&mut outcome.calls, &file, &answer, &mut rng.clone());
-            if self.first_difference(&file, &answer, rng).is_some() {
-                outcome.different += 1;
-                if outcome.different <= SHOWN {
-                    report(self.shown(&file, index));
-                }
+            count_calls(
+                &mut outcome.calls,
+                &file,
+                &answers.with_nodes,
+                &mut rng.clone(),
+            );
+            match self.difference(&file, &answers, rng) {
+                None => continue,
+                Some(found) if found.is_of_nodes_alone() => outcome.nodes_different += 1,
+                Some(_) => outcome.different += 1,
+            }
+            if outcome.different + outcome.nodes_different <= SHOWN {
+                report(self.shown(&file, index));
             }
         }
         outcome
@@ -59,16 +89,22 @@ impl Run {
         Rng::new(self.seed ^ MEMORY, index)
     }
 
-    fn first_difference(&self, file: &[u8], answer: &Answer, mut rng: Rng) -> Option<Difference> {
-        lengths(answer, &mut rng).into_iter().find_map(|lengths| {
-            let expected = expected(file, answer, lengths);
-            difference(self.compile, file, &expected, lengths, &mut rng)
-        })
+    /// The first difference, but one of the nodes alone only if there is no other.
+    fn difference(&self, file: &[u8], answers: &Answers, mut rng: Rng) -> Option<Difference> {
+        let Answers { with_nodes, base } = answers;
+        let found = lengths(with_nodes, &mut rng)
+            .into_iter()
+            .filter_map(|lengths| {
+                let answer = expected(file, with_nodes, lengths);
+                let expected = Expected::beside(&answer, base);
+                difference(self.compile, file, &expected, lengths, &mut rng)
+            });
+        found.min_by_key(Difference::is_of_nodes_alone)
     }
 
     /// The difference on the file, and on the smallest file found.
     fn shown(&self, file: &[u8], index: u64) -> String {
-        let on = |file: &[u8]| self.first_difference(file, &answer(file)?, self.memory(index));
+        let on = |file: &[u8]| self.difference(file, &Answers::to(file)?, self.memory(index));
         let small = shrink(file, TRIES, |file| on(file).is_some());
         let told = |what: &str, file: &[u8]| {
             let found = on(file).map_or(String::new(), |found| found.to_string());
@@ -159,6 +195,18 @@ mod tests {
         }
     }
 
+    /// The nodes of a plan are changed, and nothing else.
+    fn misled(file: &[u8], plan: &mut [u8], work: &mut [u8]) -> u64 {
+        let result = bodies(file, plan, work);
+        if result >> 16 == 0 {
+            let places = oracle::reread::node_places(&plan[..result as usize]);
+            for at in places.expect("a plan") {
+                plan[at] ^= 1;
+            }
+        }
+        result
+    }
+
     /// 15 with space to spare.
     fn hasty(file: &[u8], plan: &mut [u8], work: &mut [u8]) -> u64 {
         let result = bodies(file, plan, work);
@@ -185,10 +233,24 @@ mod tests {
         }
         let (outcome, shown) = run(bodies);
         assert_eq!((outcome.compared, outcome.different), (400, 0));
+        assert_eq!(outcome.nodes_different, 0);
+        assert!(outcome.noded > 200, "{}", outcome.noded);
         assert!(shown.is_empty());
         for kind in ["exact", "one too short", "of 0 bytes", "longer"] {
             assert!(outcome.calls[&format!("plan buffer {kind}")] > 20, "{kind}");
         }
+    }
+
+    /// Runs beside the Rust leave the nodes aside, and count them apart.
+    #[test]
+    fn nodes_are_counted_apart() {
+        if !HAS_BODIES {
+            return;
+        }
+        let (outcome, shown) = run(misled);
+        assert_eq!((outcome.compared, outcome.different), (400, 0));
+        assert!(outcome.nodes_different > 100, "{}", outcome.nodes_different);
+        assert!(shown[0].contains("wrong    nodes"), "{}", shown[0]);
     }
 
     #[test]

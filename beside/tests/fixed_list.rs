@@ -1,27 +1,23 @@
-//! The fixed list of files with the Rust bodies' answers (docs/ORACLE.md).
+//! The fixed list of files with the Rust bodies' answers (docs/ORACLE.md), which
+//! have no nodes: the plans are compared with theirs dropped.
 
-mod files;
-
+use oracle::compile::line;
+use oracle::fixed::parse;
+use oracle::nodes::dropped;
 use sinalvento::{Buffers, compile};
 
 const LIST: &str = include_str!("../../oracle/fixed/pairs.txt");
 
-/// The line of program `plan`.
-fn line(file: &[u8], buffers: &mut Buffers) -> String {
-    match compile(file, buffers) {
-        Ok(plan) => plan.iter().map(|byte| format!("{byte:02x}")).collect(),
-        Err(refusal) => format!("refused {}", refusal.number()),
-    }
-}
-
 #[test]
 fn every_pair_of_the_list() {
     let mut buffers = Buffers::new();
-    let mut count = 0;
-    for pair in LIST.lines().filter(|line| !line.starts_with('#')) {
-        let (file, expected) = pair.split_once(" = ").expect("FILE = LINE");
-        assert_eq!(line(&files::unhex(file), &mut buffers), expected, "{file}");
-        count += 1;
+    let pairs = parse(LIST).expect("FILE = LINE");
+    for (file, expected) in &pairs {
+        let outcome = match compile(file, &mut buffers) {
+            Ok(plan) => Ok(dropped(plan).expect("a plan")),
+            Err(refusal) => Err(refusal.number()),
+        };
+        assert_eq!(line(&outcome), *expected, "{file:02x?}");
     }
-    assert!(count > 400, "{count}");
+    assert!(pairs.len() > 400, "{}", pairs.len());
 }

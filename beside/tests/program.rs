@@ -17,11 +17,15 @@ fn drawn_files_agree() {
         return;
     }
     let printed = String::from_utf8_lossy(&output.stdout).into_owned();
+    let mut lines = printed.lines().rev();
     assert_eq!(
-        printed.lines().last(),
+        lines.next(),
         Some("1000 compared, 0 different"),
         "{printed}"
     );
+    let nodes = lines.next().unwrap_or_default();
+    assert!(nodes.starts_with("nodes of "), "{printed}");
+    assert!(nodes.ends_with(" plans compared, 0 different"), "{printed}");
     assert_eq!(output.status.code(), Some(0));
 }
 
