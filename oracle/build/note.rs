@@ -1,5 +1,5 @@
-//! A copy of the cut text that says, before each placing, which node makes it. The
-//! nodes are those that document 02 and READINGS-02 name.
+//! A copy of the cut text that says, before each placing, which node makes it: the
+//! one that request [2] of document 02 names (docs/DECISIONS.md).
 
 use crate::cut::Cut;
 use crate::mutate::{Edit, ONLY, edited};

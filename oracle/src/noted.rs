@@ -1,4 +1,4 @@
-//! The node of each entry, as documents 02 and READINGS-02 have it: a copy of the
+//! The node of each entry, as request [2] of document 02 has it: a copy of the
 //! bodies says at each placing which node makes it (build/note.rs).
 
 use std::cell::RefCell;

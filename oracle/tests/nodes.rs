@@ -1,5 +1,5 @@
-//! The node of each entry: by the table of document 02 and READINGS-02, and beside
-//! the original bodies, which know of none.
+//! The node of each entry: by the list in docs/DECISIONS.md, and beside the original
+//! bodies, which know of none.
 
 #![cfg(fjord_bodies)]
 
@@ -111,6 +111,30 @@ fn slots_carry_what_stands_for_them() {
     });
     // 0 the name, 1 the access, 2 the plain name.
     assert_eq!(nodes(&file), [2, 1]);
+}
+
+/// Also a select, a row's name and a Fact that was searched for before.
+#[test]
+fn selects_and_facts_too() {
+    let mut s = Sketch::default();
+    let int = s.ty(Type::Int);
+    let union = s.union_ty(&[("x", 1, int)]);
+    let reference = s.ty(Type::Fact(0));
+    let key = s.record_ty(&[("a", int), ("b", reference), ("c", reference)]);
+    s.predicate(int);
+    s.bind("u", Slot::Field(5, field(2, &[]), union));
+    s.bind("row", Slot::Row(6, 0));
+    let file = s.keyed(key, |s| {
+        let name = s.var("u");
+        let select = s.select("x", name);
+        let row = s.var("row");
+        let inner = s.int(7);
+        let fact = s.fact(0, inner);
+        s.hoist(fact, "row");
+        s.record(&[("a", select), ("b", row), ("c", fact)])
+    });
+    // 0 the name, 1 the select, 2 the row's name, 3 the Fact's key, 4 the Fact.
+    assert_eq!(nodes(&file), [1, 2, 4]);
 }
 
 /// `whole_key`: register fields have the level's own node, a Const's fields their
