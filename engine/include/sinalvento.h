@@ -98,6 +98,12 @@ uint64_t sinalvento_compile(const uint8_t *file, size_t file_len,
                             uint8_t *work, size_t work_len);
 
 /*
+ * Each part, range, guide and residual of a plan ends in the number of the node
+ * of its rule file that made it, so that an editor can lead from an entry to the
+ * pattern. docs/FORMAT.md tells which node that is.
+ */
+
+/*
  * Reads the plan at `plan` and writes it back to the same bytes at `out`, for
  * viewers and tools that draw plans. What is accepted can be taken apart by
  * docs/FORMAT.md without a further test: every count is followed by its items,
