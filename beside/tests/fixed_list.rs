@@ -1,9 +1,7 @@
-//! The fixed list of files with the Rust bodies' answers (docs/ORACLE.md), which
-//! have no nodes: the plans are compared with theirs dropped.
+//! The fixed list of files with their answers (docs/ORACLE.md), nodes and all.
 
 use oracle::compile::line;
 use oracle::fixed::parse;
-use oracle::nodes::dropped;
 use sinalvento::{Buffers, compile};
 
 const LIST: &str = include_str!("../../oracle/fixed/pairs.txt");
@@ -14,7 +12,7 @@ fn every_pair_of_the_list() {
     let pairs = parse(LIST).expect("FILE = LINE");
     for (file, expected) in &pairs {
         let outcome = match compile(file, &mut buffers) {
-            Ok(plan) => Ok(dropped(plan).expect("a plan")),
+            Ok(plan) => Ok(plan.to_vec()),
             Err(refusal) => Err(refusal.number()),
         };
         assert_eq!(line(&outcome), *expected, "{file:02x?}");

@@ -6,8 +6,9 @@ use oracle::compile::{base_within, original};
 use oracle::coverage::{self, SITES, counted, events};
 use oracle::draw::boundary::plan_of_length;
 use oracle::file::{MAX_PLAN, MIN_WORK};
+use oracle::nodes::line_dropped;
 use oracle::rng::Rng;
-use oracle::run::FUEL;
+use oracle::run::{FUEL, base_answer};
 use oracle::survey::Survey;
 use oracle::write::write;
 use oracle::{compile, draw, fixed, front, line, on_large_stack};
@@ -37,6 +38,22 @@ fn the_list_is_reproduced() {
         made == LIST,
         "run `oracle fixed > fixed/pairs.txt` and look at what changed"
     );
+}
+
+/// The list's nodes come from a copy of the bodies. What else stands in its lines is
+/// what the original bodies answer.
+#[test]
+fn the_list_without_its_nodes_is_the_originals() {
+    let longer = on_large_stack(|| {
+        let mut longer = 0;
+        for (file, listed) in fixed::parse(LIST).expect("the list has its form") {
+            let original = base_answer(&file).expect("the list's files are cheap");
+            assert_eq!(line_dropped(listed), line(&original), "{file:02x?}");
+            longer += usize::from(line(&original) != listed);
+        }
+        longer
+    });
+    assert!(longer > 100, "{longer} plans of the list have nodes");
 }
 
 /// Every code, seek, residual op, slot kind and kind of edge.

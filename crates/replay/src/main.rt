@@ -1,4 +1,5 @@
-// The stored list of what the original Rust functions answered, on standard input: how many answers were compared, and how many differ.
+// The stored list of the oracle's answers, on standard input: how many answers were compared, and how many differ. Without their nodes the
+// answers are those of the original Rust functions (docs/ORACLE.md).
 ghost use mathlib.Core.Path.{_≡_};
 ghost use Prim.Native.Nat.{_<_};
 ghost use Rattle.replay.specs.Pairs as Pairs;

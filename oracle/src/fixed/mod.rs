@@ -11,7 +11,7 @@ use std::collections::BTreeSet;
 
 use crate::compile::{hex, line, unhex};
 use crate::coverage::reached_by;
-use crate::run::{answered, base_answer};
+use crate::run::{answer, answered};
 use sketch::Entry;
 
 /// Seed of the drawn files, how many there are, and their longest.
@@ -20,12 +20,12 @@ const DRAWN: usize = 50;
 const LONGEST: usize = 150;
 
 const HEAD: &str = "\
-# Rule files and the line that program `plan` prints for each, less the nodes: FILE = LINE.
+# Rule files and the line that program `plan` prints for each: FILE = LINE.
 # FILE is hex; LINE is hex, or `refused` and the number. A line that begins
 # with `#` says what the next pairs show; a `##` line begins a group.
-# Made by `oracle fixed` (docs/ORACLE.md): the lines are the Rust bodies'
-# answers; the group of drawn files comes from seed 3. Plans stand in the base's
-# form, without their nodes; 15 is by their length with them.
+# Made by `oracle fixed` (docs/ORACLE.md): the lines are the answers of the copy of
+# the Rust bodies that notes the nodes; less their nodes they are the Rust bodies'
+# own, which a test compares. The group of drawn files comes from seed 3.
 ";
 
 /// The whole list as text.
@@ -34,7 +34,7 @@ pub fn list() -> String {
     for (title, entries) in groups() {
         out.push_str(&format!("## {title}\n"));
         for entry in entries {
-            let outcome = base_answer(&entry.bytes).expect("the list's files are cheap");
+            let outcome = answer(&entry.bytes).expect("the list's files are cheap");
             out.push_str(&format!("# {}\n", entry.shows));
             out.push_str(&format!("{} = {}\n", hex(&entry.bytes), line(&outcome)));
         }
