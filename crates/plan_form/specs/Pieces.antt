@@ -8,11 +8,12 @@ use Rattle.file.specs.Steps.{stepAt, skim}
 use Rattle.file.specs.declared.Step.{Step}
 use Rattle.file.specs.declared.Step.the-variants.{Next, Refused}
 
--- an item that ended, inside f if it met no fault; and where what reader r reads behind it ends
+-- an item that met no fault ended inside f
 abbrev pub EndsIn : List ℕ → Step → Type 0
 EndsIn f (Next q) = q ≤ length f
 EndsIn f (Refused x) = Unit {0}
 
+-- where what reader r reads behind an item ends; a fault of the item stays one
 unfoldable pub thenAt : {A : Type 0} → List ℕ → Reader A → Step → Step
 thenAt f r (Next q) = stepAt f r q
 thenAt f r (Refused x) = Refused x

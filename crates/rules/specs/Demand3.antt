@@ -27,10 +27,11 @@ unfoldable pub beforeFall : Tables → SeekBuilder → List Event → List Event
 beforeFall T b [] = []
 beforeFall T b (e ∷ es) = elim (place T e b .building) [ true ↦ e ∷ beforeFall T (place T e b) es | false ↦ [] ]
 
--- the part of a "byte, tag, register and fact" narrowing and of a closer, with the event's node
+-- one part, and the node that made it
 abbrev pub madeBy : ℕ → SeekKeyPart → List Part
 madeBy n key = record { key = key; node = n } ∷ []
 
+-- the part of a "byte, tag, register and fact" narrowing and of a closer, with the event's node
 unfoldable pub partsOf : Event → List Part
 partsOf (Event.narrow n path (Narrowing.Bytes bytes)) = madeBy n (SeekKeyPart.Bytes bytes)
 partsOf (Event.narrow n path (Narrowing.Tag disc)) = madeBy n (SeekKeyPart.Bytes (unionTag disc))

@@ -123,7 +123,7 @@ seek (SeekKey.Composite parts) = 1 ∷ concatMap part parts
 seek (SeekKey.PrefixRange parts range) = 2 ∷ concatMap part parts ++ text (range .prefix) ++ path (range .path) ++ u16 (range .node)
 seek (SeekKey.Bounded parts lo hi) = 3 ∷ concatMap part parts ++ edge lo ++ edge hi
 
--- "guide: u8 0, or 1, path, name, distance, anchor"
+-- "guide: u8 0, or 1, path, name, distance, anchor", then its node
 unfoldable pub guide : Option Guide → List ℕ
 guide none = 0 ∷ []
 guide (some g) = 1 ∷ path (g .path) ++ fuzzy (g .term) (g .distance) (g .anchor) ++ u16 (g .node)
@@ -151,6 +151,6 @@ planBytes p =
     counted diagnostic (p .diagnostics)
 
 unfoldable pub openPlan : Unit {0}
-unfolding planLevel planOf plan u16 u32 counted text path anchor fuzzy optional slot binding select diagnostic partKey part inclusive edge seek
-    guide op residual levelBytes planBytes
+unfolding planLevel planOf plan u16 u32 counted text path anchor fuzzy optional slot binding select diagnostic partKey part inclusive edge
+    seek guide op residual levelBytes planBytes
 openPlan = tt

@@ -148,7 +148,7 @@ boundedSeek n = do
 unfoldable pub seek : ℕ → Reader SeekKey
 seek n = kind (prefixSeek n ∷ compositeSeek n ∷ rangeSeek n ∷ boundedSeek n ∷ [])
 
--- "guide: u8 0, or 1, path, name, distance, anchor"
+-- "guide: u8 0, or 1, path, name, distance, anchor", then its node
 unfoldable pub guideThat : Reader (Option Guide)
 guideThat = do
   p ← path

@@ -42,7 +42,7 @@ rank (Node.Fact p key) = 0
 rank Node.Arith = 0
 rank Node.Error = 0
 
--- Request [2]: the node of a whole key's field. "the level's own node, but of a Const slot the field's own node"
+-- Request [2]: the node of a whole key's field is the level's own, but of a Const slot the field's own
 unfoldable pub wholeNode : ℕ → Slot → ℕ
 wholeNode n (Slot.Row from p) = n
 wholeNode n (Slot.Key from ty) = n
@@ -273,7 +273,7 @@ unfoldable pub walkLevel : Tables → LevelEntry → Lists → Walk
 walkLevel T l lists = key (walkOps T) T (l .address) (l .node) (predicateAt T (l .predicate) .key) (record { lists = lists; events = [] })
 
 unfoldable pub openWalk : Unit {0}
-unfolding narrowing wholeNode narrowBy anchorRank rank eachField constraintsOf ranked constrainEach constrainBy constrain refersTo deferred unresolved
-    partialFields partial matched injectAlternative injectOnly inject readAnswer read ranged variable fieldNode fieldBelow field wholeFields
-    wholeRead wholeVariable wholeKey recordKey key walkLevel
+unfolding narrowing wholeNode narrowBy anchorRank rank eachField constraintsOf ranked constrainEach constrainBy constrain refersTo deferred
+    unresolved partialFields partial matched injectAlternative injectOnly inject readAnswer read ranged variable fieldNode fieldBelow field
+    wholeFields wholeRead wholeVariable wholeKey recordKey key walkLevel
 openWalk = tt
