@@ -3,6 +3,7 @@ use mathlib.Core.Bool.{Bool, true, false}
 use mathlib.Core.Option.{Option, none, some}
 use mathlib.Core.Path.{_≡_, refl, sym, ap, subst}
 use Prim.Native.Nat.{ℕ, _≤_, _<_}
+use borrow.Author.Tests.{ltb-true, ltb-false, eqb-true, eqb-false}
 use lib.Dec.{T, leb, ltb, eqb, leb→le, ltb→lt, eqb→eq}
 use Rattle.rules.specs.Base.{both, _whenSome_}
 
@@ -19,6 +20,13 @@ by-option P (some a) g h = h a refl
 pub ways : (b : Bool) (P : Type 0) → (b ≡ true → P) → (b ≡ false → P) → P
 ways true P f g = f refl
 ways false P f g = g refl
+
+-- the two ways of an order, and of an equation
+pub by-order : {P : Type 0} (a b : ℕ) → (a < b → P) → (b ≤ a → P) → P
+by-order {P} a b f g = ways (ltb a b) P (λ e. f (ltb-true a b e)) (λ e. g (ltb-false a b e))
+
+pub by-equal : {P : Type 0} (a b : ℕ) → (a ≡ b → P) → ((a ≡ b → ⊥) → P) → P
+by-equal {P} a b f g = ways (eqb a b) P (λ e. f (eqb-true a b e)) (λ e. g (eqb-false a b e))
 
 -- one test for another
 pub pick : {A : Type 0} (b c : Bool) (x y : A) → b ≡ c → _≡_ {A = A} (elim b [ true ↦ x | false ↦ y ]) (elim c [ true ↦ x | false ↦ y ])

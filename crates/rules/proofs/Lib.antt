@@ -20,6 +20,8 @@ pub mod Alone
 pub mod Consts
 -- Reading back what a plan holds.
 pub mod RoundTrip
+-- The grammar of names.
+pub mod Utf8
 -- What a reader gives, and demand 1.
 pub mod Readers
 pub mod Numbers

@@ -4,10 +4,11 @@ use mathlib.Core.Bool.{Bool, true, false}
 use mathlib.Core.List.{List, [], _∷_}
 use Prim.Native.Nat.{ℕ, zero, suc, _≤_}
 use native.Mathlib.Omega.{arith}
-use lib.Dec.{ltb, leb}
+use lib.Dec.{leb}
 use Rattle.rules.specs.Base.{Each, done, more}
 use Rattle.rules.specs.Limits
 use Rattle.rules.specs.File.{Tables, Node, noTables}
+use Rattle.rules.specs.Utf8.{UTF8-octets}
 use Rattle.rules.specs.Read
 use Rattle.rules.specs.Read.{Read, got, refused, Reader, follow, _>>=_, pure, refuse, u8, u16, u32, optional, many, several, kind, section, end}
 use Rattle.rules.proofs.Each.{Any, each-getD}
@@ -114,17 +115,13 @@ module _ {B : ℕ → Type 0} where
       go (b ∷ bytes) h = refuses {n = 7} (omega arith) (omega arith)
 
   -- The readers of document 01.
-  reads-char : Reads B B Read.char
-  unfolding Read.char
-  reads-char = reads-bind reads-u8 λ b p. go b p (ltb b 128)
-    where
-      go : (b : ℕ) → B b → (t : Bool) → Reads B B (elim t [ true ↦ pure b | false ↦ refuse 6 ])
-      go b p true = reads-pure _ p
-      go b p false = reads-refuse 6 (omega arith) (omega arith)
-
   pub reads-name : Reads B (Each B) Read.name
-  unfolding Read.name
-  reads-name = reads-several reads-char
+  unfolding Read.name Read.wellFormed
+  reads-name = reads-bind (reads-several reads-u8) λ bytes h. go bytes h (UTF8-octets bytes)
+    where
+      go : (bytes : List ℕ) → Each B bytes → (t : Bool) → Reads B (Each B) (elim t [ true ↦ pure bytes | false ↦ refuse 6 ])
+      go bytes h true = reads-pure _ h
+      go bytes h false = reads-refuse 6 (omega arith) (omega arith)
 
   reads-fieldTy : Reads B Any Read.fieldTy
   unfolding Read.fieldTy

@@ -2,6 +2,7 @@
 pub mod Base
 pub mod Limits
 pub mod File
+pub mod Utf8
 pub mod Read
 pub mod Checks
 pub mod Constant

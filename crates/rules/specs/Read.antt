@@ -4,10 +4,11 @@ use mathlib.Core.List.{List, [], _∷_}
 use mathlib.Core.Option.{Option, none, some}
 use Prim.Native.Nat.{ℕ, zero, suc, _+_, _*_}
 use lib.ListN.{getD}
-use lib.Dec.{ltb, leb, eqb}
+use lib.Dec.{leb, eqb}
 use Rattle.rules.specs.Limits.{nameLimit, typeLimit, predicateLimit, nodeLimit, bindingLimit, hoistedLimit, fetchedLimit}
 use Rattle.rules.specs.Limits.{constraintLimit, comparisonLimit, levelLimit}
 use Rattle.rules.specs.File.{Tables, FieldTy, Alternative, Ty, Predicate, Anchor, FieldPattern, Node, FieldPath, Slot, Binding}
+use Rattle.rules.specs.Utf8.{UTF8-octets, openUtf8}
 use Rattle.rules.specs.File.{Hoisted, Fetched, Constraint, CompareOp, Comparison, LevelEntry, noTables}
 
 -- what was read and the bytes after it, or the number of the refusal
@@ -81,14 +82,14 @@ section limit r = do
   n ← u16
   elim (leb n limit) [ true ↦ many n r | false ↦ refuse 4 ]
 
--- 6: name byte 80 hex or more
-unfoldable pub char : Reader ℕ
-char = do
-  b ← u8
-  elim (ltb b 128) [ true ↦ pure b | false ↦ refuse 6 ]
+-- 6: name that is not well-formed UTF-8; it is read whole first, "met at the end of that name"
+unfoldable pub wellFormed : List ℕ → Reader (List ℕ)
+wellFormed bytes = elim (UTF8-octets bytes) [ true ↦ pure bytes | false ↦ refuse 6 ]
 
 unfoldable pub name : Reader (List ℕ)
-name = several char
+name = do
+  bytes ← several u8
+  wellFormed bytes
 
 unfoldable pub fieldTy : Reader FieldTy
 fieldTy = do
@@ -301,7 +302,7 @@ file [] = got noTables []
 file (b ∷ bytes) = tenSections (b ∷ bytes)
 
 unfoldable pub openRead : Unit {0}
-unfolding follow _>>=_ pure refuse u8 u16 u32 optional many several kind section char name fieldTy alternative factTy recordTy unionTy type
+unfolding follow _>>=_ pure refuse u8 u16 u32 optional many several kind section openUtf8 wellFormed name fieldTy alternative factTy recordTy unionTy type
     predicate anchor fieldPattern one two intNode bytesNode fuzzyNode recordNode node path rowSlot keySlot derivedSlot fieldSlot valueSlot
     constSlot slot binding hoisted fetched constraint op comparison level end tenSections
     file
