@@ -2,19 +2,22 @@
 use Prim.Native.Nat.{ℕ, zero, suc, _+_, _*_, _-_, _≤_, _<_}
 use mathlib.Core.Path.{_≡_, refl, sym, ap, _∙_, subst}
 use mathlib.Core.Bool.{Bool, true, false}
-use mathlib.Core.List.{List, [], _∷_}
+use mathlib.Core.List.{List, [], _∷_, _++_}
 use native.Mathlib.Omega.{arith}
 use native.Mathlib.Nat.{mul-le-mul}
-use borrow.Author.Tests.{lt-ltb, le-ltb, leb-true}
-use lib.Dec.{ltb, leb}
-use lib.ListN.{length, getD, drop, List·getD-eq-default}
+use borrow.Author.Tests.{leb-true}
+use lib.Dec.{leb}
+use lib.ListN.{length, getD, take, drop, length-drop, take-append-drop, List·getD-eq-default}
+use lib.Seq.{drop-drop, length-take-le}
+use Rattle.rules.specs.Utf8.{UTF8-octets}
+use Rattle.rules.proofs.Utf8.{bytes-whole}
 use Rattle.rules.specs.Base.{all}
 use Rattle.rules.specs.File.{Ty, Node, Slot, Anchor, CompareOp}
-use Rattle.rules.specs.Read.{Reader, follow, _>>=_, pure, refuse, u8, u16, many, several, kind, section, char, name, fieldTy, alternative, factTy, recordTy, unionTy, type, predicate, anchor, fieldPattern, one, two, intNode, bytesNode, fuzzyNode, recordNode, node, path, rowSlot, keySlot, derivedSlot, fieldSlot, valueSlot, constSlot, slot, binding, hoisted, fetched, constraint, op, comparison, level}
+use Rattle.rules.specs.Read.{Reader, follow, _>>=_, pure, refuse, u8, u16, many, several, kind, section, wellFormed, name, fieldTy, alternative, factTy, recordTy, unionTy, type, predicate, anchor, fieldPattern, one, two, intNode, bytesNode, fuzzyNode, recordNode, node, path, rowSlot, keySlot, derivedSlot, fieldSlot, valueSlot, constSlot, slot, binding, hoisted, fetched, constraint, op, comparison, level}
 use Rattle.rules.specs.Read.Read.{got, refused}
 use Rattle.file.specs.Steps.{readAt, stepAt, skim, recordOf}
 use Rattle.file.specs.declared.Step.the-variants.{Next, Refused}
-use Rattle.file.proofs.Readers.{then-got, then-refused, byte-in, byte-out, kind-in, kind-out, several-in, several-out, step-refused, step-same, step-skim, Fixed, fixed-pure, fixed-bind, fixed-many, fixed-u8, fixed-u16, fixed-u32, fixed-optional, fixed-bytes, fixed-in, fixed-then, needs-fixed, needs-bind, needs-first, needs-kind, cut-short, SameSteps, alike-refl, alike-step, alike-value, alike-pure, alike-several, alike-map, alike-fixed}
+use Rattle.file.proofs.Readers.{then-got, then-refused, byte-in, byte-out, kind-in, kind-out, several-in, several-out, step-got, step-refused, step-same, step-skim, Fixed, fixed-pure, fixed-bind, fixed-many, fixed-u8, fixed-u16, fixed-u32, fixed-optional, fixed-bytes, fixed-in, fixed-then, needs-fixed, needs-bind, needs-first, needs-kind, cut-short, SameSteps, alike-refl, alike-step, alike-value, alike-pure, alike-several, alike-map, alike-fixed}
 use Rattle.file.proofs.Suffix.{ended, faulted, suffix-path}
 
 pub times : (w n : ℕ) → w ≤ 8 → n < 256 → n * w ≤ 2040
@@ -163,6 +166,27 @@ pub slot-small : (k : ℕ) → getD slotSizes k 0 ≤ 8
 unfolding all
 slot-small = small-all slotSizes 8 refl
 
+-- bytes that are there, as they stand
+bytes-got : (f : List ℕ) (p n : ℕ) → p + n ≤ length f → readAt f (many n u8) p ≡ got (take n (drop p f)) (drop (p + n) f)
+unfolding readAt
+bytes-got f p n h =
+    let room : n ≤ length (drop p f) = omega (arith, length-drop p f) in
+    let k : n ≡ length (take n (drop p f)) = omega (arith, length-take-le n (drop p f) room) in
+    ap (λ (l : List ℕ). many n u8 l) (sym (take-append-drop n (drop p f)))
+    ∙ ap (λ (j : ℕ). many j u8 (take n (drop p f) ++ drop n (drop p f))) k
+    ∙ bytes-whole (take n (drop p f)) (drop n (drop p f))
+    ∙ ap (got (take n (drop p f))) (drop-drop n p f)
+
+-- where a text that was read ends
+module _ (f bytes : List ℕ) (q : ℕ) where
+  pub text-good : true ≡ UTF8-octets bytes → q ≤ length f → stepAt f (wellFormed bytes) q ≡ Next q
+  unfolding wellFormed readAt pure
+  text-good e h = step-got f (wellFormed bytes) q bytes q h (ap (λ (t : Bool). (elim t as (λ _. Reader (List ℕ)) [ true ↦ pure bytes | false ↦ refuse 6 ]) (drop q f)) (sym e))
+
+  pub text-bad : false ≡ UTF8-octets bytes → stepAt f (wellFormed bytes) q ≡ Refused 6
+  unfolding wellFormed readAt refuse
+  text-bad e = step-refused f (wellFormed bytes) q 6 (ap (λ (t : Bool). (elim t as (λ _. Reader (List ℕ)) [ true ↦ pure bytes | false ↦ refuse 6 ]) (drop q f)) (sym e))
+
 module _ (f : List ℕ) (p : ℕ) where
   -- a kind's own byte
   module _ {A : Type 0} (rs : List (Reader A)) where
@@ -188,30 +212,29 @@ module _ (f : List ℕ) (p : ℕ) where
   several-fixed {A} {r} w n x h e =
       step-same f _ _ _ _ (several-in f p r h) ∙ ap (λ (j : ℕ). stepAt f (many j r) (p + 1)) (sym e) ∙ bytes-alike f (n * w) (fixed-many w x n) (p + 1)
 
-  -- a name's bytes
-  pub char-cut : length f ≤ p → readAt f char p ≡ refused 3
-  unfolding char
-  char-cut h = byte-out f p (λ (b : ℕ). elim (ltb b 128) as (λ _. Reader ℕ) [ true ↦ pure b | false ↦ refuse 6 ]) h
-
-  char-in : p < length f → readAt f char p ≡ readAt f (elim (ltb (getD f p 0) 128) as (λ _. Reader ℕ) [ true ↦ pure (getD f p 0) | false ↦ refuse 6 ]) (p + 1)
-  unfolding char
-  char-in h = byte-in f p (λ (b : ℕ). elim (ltb b 128) as (λ _. Reader ℕ) [ true ↦ pure b | false ↦ refuse 6 ]) h
-
-  pub char-bad : p < length f → 128 ≤ getD f p 0 → readAt f char p ≡ refused 6
-  unfolding refuse readAt
-  char-bad h g = char-in h ∙ simp (le-ltb _ _ g)
-
-  pub char-good : p < length f → getD f p 0 < 128 → readAt f char p ≡ got (getD f p 0) (drop (p + 1) f)
-  unfolding pure readAt
-  char-good h g = char-in h ∙ simp (lt-ltb _ _ g)
-
-  pub name-in : (n : ℕ) → p < length f → n ≡ getD f p 0 → stepAt f name p ≡ stepAt f (many n char) (p + 1)
-  unfolding name
-  name-in n h e = step-same f _ _ _ _ (several-in f p char h) ∙ ap (λ (j : ℕ). stepAt f (many j char) (p + 1)) (sym e)
-
+  -- a name: read whole, then judged
   pub name-cut : length f ≤ p → stepAt f name p ≡ Refused 3
   unfolding name
-  name-cut h = several-cut char h
+  name-cut h = step-refused f _ p 3 (then-refused f (several u8) wellFormed p 3 (several-out f p u8 h))
+
+  module _ (n : ℕ) (h : p < length f) (e : n ≡ getD f p 0) where
+    bytes-of : readAt f (several u8) p ≡ readAt f (many n u8) (p + 1)
+    bytes-of = several-in f p u8 h ∙ ap (λ (j : ℕ). readAt f (many j u8) (p + 1)) (sym e)
+
+    pub name-short : length f < p + 1 + n → stepAt f name p ≡ Refused 3
+    unfolding name
+    name-short g =
+        let few : stepAt f (many n u8) (p + 1) ≡ Refused 3 = cut-short f n (p + 1) (needs-fixed n (fixed-bytes n)) (omega arith) g in
+        step-refused f _ p 3 (then-refused f (several u8) wellFormed p 3 (bytes-of ∙ faulted f (many n u8) (p + 1) 3 few))
+
+    pub name-whole : (q : ℕ) → q ≡ p + 1 + n → q ≤ length f → stepAt f name p ≡ stepAt f (wellFormed (take (q - (p + 1)) (drop (p + 1) f))) q
+    unfolding name
+    name-whole q k g =
+        let m : n ≡ q - (p + 1) = omega arith in
+        let l : p + 1 + n ≤ length f = omega arith in
+        step-same f _ _ _ _ (then-got f (several u8) wellFormed p _ (p + 1 + n) (bytes-of ∙ bytes-got f (p + 1) n l))
+        ∙ ap (λ (j : ℕ). stepAt f (wellFormed (take n (drop (p + 1) f))) j) (sym k)
+        ∙ ap (λ (j : ℕ). stepAt f (wellFormed (take j (drop (p + 1) f))) q) m
 
   -- types by their kind
   module _ (k : ℕ) (h : p < length f) (e : k ≡ getD f p 0) where

@@ -1,7 +1,6 @@
 pub mod Readers
 pub mod Suffix
 pub mod Leaves
-pub mod Names
 pub mod Sections
 pub mod Empty
 pub mod Accepted

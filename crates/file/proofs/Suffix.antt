@@ -4,10 +4,11 @@ use mathlib.Core.Path.{_≡_, refl, sym, ap, _∙_, subst}
 use mathlib.Core.Bool.{Bool, true, false}
 use mathlib.Core.List.{List, [], _∷_}
 use native.Mathlib.Omega.{arith}
-use lib.Dec.{ltb, leb}
+use lib.Dec.{leb}
 use lib.ListN.{length, getD, drop, length-drop}
 use lib.Seq.{drop-drop}
-use Rattle.rules.specs.Read.{Read, Reader, _>>=_, pure, refuse, u8, u16, u32, optional, many, several, kind, section, char, name, fieldTy, alternative, factTy, recordTy, unionTy, type, predicate, anchor, fieldPattern, one, two, intNode, bytesNode, fuzzyNode, recordNode, node, path, rowSlot, keySlot, derivedSlot, fieldSlot, valueSlot, constSlot, slot, binding, hoisted, fetched, constraint, op, comparison, level}
+use Rattle.rules.specs.Utf8.{UTF8-octets}
+use Rattle.rules.specs.Read.{Read, Reader, _>>=_, pure, refuse, u8, u16, u32, optional, many, several, kind, section, wellFormed, name, fieldTy, alternative, factTy, recordTy, unionTy, type, predicate, anchor, fieldPattern, one, two, intNode, bytesNode, fuzzyNode, recordNode, node, path, rowSlot, keySlot, derivedSlot, fieldSlot, valueSlot, constSlot, slot, binding, hoisted, fetched, constraint, op, comparison, level}
 use Rattle.rules.specs.Read.Read.{got, refused}
 use Rattle.file.specs.Steps.{stepOf, readAt, stepAt, skim, recordReaders, recordOf, limitOf, sectionOf}
 use Rattle.file.specs.declared.Step.the-variants.{Next, Refused}
@@ -127,8 +128,8 @@ pub suffix-three : {A B C D : Type 0} {r : Reader A} {s : Reader B} {t : Reader 
 suffix-three k x y z = suffix-bind x (λ a. suffix-two (k a) y z)
 
 pub suffix-name : Suffix name
-unfolding name char
-suffix-name = suffix-several (suffix-bind suffix-u8 (λ b. suffix-if (ltb b 128) (suffix-pure _) (suffix-refuse _)))
+unfolding name wellFormed
+suffix-name = suffix-bind (suffix-several suffix-u8) (λ bytes. suffix-if (UTF8-octets bytes) (suffix-pure _) (suffix-refuse _))
 
 pub suffix-type : Suffix type
 unfolding type factTy recordTy unionTy fieldTy alternative

@@ -1,5 +1,5 @@
 -- Reading by position: where a reading of the written rules ends, and what stands in the index afterwards.
-use Prim.Native.Nat.{ℕ, zero, suc, _+_, _*_, _-_, max}
+use Prim.Native.Nat.{ℕ, zero, suc, _+_, _*_, _-_}
 use mathlib.Core.Bool.{true, false}
 use mathlib.Core.List.{List, [], _∷_}
 use lib.ListN.{length, getD, set, drop}
@@ -18,11 +18,6 @@ wordLimit = 65536
 -- the two bytes at p, the lower first
 unfoldable pub word : List ℕ → ℕ → ℕ
 word f p = getD f p 0 + 256 * getD f (p + 1) 0
-
--- the greatest of the n bytes from p on, 0 where there is none
-unfoldable pub greatestByte : List ℕ → ℕ → ℕ → ℕ
-greatestByte f zero p = 0
-greatestByte f (suc n) p = max (getD f p 0) (greatestByte f n (p + 1))
 
 -- where a reading of f ended, or its refusal
 unfoldable pub stepOf : {A : Type 0} → List ℕ → Read A → Step

@@ -1,13 +1,14 @@
 // Reading a rule file front to back: refusals 3 to 7, and the index of where each record starts.
 ghost use mathlib.Core.Path.{_≡_};
-ghost use Prim.Native.Nat.{ℕ, _+_, _*_, _-_, _≤_, _<_, min, max};
-ghost use lib.ListN.{length};
+ghost use Prim.Native.Nat.{ℕ, _+_, _*_, _-_, _≤_, _<_, min};
+ghost use lib.ListN.{length, take, drop};
 ghost use lib.Seq.{sets};
 ghost use Rattle.rules.specs.Limits.{fileLimit};
-ghost use Rattle.rules.specs.Read.{u8, many, several, char, name, type, node, slot, binding, fetched, comparison, fuzzyNode, path};
+ghost use Rattle.rules.specs.Read.{u8, many, several, wellFormed, name, type, node, slot, binding, fetched, comparison, fuzzyNode, path};
 ghost use Rattle.rules.specs.Read as Read;
-ghost use Rattle.file.specs.Steps.{wordLimit, word, greatestByte, stepAt, recordOf, sectionCount, limitOf, baseOf, countAt, starts, sectionOf, entries, filled, emptied, indexLength, indexOf};
+ghost use Rattle.file.specs.Steps.{wordLimit, word, stepAt, recordOf, sectionCount, limitOf, baseOf, countAt, starts, sectionOf, entries, filled, emptied, indexLength, indexOf};
 ghost use Rattle.file.specs.Tables.{Indexed};
+use utf8::well_formed;
 
 // Where what was read ends, or the number of the first fault.
 pub enum Step {
@@ -94,9 +95,6 @@ const NODE_SIZES: [usize; 17] = [8, 2, 0, 2, 0, 0, 2, 0, 0, 4, 2, 4, 0, 0, 4, 0,
 
 const SLOT_SIZES: [usize; 6] = [4, 4, 2, 0, 4, 2];
 
-// From this length on it pays to look at a name's bytes all at once.
-const LONG_NAME: usize = 16;
-
 // A byte as a position or a count has it.
 pub fn wide(x: u8) -> usize
     ensures same { λ r. ⌜ r ≡ x ⌝ }
@@ -117,13 +115,6 @@ pub fn least(a: u8, b: u8) -> u8
     ensures { λ r. ⌜ r ≡ min a b ⌝ }
 {
     if a < b { a } else { b }
-}
-
-// The greater of two bytes.
-fn greatest(a: u8, b: u8) -> u8
-    ensures { λ r. ⌜ r ≡ max a b ⌝ }
-{
-    if a < b { b } else { a }
 }
 
 // The two bytes at p, the lower first.
@@ -159,55 +150,18 @@ pub fn repeated(file: &[u8], w: usize, p: usize) -> Step
     fixed(file, n * w, p + 1)
 }
 
-// The greatest of the n bytes from p on, 0 where there is none. Only one byte is kept, so that the loop becomes vector code.
-fn greatest_byte(file: &[u8], n: usize, p: usize) -> u8
-    requires { ⌜ p + n ≤ length (now file) ⌝ }
-    ensures { λ r. ⌜ r ≡ greatestByte (now (file .entry)) n p ⌝ }
+// Where the bytes from p to q end, if they are well-formed UTF-8.
+fn text_end(file: &[u8], p: usize, q: usize) -> Step
+    requires { ⌜ (p ≤ q) × (q ≤ length (now file)) ⌝ }
+    ensures { λ r. ⌜ (
+        let bytes = take (q - p) (drop p (now (file .entry))) in
+        r ≡ stepAt (now (file .entry)) (wellFormed bytes) q
+        ) ⌝ }
 {
-    let mut high: u8 = 0;
-    let mut i: usize = 0;
-    while i < n {
-        high = greatest(high, file[p + i]);
-        i += 1;
-    }
-    high
+    if well_formed(&file[p..q]) { Step::Next(q) } else { Step::Refused(6) }
 }
 
-// Where n bytes of a name from `at` on end, each below 80 hex: the first fault among them counts.
-fn chars_end(file: &[u8], n: usize, at: usize) -> Step
-    requires { ⌜ at ≤ length (now file) ⌝ }
-    ensures { λ r. ⌜ r ≡ stepAt (now (file .entry)) (many n char) at ⌝ }
-{
-    let mut left = n;
-    let mut p = at;
-    while left > 0 {
-        if p >= file.len() {
-            return Step::Refused(3);
-        }
-        if file[p] >= 128 {
-            return Step::Refused(6);
-        }
-        p += 1;
-        left -= 1;
-    }
-    Step::Next(p)
-}
-
-// The same, for a longer name: the bytes are looked at all at once, and one by one only where there is a fault.
-fn long_name_end(file: &[u8], n: usize, p: usize) -> Step
-    requires { ⌜ (p ≤ length (now file)) × (n < 256) ⌝ }
-    ensures { λ r. ⌜ r ≡ stepAt (now (file .entry)) (many n char) p ⌝ }
-{
-    if n > file.len() - p {
-        return chars_end(file, n, p);
-    }
-    if greatest_byte(file, n, p) >= 128 {
-        return chars_end(file, n, p);
-    }
-    Step::Next(p + n)
-}
-
-// Where the name at `at` ends: its length, then as many bytes below 80 hex.
+// Where the name at `at` ends: its length, then as many bytes. It is read whole before its bytes are judged.
 pub fn name_end(file: &[u8], at: usize) -> Step
     requires { ⌜ at ≤ length (now file) ⌝ }
     ensures { λ r. ⌜ r ≡ stepAt (now (file .entry)) name at ⌝ }
@@ -217,10 +171,7 @@ pub fn name_end(file: &[u8], at: usize) -> Step
     }
     let n = wide(file[at]);
     let p = at + 1;
-    if n < LONG_NAME {
-        return chars_end(file, n, p);
-    }
-    long_name_end(file, n, p)
+    if n > file.len() - p { Step::Refused(3) } else { text_end(file, p, p + n) }
 }
 
 // Where the type at `at` ends: its kind says how many bytes follow.

@@ -16,7 +16,7 @@ use Rattle.rules.proofs.Cases.{by-test, by-order, by-equal, leb-le, ltb
 use Rattle.rules.proofs.Each.{each-passes}
 
 -- an octet in a range, below it and above it
-has-in : (r : Octets) (b : ℕ) → r .least ≤ b → b ≤ r .most → has r b ≡ true
+pub has-in : (r : Octets) (b : ℕ) → r .least ≤ b → b ≤ r .most → has r b ≡ true
 unfolding has
 has-in r b h g = simp (le-leb (r .least) b h, le-leb b (r .most) g)
 
@@ -402,7 +402,7 @@ pub cut-name : (n : ℕ) (bytes : List ℕ) → length bytes < n → name (n ∷
 unfolding name several _>>=_ follow u8
 cut-name n bytes h = ap (λ (r : Read (List ℕ)). follow r wellFormed) (bytes-cut n bytes h)
 
-bytes-whole : (bytes rest : List ℕ) → many (length bytes) u8 (bytes ++ rest) ≡ got bytes rest
+pub bytes-whole : (bytes rest : List ℕ) → many (length bytes) u8 (bytes ++ rest) ≡ got bytes rest
 unfolding many _>>=_ follow u8 pure
 bytes-whole [] rest = refl
 bytes-whole (b ∷ bytes) rest = ap (λ (r : Read (List ℕ)). follow r (λ (bs : List ℕ). pure (b ∷ bs))) (bytes-whole bytes rest)

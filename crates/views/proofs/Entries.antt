@@ -11,12 +11,13 @@ use lib.Dec.{eqb}
 use borrow.Author.Tests.{eq-eqb, ne-eqb}
 use Rattle.rules.specs.File as File
 use Rattle.rules.specs.File.{Ty, nameAt, typeAt, predicateAt}
-use Rattle.rules.specs.Read.{Read, Reader, _>>=_, pure, refuse, u8, optional, many, several, kind, char, name, type, factTy, recordTy, unionTy, predicate, node, one, two, hoisted, fetched, constraint, op, comparison, level}
+use Rattle.rules.specs.Utf8.{UTF8-octets}
+use Rattle.rules.specs.Read.{Read, Reader, _>>=_, pure, refuse, u8, optional, many, several, kind, wellFormed, name, type, factTy, recordTy, unionTy, predicate, node, one, two, hoisted, fetched, constraint, op, comparison, level}
 use Rattle.rules.specs.Read.Read.{got}
 use Rattle.file.specs.Steps.{word, readAt, baseOf}
 use Rattle.file.specs.Tables.{Stands, Section, Indexed, tablesOf}
-use Rattle.file.proofs.Readers.{lt-or-le, refused-got, bind-inv, then-got, then-refused, kind-in, kind-out, needs-fixed, needs-first, fixed-bind, fixed-pure, fixed-u16}
-use Rattle.file.proofs.Leaves.{char-cut, char-bad, char-good, typeReaders, fixed-fieldTy, fixed-alternative, fixed-predicate, fixed-hoisted, fixed-constraint, fixed-level}
+use Rattle.file.proofs.Readers.{lt-or-le, refused-got, bind-inv, then-got, then-refused, kind-in, kind-out, needs-fixed, needs-first, fixed-bind, fixed-pure, fixed-u8, fixed-u16}
+use Rattle.file.proofs.Leaves.{typeReaders, fixed-fieldTy, fixed-alternative, fixed-predicate, fixed-hoisted, fixed-constraint, fixed-level}
 use Rattle.file.proofs.Sections.{word-then}
 use Rattle.views.specs.Views.{sizeOf, startAt, run, byteAt, orNone, opKind, textView, typeViews, typeView, predicateMaybe, predicateOption, SeenType, SeenText, hoistedAt, constraintAt, comparisonAt, levelEntryAt}
 use Rattle.views.specs.declared.TextView.{TextView}
@@ -24,7 +25,7 @@ use Rattle.views.specs.declared.TypeView.{TypeView}
 use Rattle.views.specs.declared.TypeView.the-variants as Tv
 use Rattle.views.specs.declared.MaybePredicate.{MaybePredicate}
 use Rattle.views.specs.declared.MaybePredicate.the-variants as Mp
-use Rattle.views.proofs.Runs.{value-of, needs-room, First, first-byte, one-in, two-in, three-in, optional-in, finds-field, finds-alternative, Made, several-made}
+use Rattle.views.proofs.Runs.{value-of, needs-room, First, first-byte, one-in, two-in, three-in, optional-in, finds-byte, finds-field, finds-alternative, Counts, counts, Made, several-made}
 
 -- a kind at p that was read: its byte, and what its reader found
 pub record Kinded {A : Type 0} (f : List ℕ) (rs : List (Reader A)) (p : ℕ) (a : A) (rest : List ℕ) : Type 0 where
@@ -73,28 +74,17 @@ op-known (suc (suc zero)) h = refl
 op-known (suc (suc (suc zero))) h = refl
 op-known (suc (suc (suc (suc j)))) h = absurd (omega arith)
 
--- a name's bytes that were read
-record Chars (f : List ℕ) (n p : ℕ) (xs : List ℕ) : Type 0 where
-  room : p + n ≤ length f
-  is : run (byteAt f) 1 n p ≡ xs
-
-char-then : {A : Type 0} (f : List ℕ) (k : ℕ → Reader A) (p : ℕ) (a : A) (rest : List ℕ) → readAt f (char >>= k) p ≡ got a rest → First f k p a rest
-char-then f k p a rest e =
-    ⊎-elim (λ h. ⊎-elim (λ g. record { inside = h; then = sym (then-got f char k p (getD f p 0) (p + 1) (char-good f p h g)) ∙ e })
-    (λ g. absurd (refused-got (sym (then-refused f char k p 6 (char-bad f p h g)) ∙ e)))
-    (lt-or-le (getD f p 0) 128))
-    (λ h. absurd (refused-got (sym (then-refused f char k p 3 (char-cut f p h)) ∙ e)))
-    (lt-or-le p (length f))
-
-chars : (f : List ℕ) (n p : ℕ) (xs rest : List ℕ) → p ≤ length f → readAt f (many n char) p ≡ got xs rest → Chars f n p xs
-unfolding many run readAt pure byteAt
-chars f zero p xs rest h e = record { room = omega arith; is = cc }
-chars f (suc n) p xs rest h e =
-    let w = char-then f (λ (y : ℕ). many n char >>= λ (ys : List ℕ). pure (y ∷ ys)) p xs rest e in
-    let v = bind-inv (many n char) (λ (ys : List ℕ). pure (getD f p 0 ∷ ys)) (drop (p + 1) f) xs rest (w .then) in
-    let c = chars f n (p + 1) (v .value) (v .after) (omega (arith, w .inside)) (v .first) in
-    let z : getD f p 0 ∷ v .value ≡ xs = cc (v .then) in
-    record { room = omega (arith, c .room); is = ap (λ (ys : List ℕ). getD f p 0 ∷ ys) (c .is) ∙ z }
+-- a name that was read: its bytes, as they stand
+name-bytes : (f : List ℕ) (p : ℕ) (xs rest : List ℕ) → readAt f name p ≡ got xs rest → Counts f 1 (finds-byte f) p xs rest
+unfolding name wellFormed readAt pure refuse
+name-bytes f p xs rest e =
+    let w = bind-inv (several u8) wellFormed (drop p f) xs rest e in
+    go (w .value) (w .after) (w .first) (UTF8-octets (w .value)) (w .then)
+  where
+    go : (bytes after : List ℕ) → readAt f (several u8) p ≡ got bytes after → (t : Bool)
+        → (elim t as (λ _. Reader (List ℕ)) [ true ↦ pure bytes | false ↦ refuse 6 ]) after ≡ got xs rest → Counts f 1 (finds-byte f) p xs rest
+    go bytes after h true g = counts f 1 (finds-byte f) p xs rest fixed-u8 (h ∙ g)
+    go bytes after h false g = absurd (refused-got g)
 
 module _ (f ix : List ℕ) (x : Indexed f ix) where
   pub size-found : (s : ℕ) → s < 10 → getD ix (baseOf s) 0 ≡ sizeOf (tablesOf f) s
@@ -117,15 +107,11 @@ stands-at {A} {f} {ix} {s} {r} {xs} y t p d h e = subst (λ (q : ℕ). Stands f 
 module _ (f ix : List ℕ) (x : Indexed f ix) (t p : ℕ) where
   -- names
   pub name-seen : (n : ℕ) → t < length (tablesOf f .names) → p ≡ getD ix (baseOf 0 + 1 + t) 0 → n ≡ getD f p 0 → (p < length f) × SeenText f (nameAt (tablesOf f) t) (record { at = p + 1; len = n })
-  unfolding nameAt name several
+  unfolding nameAt
   name-seen n h e k =
       let y = stands-at (x .names) t p [] h e in
-      let b = first-byte f (λ (j : ℕ). many j char) p _ (y .rest) (several-of (y .reads)) in
-      let c = chars f (getD f p 0) (p + 1) _ (y .rest) (omega (arith, b .inside)) (b .then) in
-      (b .inside, record { is = ap (λ (j : ℕ). run (byteAt f) 1 j (p + 1)) k ∙ c .is; inside = omega (arith, c .room) })
-    where
-      several-of : {v : Read (List ℕ)} → readAt f name p ≡ v → readAt f (u8 >>= λ (j : ℕ). many j char) p ≡ v
-      several-of g = g
+      let c = name-bytes f p _ (y .rest) (y .reads) in
+      (c .inside, record { is = ap (λ (j : ℕ). run (byteAt f) 1 j (p + 1)) k ∙ c .is; inside = omega (arith, c .room) })
 
   -- records of two numbers
   pub hoisted-here : t < length (tablesOf f .hoisted) → p ≡ getD ix (baseOf 5 + 1 + t) 0 → (p + 4 ≤ length f) × (_≡_ {A = File.Hoisted} (record { node = word f p; name = word f (p + 2) }) (hoistedAt (tablesOf f) t))

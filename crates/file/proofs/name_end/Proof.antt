@@ -1,13 +1,12 @@
-use native.Mathlib.Omega.{arith}
 use mathlib.Core.Path.{sym, _∙_}
-use Rattle.file.proofs.Leaves.{name-in, name-cut}
+use native.Mathlib.Omega.{arith}
+use Rattle.file.proofs.Leaves.{name-cut, name-short, name-whole}
 use borrow.Author.Needs.{needs}
 use Rattle.file.proofs.name_end.Statement.{statement}
 use Rattle.file.proofs.name_end.Tie as tie
 use Rattle.file.proofs.name_end.Reads as reads
 use Rattle.file.proofs.name_end.Lts as lts
-use Rattle.file.proofs.chars_end.Reads as chars-end-reads
-use Rattle.file.proofs.long_name_end.Reads as long-name-end-reads
+use Rattle.file.proofs.text_end.Reads as text-end-reads
 use Rattle.file.proofs.wide.Reads as wide-reads
 
 returns : tie.Need-returns
@@ -22,17 +21,20 @@ wide-requires c κs = search needs
 add-p : tie.Need-add-p
 add-p c = search needs
 
-chars-end-requires : tie.Need-chars-end-requires
-chars-end-requires c κs = search needs
+sub-if2 : tie.Need-sub-if2
+sub-if2 c = search needs
+
+add-text-end : tie.Need-add-text-end
+add-text-end c = search needs
+
+text-end-requires : tie.Need-text-end-requires
+text-end-requires c κs = search needs
 
 returns-2 : tie.Need-returns-2
-returns-2 c = c .chars-end .ensures ∙ sym (name-in _ _ _ (omega arith) (omega arith))
-
-long-name-end-requires : tie.Need-long-name-end-requires
-long-name-end-requires c κs = search needs
+returns-2 c = sym (name-short _ _ _ (omega arith) (c .before .wide .ensures .0) (omega arith))
 
 returns-3 : tie.Need-returns-3
-returns-3 c = c .long-name-end .ensures ∙ sym (name-in _ _ _ (omega arith) (omega arith))
+returns-3 c = c .text-end .ensures ∙ sym (name-whole _ _ _ (omega arith) (c .before .before .wide .ensures .0) _ (omega arith) (omega arith))
 
 pub name-end-spec : {M : Type 1} → statement M
 name-end-spec =
@@ -42,7 +44,8 @@ name-end-spec =
     shared-slice-read-wide
     wide-requires
     add-p
-    chars-end-requires
+    sub-if2
+    add-text-end
+    text-end-requires
     returns-2
-    long-name-end-requires
     returns-3)
