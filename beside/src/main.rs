@@ -3,6 +3,7 @@
 
 mod call;
 mod lent;
+mod names;
 mod opened;
 mod plans;
 mod run;
@@ -11,26 +12,30 @@ use std::process::ExitCode;
 
 use oracle::HAS_BODIES;
 
+use names::Names;
 use plans::Plans;
 use run::{Outcome, Run};
 
 const USAGE: &str = "usage:
   beside SEED COUNT         drawn files, compiled
-  beside plans SEED COUNT   the plans of drawn files, and bytes drawn around them, read";
+  beside plans SEED COUNT   the plans of drawn files, and bytes drawn around them, read
+  beside names SEED COUNT   names of up to three bytes, all of them, and longer ones drawn";
 
 fn main() -> ExitCode {
     let arguments: Vec<String> = std::env::args().skip(1).collect();
     let words: Vec<&str> = arguments.iter().map(String::as_str).collect();
-    let (of_plans, numbers) = match words.as_slice() {
-        ["plans", rest @ ..] => (true, numbers(rest)),
-        rest => (false, numbers(rest)),
+    let (what, numbers) = match words.as_slice() {
+        [what @ ("plans" | "names"), rest @ ..] => (*what, numbers(rest)),
+        rest => ("files", numbers(rest)),
     };
     let Some((seed, count)) = numbers else {
         eprintln!("{USAGE}");
         return ExitCode::from(2);
     };
-    if of_plans {
-        return oracle::on_large_stack(move || read(seed, count));
+    match what {
+        "plans" => return oracle::on_large_stack(move || read(seed, count)),
+        "names" => return judge(seed, count),
+        _ => {}
     }
     if !HAS_BODIES {
         eprintln!("built without the bodies: set FJORD_SRC to the source and build again");
@@ -59,6 +64,12 @@ fn read(seed: u64, count: u64) -> ExitCode {
         seed,
     };
     ended(&plans.run(count, |shown| println!("{shown}")))
+}
+
+fn judge(seed: u64, count: u64) -> ExitCode {
+    let compile = sinalvento::call;
+    let names = Names { compile, seed };
+    ended(&names.run(3, count, |shown| println!("{shown}")))
 }
 
 fn ended(outcome: &Outcome) -> ExitCode {

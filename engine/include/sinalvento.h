@@ -50,7 +50,7 @@ enum sinalvento_refusal {
     SINALVENTO_ENDS = 3,      /* bytes end inside a count or record */
     SINALVENTO_COUNT = 4,     /* count above its section's limit */
     SINALVENTO_KIND = 5,      /* unknown kind, anchor or op */
-    SINALVENTO_NAME_BYTE = 6, /* name byte 80 hex or more */
+    SINALVENTO_NAME_BYTE = 6, /* name that is not well-formed UTF-8 */
     SINALVENTO_FOLLOWS = 7,   /* bytes follow the last section */
     /* whole file: each is tried over the whole file before the next */
     SINALVENTO_NUMBER = 8,        /* number at or past its section's count (FFFF for none excepted) */

@@ -20,7 +20,7 @@ pub enum Refusal {
     Count,
     /// A kind, an anchor or an op has no meaning.
     Kind,
-    /// A name has a byte that is not ASCII.
+    /// A name is not well-formed UTF-8.
     NameByte,
     /// The file ends too late.
     Follows,
@@ -156,7 +156,7 @@ impl Refusal {
             Ends => "bytes end inside a count or record",
             Count => "count above its section's limit",
             Kind => "unknown kind, anchor or op",
-            NameByte => "name byte 80 hex or more",
+            NameByte => "name that is not well-formed UTF-8",
             Follows => "bytes follow the last section",
             Number => "number at or past its section's count (FFFF for none excepted)",
             Child => "type's or node's child not lower than its parent",

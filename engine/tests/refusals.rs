@@ -10,7 +10,7 @@ const WORDS: [(u8, &str, &str); 18] = [
     (3, "reading", "bytes end inside a count or record"),
     (4, "reading", "count above its section's limit"),
     (5, "reading", "unknown kind, anchor or op"),
-    (6, "reading", "name byte 80 hex or more"),
+    (6, "reading", "name that is not well-formed UTF-8"),
     (7, "reading", "bytes follow the last section"),
     (
         8,

@@ -29,11 +29,38 @@ fn every_file_that_reads() {
     assert!(count > 5_000, "{count}");
 }
 
-const BYTES: [u8; 8] = [0, b'a', b'"', b'`', b'\\', b'_', b'\n', 0x7F];
+#[rustfmt::skip]
+const CHARACTERS: [char; 14] = [
+    '\0', 'a', '"', '`', '\\', '_', '\n', '\u{7F}',
+    '\u{85}', '\u{E9}', '\u{301}', '\u{2028}', '\u{20AC}', '\u{1F600}',
+];
 
 fn any_name(rng: &mut Rng) -> Vec<u8> {
     let length = rng.below(4);
-    (0..length).map(|_| BYTES[rng.below(8)]).collect()
+    let name: String = (0..length)
+        .map(|_| CHARACTERS[rng.below(CHARACTERS.len())])
+        .collect();
+    name.into_bytes()
+}
+
+/// Characters stand as they are where they can be seen, else by their number.
+#[test]
+fn names_and_texts_beyond_ascii() {
+    let text = "level d { `caf\u{E9}` = \"\u{20AC}\u{1F600}\\u{85}\\u{2028}\" }";
+    let text = format!("predicate d: {{ `caf\u{E9}`: Str }}\n\n{text}\n");
+    let parsed = parse(&text).expect("it parses");
+    let texts = ["caf\u{E9}", "\u{20AC}\u{1F600}\u{85}\u{2028}"];
+    assert!(
+        texts
+            .iter()
+            .all(|text| parsed.rules.names.contains(&text.as_bytes().to_vec()))
+    );
+    let shown = print(&parsed.rules);
+    assert!(shown.contains("`caf\u{E9}`"), "{shown}");
+    assert!(
+        shown.contains("\"\u{20AC}\u{1F600}\\u{85}\\u{2028}\""),
+        "{shown}"
+    );
 }
 
 /// A small number, now and then none of any table.
@@ -239,8 +266,14 @@ const MISTAKES: &[(&str, &str)] = &[
         "line 1, column 6: this \" has no closing \" in its line",
     ),
     (
-        "node \"caf\u{e9}\"",
-        "line 1, column 10: `\u{e9}` is not ASCII, and names and texts are",
+        "node \"a\\u{d800}\"",
+        "line 1, column 8: after \\ comes n, t, \\, \", `, x and two hex digits below 80, \
+         or u and a character's number in braces",
+    ),
+    (
+        "node \"a\\xe9\"",
+        "line 1, column 8: after \\ comes n, t, \\, \", `, x and two hex digits below 80, \
+         or u and a character's number in braces",
     ),
     (
         "node 9223372036854775808",

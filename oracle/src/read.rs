@@ -5,7 +5,7 @@ use crate::file::*;
 pub const ENDS: u8 = 3;
 pub const COUNT: u8 = 4;
 pub const KIND: u8 = 5;
-pub const NAME_BYTE: u8 = 6;
+pub const NAME: u8 = 6;
 pub const FOLLOWS: u8 = 7;
 
 struct Reader<'a> {
@@ -76,11 +76,13 @@ impl Reader<'_> {
         (0..count).map(|_| record(self)).collect()
     }
 
+    /// Read whole first, then judged by Rust's own reader of UTF-8.
     fn name(&mut self) -> Result<Vec<u8>, u8> {
-        self.counted(|reader| match reader.byte()? {
-            byte if byte < 0x80 => Ok(byte),
-            _ => Err(NAME_BYTE),
-        })
+        let bytes = self.counted(Self::byte)?;
+        match std::str::from_utf8(&bytes) {
+            Ok(_) => Ok(bytes),
+            Err(_) => Err(NAME),
+        }
     }
 
     fn pair(&mut self) -> Result<(u16, u16), u8> {

@@ -281,7 +281,7 @@ impl Tables {
 }
 
 fn tagged((number, name): (usize, &Vec<u8>)) -> String {
-    let text = std::str::from_utf8(name).expect("a name's bytes are below 80 hex");
+    let text = std::str::from_utf8(name).expect("a name is UTF-8");
     format!("{number:04x}{text}")
 }
 

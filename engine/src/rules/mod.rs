@@ -23,7 +23,7 @@ pub(crate) const MAX_STEPS: u8 = 15;
 /// they are in range before the file is compiled.
 #[derive(Debug, Clone, PartialEq, Eq, Default)]
 pub struct RuleFile {
-    /// Names, which also carry the texts: bytes below 80 hex.
+    /// Names, which also carry the texts: UTF-8.
     pub names: Vec<Vec<u8>>,
     /// Types; a child stands before its parents.
     pub types: Vec<Type>,

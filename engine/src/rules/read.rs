@@ -163,16 +163,24 @@ impl Reader<'_> {
         (0..count).map(|at| each(self, at)).collect()
     }
 
+    /// Read whole, then judged: a fault at the first byte that is no character's.
     fn name(&mut self) -> Read<Vec<u8>> {
-        self.list(What::Length, |reader, at| {
-            match reader.u8(of(What::NameByte, at))? {
-                byte if byte < 0x80 => Ok(byte),
-                byte => {
-                    let expected = String::from("a byte below 80 hex");
-                    Err(reader.wrong(Refusal::NameByte, expected, format!("{byte:02x} hex")))
-                }
-            }
-        })
+        let name = self.list(What::Length, |reader, at| reader.u8(of(What::NameByte, at)))?;
+        let Err(error) = std::str::from_utf8(&name) else {
+            return Ok(name);
+        };
+        let at = error.valid_up_to();
+        let found: Vec<String> = name[at..]
+            .iter()
+            .map(|byte| format!("{byte:02x}"))
+            .collect();
+        Err(self.fault(
+            Refusal::NameByte,
+            Some(of(What::NameByte, at)),
+            self.at - name.len() + at,
+            String::from("a character of UTF-8"),
+            format!("{} hex", found[..found.len().min(4)].join(" ")),
+        ))
     }
 
     fn ty(&mut self) -> Read<Type> {

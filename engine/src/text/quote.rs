@@ -16,16 +16,29 @@ pub(super) fn is_word(name: &[u8]) -> bool {
         && name != b"_"
 }
 
+/// A character as it stands between such quotes.
+fn put(written: &mut String, c: char, quote: char) {
+    match c {
+        '\n' => written.push_str("\\n"),
+        '\t' => written.push_str("\\t"),
+        '\\' => written.push_str("\\\\"),
+        ' '..='~' if c == quote => written.extend(['\\', quote]),
+        ' '..='~' => written.push(c),
+        _ if c.is_ascii() => written.push_str(&format!("\\x{:02x}", c as u32)),
+        _ => written.extend(c.escape_debug()),
+    }
+}
+
+/// Bytes that are no UTF-8, which no file that was accepted has, are shown as
+/// hex and can't be read again.
 fn quoted(text: &[u8], quote: char) -> String {
     let mut written = String::from(quote);
-    for &byte in text {
-        match byte {
-            b'\n' => written.push_str("\\n"),
-            b'\t' => written.push_str("\\t"),
-            b'\\' => written.push_str("\\\\"),
-            b' '..=b'~' if char::from(byte) == quote => written.extend(['\\', quote]),
-            b' '..=b'~' => written.push(char::from(byte)),
-            _ => written.push_str(&format!("\\x{byte:02x}")),
+    for part in text.utf8_chunks() {
+        for c in part.valid().chars() {
+            put(&mut written, c, quote);
+        }
+        for byte in part.invalid() {
+            written.push_str(&format!("\\x{byte:02x}"));
         }
     }
     written.push(quote);

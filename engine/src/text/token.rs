@@ -165,12 +165,12 @@ impl<'a> Lexer<'a> {
     fn quoted(&mut self, quote: char) -> Lexed<Vec<u8>> {
         let start = self.position;
         self.next();
-        let mut bytes = vec![];
+        let mut text = String::new();
         loop {
             let here = self.position;
             match self.next() {
-                Some(end) if end == quote => return Ok(bytes),
-                Some('\\') => bytes.push(self.escaped(here)?),
+                Some(end) if end == quote => return Ok(text.into_bytes()),
+                Some('\\') => text.push(self.escaped(here)?),
                 None | Some('\n') => {
                     let why = format!("this {quote} has no closing {quote} in its line");
                     return Err(TextFault {
@@ -178,30 +178,38 @@ impl<'a> Lexer<'a> {
                         why,
                     });
                 }
-                Some(c) if c.is_ascii() => bytes.push(c as u8),
-                Some(c) => {
-                    let why = format!("`{c}` is not ASCII, and names and texts are");
-                    return Err(TextFault {
-                        position: here,
-                        why,
-                    });
-                }
+                Some(c) => text.push(c),
             }
         }
     }
 
-    fn escaped(&mut self, position: Position) -> Lexed<u8> {
-        let byte = match self.next() {
-            Some('n') => Some(b'\n'),
-            Some('t') => Some(b'\t'),
-            Some(c @ ('\\' | '"' | '`')) => Some(c as u8),
-            Some('x') => self.hex_byte().filter(|byte| *byte < 0x80),
+    fn escaped(&mut self, position: Position) -> Lexed<char> {
+        let c = match self.next() {
+            Some('n') => Some('\n'),
+            Some('t') => Some('\t'),
+            Some(c @ ('\\' | '"' | '`')) => Some(c),
+            Some('x') => self.hex_byte().filter(u8::is_ascii).map(char::from),
+            Some('u') => self.number_in_braces(),
             _ => None,
         };
-        byte.ok_or_else(|| TextFault {
+        c.ok_or_else(|| TextFault {
             position,
-            why: String::from(r#"after \ comes n, t, \, ", ` or x and two hex digits below 80"#),
+            why: String::from(
+                r#"after \ comes n, t, \, ", `, x and two hex digits below 80, or u and a character's number in braces"#,
+            ),
         })
+    }
+
+    /// A character by its number, as `{e9}`.
+    fn number_in_braces(&mut self) -> Option<char> {
+        if self.next() != Some('{') {
+            return None;
+        }
+        let digits = self.taken(|c| c.is_ascii_hexdigit());
+        if self.next() != Some('}') {
+            return None;
+        }
+        char::from_u32(u32::from_str_radix(digits, 16).ok()?)
     }
 
     fn hex_byte(&mut self) -> Option<u8> {

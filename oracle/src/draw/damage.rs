@@ -1,5 +1,5 @@
 //! Damage to a file's bytes: truncations, flipped bits, wrong counts, bytes too
-//! many, and bytes that were never a file.
+//! many, names that are no UTF-8, and bytes that were never a file.
 
 use crate::file::LIMITS;
 use crate::rng::Rng;
@@ -34,6 +34,10 @@ pub fn damaged(rng: &mut Rng) -> Vec<u8> {
     let mut file = super::whole(rng);
     if rng.chance(10) {
         super::fault::faults(rng, &mut file);
+    }
+    if rng.chance(12) {
+        super::names::spoil(rng, &mut file);
+        return write(&file);
     }
     let (mut bytes, offsets) = write_with_offsets(&file);
     let times = 1 + rng.weighted(&[80, 15, 5]);

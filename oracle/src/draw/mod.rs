@@ -4,6 +4,7 @@
 pub mod boundary;
 mod damage;
 mod fault;
+pub mod names;
 mod pattern;
 mod place;
 pub mod plans;

@@ -3,6 +3,8 @@
 use crate::file::{MAX_DEPTH, NONE, Predicate, RuleFile, Type, depths};
 use crate::rng::Rng;
 
+use super::names;
+
 /// How large a file is drawn.
 #[derive(Clone, Copy)]
 pub struct Size {
@@ -45,7 +47,7 @@ impl Size {
 pub fn draw(rng: &mut Rng, size: Size) -> RuleFile {
     let predicates = rng.within(1, size.predicates);
     let mut file = RuleFile {
-        names: (0..size.names).map(|_| name(rng)).collect(),
+        names: (0..size.names).map(|_| names::name(rng)).collect(),
         ..RuleFile::default()
     };
     for _ in 0..size.types {
@@ -57,17 +59,6 @@ pub fn draw(rng: &mut Rng, size: Size) -> RuleFile {
         file.predicates.push(drawn);
     }
     file
-}
-
-fn name(rng: &mut Rng) -> Vec<u8> {
-    let length = rng.weighted(&[8, 40, 25, 15, 8, 4]);
-    let byte = |rng: &mut Rng| match rng.weighted(&[12, 70, 10, 8]) {
-        0 => 0,
-        1 => b"abc"[rng.below(3)],
-        2 => 0x7F,
-        _ => rng.below(0x80) as u8,
-    };
-    (0..length).map(|_| byte(rng)).collect()
 }
 
 fn ty(rng: &mut Rng, file: &RuleFile, predicates: usize) -> Type {

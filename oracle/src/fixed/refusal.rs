@@ -2,6 +2,7 @@
 //! Refusal 2 is not among them: the program's work area is large enough.
 
 use crate::draw::boundary::{full_file, full_section, plan_of_length};
+use crate::draw::names::{CHARACTERS, FAULTS};
 use crate::file::*;
 use crate::rng::Rng;
 use crate::write::{write, write_with_offsets};
@@ -32,20 +33,68 @@ pub fn truncations() -> Vec<Entry> {
 pub fn reading() -> Vec<Entry> {
     let mut found = counts();
     found.extend(kinds());
+    found.extend(names());
     found.extend([
-        raw("6: a name byte 80", edited(1 + 2, 0x80)),
-        raw("a name byte 7f", edited(1 + 2, 0x7F)),
-        raw(
-            "6: a byte 80 in a name that is cut short",
-            vec![1, 0, 9, b'a', 0x80],
-        ),
-        raw("3: a name that is cut short", vec![1, 0, 9, b'a', 0x7F]),
         raw("7: a byte follows", with_end(&[0])),
         raw(
             "7: bytes follow that would be a fault elsewhere",
             with_end(&[0xFF, 0xFF]),
         ),
     ]);
+    found
+}
+
+/// A whole name is judged, a cut one is cut: each fault alone and behind fifteen
+/// letters, with more of the file behind it.
+fn names() -> Vec<Entry> {
+    let named = |name: &[u8]| {
+        let mut file = RuleFile::default();
+        file.names.push(name.to_vec());
+        write(&file)
+    };
+    let mut found = vec![
+        raw("a name byte 7f", edited(1 + 2, 0x7F)),
+        raw("6: a name byte 80", edited(1 + 2, 0x80)),
+        raw(
+            "3: a byte 80 in a name that is cut short",
+            vec![1, 0, 9, b'a', 0x80],
+        ),
+        raw("3: a name that is cut short", vec![1, 0, 9, b'a', 0x7F]),
+        raw(
+            "3: a name that is cut in a character",
+            vec![1, 0, 3, 0xE2, 0x82],
+        ),
+        raw(
+            "6: a character's last byte is the next name's",
+            vec![2, 0, 2, 0xE2, 0x82, 1, 0xAC],
+        ),
+    ];
+    for fault in FAULTS {
+        found.push(raw(format!("6: name {fault:02x?}"), named(fault)));
+        let long = [b"fifteen letters", fault].concat();
+        found.push(raw("6: the same behind fifteen letters", named(&long)));
+    }
+    for character in CHARACTERS {
+        let name = character.to_string();
+        found.push(raw(
+            format!("name U+{:04X}", character as u32),
+            named(name.as_bytes()),
+        ));
+        let long = format!("fifteen letters{name}");
+        found.push(raw(
+            "the same behind fifteen letters",
+            named(long.as_bytes()),
+        ));
+    }
+    let text = |text: &str| one(Type::Str, |s| s.text(text));
+    found.push(entry(
+        "a text of characters of two, three and four bytes",
+        text("\u{E9}\u{20AC}\u{1F600}"),
+    ));
+    found.push(entry(
+        "the same with a zero byte, which is escaped",
+        text("\u{E9}\0\u{E9}"),
+    ));
     found
 }
 
