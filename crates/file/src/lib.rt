@@ -158,7 +158,11 @@ fn text_end(file: &[u8], p: usize, q: usize) -> Step
         r ≡ stepAt (now (file .entry)) (wellFormed bytes) q
         ) ⌝ }
 {
-    if well_formed(&file[p..q]) { Step::Next(q) } else { Step::Refused(6) }
+    if well_formed(&file[p..q]) {
+        Step::Next(q)
+    } else {
+        Step::Refused(6)
+    }
 }
 
 // Where the name at `at` ends: its length, then as many bytes. It is read whole before its bytes are judged.
@@ -171,7 +175,11 @@ pub fn name_end(file: &[u8], at: usize) -> Step
     }
     let n = wide(file[at]);
     let p = at + 1;
-    if n > file.len() - p { Step::Refused(3) } else { text_end(file, p, p + n) }
+    if n > file.len() - p {
+        Step::Refused(3)
+    } else {
+        text_end(file, p, p + n)
+    }
 }
 
 // Where the type at `at` ends: its kind says how many bytes follow.

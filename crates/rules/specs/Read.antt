@@ -302,8 +302,7 @@ file [] = got noTables []
 file (b ∷ bytes) = tenSections (b ∷ bytes)
 
 unfoldable pub openRead : Unit {0}
-unfolding follow _>>=_ pure refuse u8 u16 u32 optional many several kind section openUtf8 wellFormed name fieldTy alternative factTy recordTy unionTy type
-    predicate anchor fieldPattern one two intNode bytesNode fuzzyNode recordNode node path rowSlot keySlot derivedSlot fieldSlot valueSlot
-    constSlot slot binding hoisted fetched constraint op comparison level end tenSections
-    file
+unfolding follow _>>=_ pure refuse u8 u16 u32 optional many several kind section openUtf8 wellFormed name fieldTy alternative factTy
+    recordTy unionTy type predicate anchor fieldPattern one two intNode bytesNode fuzzyNode recordNode node path rowSlot keySlot
+    derivedSlot fieldSlot valueSlot constSlot slot binding hoisted fetched constraint op comparison level end tenSections file
 openRead = tt

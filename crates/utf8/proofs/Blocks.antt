@@ -38,7 +38,7 @@ module _ (high : ℕ) (bytes : List ℕ) (i : ℕ) where
   unfolding greatestOf
   greatest-end h = ap (greatestOf high) (drop-of-length-le bytes h)
 
--- the greatest is none of the bytes' lesser
+-- what was greatest before is not above the greatest
 greatest-over : (high : ℕ) (bytes : List ℕ) → high ≤ greatestOf high bytes
 unfolding greatestOf
 greatest-over high [] = omega arith

@@ -24,11 +24,15 @@ const BLOCK: usize = 16;
 fn wanting(more: u8, low: u8, high: u8) -> Wanted
     ensures { λ r. ⌜ r ≡ record { more = more; low = low; high = high } ⌝ }
 {
-    Wanted { more: more, low: low, high: high }
+    Wanted {
+        more: more,
+        low: low,
+        high: high,
+    }
 }
 
-// What the first byte of a character of three wants.
-fn third(b: u8) -> Wanted
+// What a byte that begins a character of three wants.
+fn lead_of_three(b: u8) -> Wanted
     requires { ⌜ (0xE0 ≤ b) × (b ≤ 0xEF) ⌝ }
     ensures { λ r. ⌜ wants r ≡ begins b ⌝ }
 {
@@ -41,8 +45,8 @@ fn third(b: u8) -> Wanted
     wanting(2, 0x80, 0xBF)
 }
 
-// What a byte of F0 or more wants.
-fn fourth(b: u8) -> Wanted
+// What a byte of F0 or more wants: it begins a character of four, or none.
+fn lead_of_four(b: u8) -> Wanted
     requires { ⌜ 0xF0 ≤ b ⌝ }
     ensures { λ r. ⌜ wants r ≡ begins b ⌝ }
 {
@@ -58,8 +62,8 @@ fn fourth(b: u8) -> Wanted
     wanting(FAULT, 0, 0)
 }
 
-// What a character's first byte wants.
-fn first(b: u8) -> Wanted
+// What a byte wants that stands where a character begins.
+fn lead(b: u8) -> Wanted
     ensures { λ r. ⌜ wants r ≡ begins b ⌝ }
 {
     if b < 0x80 {
@@ -72,9 +76,9 @@ fn first(b: u8) -> Wanted
         return wanting(1, 0x80, 0xBF);
     }
     if b < 0xF0 {
-        return third(b);
+        return lead_of_three(b);
     }
-    fourth(b)
+    lead_of_four(b)
 }
 
 impl Wanted {
@@ -83,7 +87,7 @@ impl Wanted {
         ensures { λ r. ⌜ wants r ≡ after (wants self) b ⌝ }
     {
         if self.more == 0 {
-            return first(b);
+            return lead(b);
         }
         if self.more >= FAULT {
             return self;

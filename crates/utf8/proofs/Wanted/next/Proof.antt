@@ -6,14 +6,14 @@ use Rattle.utf8.proofs.Wanted.next.Statement.{statement}
 use Rattle.utf8.proofs.Wanted.next.Tie as tie
 use Rattle.utf8.proofs.Wanted.next.Reads as reads
 use Rattle.utf8.proofs.Wanted.next.Lts as lts
-use Rattle.utf8.proofs.first.Reads as first-reads
+use Rattle.utf8.proofs.lead.Reads as lead-reads
 use Rattle.utf8.proofs.wanting.Reads as wanting-reads
 
-first-requires : tie.Need-first-requires
-first-requires c κs = search needs
+lead-requires : tie.Need-lead-requires
+lead-requires c κs = search needs
 
 returns : tie.Need-returns
-returns c = c .first .ensures ∙ sym (between-next _ _ (omega arith))
+returns c = c .lead .ensures ∙ sym (between-next _ _ (omega arith))
 
 returns-2 : tie.Need-returns-2
 returns-2 c = fault-next _ _ (omega arith)
@@ -43,7 +43,7 @@ pub next-spec : {M : Type 1} → statement M
 next-spec =
     tie.close
     (tie.spec
-    first-requires
+    lead-requires
     returns
     returns-2
     wanting-requires

@@ -3,12 +3,12 @@ use native.Mathlib.Omega.{arith}
 use Rattle.rules.proofs.Utf8.{begins-one, begins-tail, begins-two}
 use Rattle.utf8.proofs.Nexts.{made}
 use borrow.Author.Needs.{needs}
-use Rattle.utf8.proofs.first.Statement.{statement}
-use Rattle.utf8.proofs.first.Tie as tie
-use Rattle.utf8.proofs.first.Reads as reads
-use Rattle.utf8.proofs.first.Lts as lts
-use Rattle.utf8.proofs.fourth.Reads as fourth-reads
-use Rattle.utf8.proofs.third.Reads as third-reads
+use Rattle.utf8.proofs.lead.Statement.{statement}
+use Rattle.utf8.proofs.lead.Tie as tie
+use Rattle.utf8.proofs.lead.Reads as reads
+use Rattle.utf8.proofs.lead.Lts as lts
+use Rattle.utf8.proofs.lead_of_four.Reads as lead-of-four-reads
+use Rattle.utf8.proofs.lead_of_three.Reads as lead-of-three-reads
 use Rattle.utf8.proofs.wanting.Reads as wanting-reads
 
 wanting-requires : tie.Need-wanting-requires
@@ -29,20 +29,20 @@ wanting-requires-3 c κs = search needs
 returns-3 : tie.Need-returns-3
 returns-3 c = made _ _ _ _ (c .wanting3 .ensures) ∙ sym (begins-two _ (omega arith) (omega arith))
 
-third-requires : tie.Need-third-requires
-third-requires c κs = search needs
+lead-of-three-requires : tie.Need-lead-of-three-requires
+lead-of-three-requires c κs = search needs
 
 returns-4 : tie.Need-returns-4
 returns-4 c = search needs
 
-fourth-requires : tie.Need-fourth-requires
-fourth-requires c κs = search needs
+lead-of-four-requires : tie.Need-lead-of-four-requires
+lead-of-four-requires c κs = search needs
 
 returns-5 : tie.Need-returns-5
 returns-5 c = search needs
 
-pub first-spec : {M : Type 1} → statement M
-first-spec =
+pub lead-spec : {M : Type 1} → statement M
+lead-spec =
     tie.close
     (tie.spec
     wanting-requires
@@ -51,7 +51,7 @@ first-spec =
     returns-2
     wanting-requires-3
     returns-3
-    third-requires
+    lead-of-three-requires
     returns-4
-    fourth-requires
+    lead-of-four-requires
     returns-5)

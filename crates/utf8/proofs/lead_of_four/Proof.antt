@@ -3,10 +3,10 @@ use native.Mathlib.Omega.{arith}
 use Rattle.rules.proofs.Utf8.{begins-F0, begins-F1, begins-F4, begins-above}
 use Rattle.utf8.proofs.Nexts.{made}
 use borrow.Author.Needs.{needs}
-use Rattle.utf8.proofs.fourth.Statement.{statement}
-use Rattle.utf8.proofs.fourth.Tie as tie
-use Rattle.utf8.proofs.fourth.Reads as reads
-use Rattle.utf8.proofs.fourth.Lts as lts
+use Rattle.utf8.proofs.lead_of_four.Statement.{statement}
+use Rattle.utf8.proofs.lead_of_four.Tie as tie
+use Rattle.utf8.proofs.lead_of_four.Reads as reads
+use Rattle.utf8.proofs.lead_of_four.Lts as lts
 use Rattle.utf8.proofs.wanting.Reads as wanting-reads
 
 wanting-requires : tie.Need-wanting-requires
@@ -33,8 +33,8 @@ wanting-requires-4 c κs = search needs
 returns-4 : tie.Need-returns-4
 returns-4 c = made _ _ _ _ (c .wanting4 .ensures) ∙ sym (begins-above _ (omega arith))
 
-pub fourth-spec : {M : Type 1} → statement M
-fourth-spec =
+pub lead-of-four-spec : {M : Type 1} → statement M
+lead-of-four-spec =
     tie.close
     (tie.spec
     wanting-requires
