@@ -1,18 +1,21 @@
 -- Bytes from a place on: one by one, and block by block.
-use mathlib.Core.Bool.{true}
+use mathlib.Core.Bool.{Bool, true, false}
 use mathlib.Core.List.{List, [], _∷_, _++_}
 use mathlib.Core.Option.{Option, none, some}
 use mathlib.Core.Path.{_≡_, refl, sym, ap, _∙_}
 use Prim.Native.Nat.{ℕ, zero, suc, _+_, _-_, _≤_, _<_, min, max}
 use native.Mathlib.Omega.{arith}
 use native.Mathlib.Numerals.{add-one}
-use lib.Dec.{eqb}
+use borrow.Author.Tests.{lt-ltb, le-ltb, ltb-true}
+use lib.Dec.{eqb, ltb}
 use lib.ListN.{length, getD, take, drop, drop-of-length-le, take-append-drop}
 use lib.Seq.{drop-cons, drop-drop}
 use borrow.Rule.Slice.PartMut.{midOf}
+use Rattle.rules.specs.Base.{all}
 use Rattle.rules.specs.Utf8.{Octets, after, afterAll, whole, UTF8-octets}
+use Rattle.rules.proofs.Cases.{by-order}
 use Rattle.rules.proofs.Utf8.{begins-one}
-use Rattle.utf8.specs.Wants.{blockSize, wants, greatestOf}
+use Rattle.utf8.specs.Wants.{blockSize, wants, isLow, greatestOf}
 use Rattle.utf8.specs.declared.Wanted.{Wanted}
 use Rattle.utf8.proofs.Nexts.{between, whole-if}
 
@@ -45,12 +48,12 @@ greatest-over high [] = omega arith
 greatest-over high (b ∷ bytes) = omega (arith, greatest-over (max high b) bytes)
 
 -- bytes below 80 hex are characters of their own
-pub low-bytes : (high : ℕ) (bytes : List ℕ) → greatestOf high bytes < 0x80 → afterAll (some []) bytes ≡ some []
+low-run : (high : ℕ) (bytes : List ℕ) → greatestOf high bytes < 0x80 → afterAll (some []) bytes ≡ some []
 unfolding greatestOf afterAll after
-low-bytes high [] h = refl
-low-bytes high (b ∷ bytes) h =
+low-run high [] h = refl
+low-run high (b ∷ bytes) h =
     let k : b ≤ 0x7F = omega (arith, greatest-over (max high b) bytes) in
-    ap (λ (o : Option (List Octets)). afterAll o bytes) (begins-one b k) ∙ low-bytes (max high b) bytes h
+    ap (λ (o : Option (List Octets)). afterAll o bytes) (begins-one b k) ∙ low-run (max high b) bytes h
 
 after-append : (o : Option (List Octets)) (xs ys : List ℕ) → afterAll o (xs ++ ys) ≡ afterAll (afterAll o xs) ys
 unfolding afterAll
@@ -72,7 +75,7 @@ block-more o o′ bytes at end h e =
 
 -- and one below 80 hex, between two characters
 pub low-block : (w : Wanted) (block : List ℕ) → w .more ≡ 0 → greatestOf 0 block < 0x80 → wants w ≡ afterAll (wants w) block
-low-block w block e h = between w e ∙ sym (low-bytes 0 block h) ∙ ap (λ (o : Option (List Octets)). afterAll o block) (sym (between w e))
+low-block w block e h = between w e ∙ sym (low-run 0 block h) ∙ ap (λ (o : Option (List Octets)). afterAll o block) (sym (between w e))
 
 -- before the first byte nothing is wanted
 pub after-start : (o : Option (List Octets)) (bytes : List ℕ) → o ≡ some [] → afterAll (some []) bytes ≡ afterAll o (drop 0 bytes)
@@ -83,9 +86,44 @@ pub ended : (w : Wanted) (bytes : List ℕ) → wants w ≡ afterAll (some []) b
 unfolding UTF8-octets
 ended w bytes e = sym (whole-if w) ∙ ap whole e
 
-pub ended-from : (w start : Wanted) (bytes : List ℕ) → wants start ≡ some [] → wants w ≡ afterAll (wants start) bytes → eqb (w .more) 0 ≡ UTF8-octets bytes
-ended-from w start bytes s e = ended w bytes (e ∙ ap (λ (o : Option (List Octets)). afterAll o bytes) s)
+-- Bytes below 80 hex, one by one.
+module _ (bytes : List ℕ) (i : ℕ) (h : i < length bytes) where
+  low-here : (t : Bool) → isLow (getD bytes i 0) ≡ t → all isLow (drop i bytes) ≡ elim t [ true ↦ all isLow (drop (i + 1) bytes) | false ↦ false ]
+  unfolding all
+  low-here t e =
+      ap (all isLow) (drop-cons bytes i 0 h)
+      ∙ ap (λ (k : ℕ). elim (isLow (getD bytes i 0)) [ true ↦ all isLow (drop k bytes) | false ↦ false ]) (sym (add-one i))
+      ∙ ap (λ (b : Bool). elim b [ true ↦ all isLow (drop (i + 1) bytes) | false ↦ false ]) e
 
-pub low-text : (bytes : List ℕ) → greatestOf 0 bytes < 0x80 → true ≡ UTF8-octets bytes
+  pub low-more : getD bytes i 0 < 0x80 → all isLow (drop i bytes) ≡ all isLow (drop (i + 1) bytes)
+  unfolding isLow
+  low-more g = low-here true (lt-ltb (getD bytes i 0) 0x80 g)
+
+  pub low-fault : 0x80 ≤ getD bytes i 0 → all isLow (drop i bytes) ≡ false
+  unfolding isLow
+  low-fault g = low-here false (le-ltb (getD bytes i 0) 0x80 g)
+
+pub low-end : (bytes : List ℕ) (i : ℕ) → length bytes ≤ i → all isLow (drop i bytes) ≡ true
+unfolding all
+low-end bytes i h = ap (all isLow) (drop-of-length-le bytes h)
+
+-- and by the greatest of them
+low-all : (high : ℕ) (bytes : List ℕ) → high < 0x80 → all isLow bytes ≡ ltb (greatestOf high bytes) 0x80
+unfolding all isLow greatestOf
+low-all high [] h = sym (lt-ltb high 0x80 h)
+low-all high (b ∷ bytes) h =
+    by-order b 0x80
+    (λ g.
+    let k : max high b < 0x80 = omega arith in
+    ap (λ (t : Bool). elim t [ true ↦ all isLow bytes | false ↦ false ]) (lt-ltb b 0x80 g) ∙ low-all (max high b) bytes k)
+    (λ g.
+    let k : 0x80 ≤ greatestOf (max high b) bytes = omega (arith, greatest-over (max high b) bytes) in
+    ap (λ (t : Bool). elim t [ true ↦ all isLow bytes | false ↦ false ]) (le-ltb b 0x80 g) ∙ sym (le-ltb (greatestOf (max high b) bytes) 0x80 k))
+
+pub low-greatest : (high : ℕ) (bytes : List ℕ) → high ≡ greatestOf 0 bytes → ltb high 0x80 ≡ all isLow bytes
+low-greatest high bytes e = ap (λ (k : ℕ). ltb k 0x80) e ∙ sym (low-all 0 bytes (omega arith))
+
+-- texts of such bytes are well-formed
+pub low-text : (bytes : List ℕ) → all isLow bytes ≡ true → true ≡ UTF8-octets bytes
 unfolding UTF8-octets whole
-low-text bytes h = sym (ap whole (low-bytes 0 bytes h))
+low-text bytes e = sym (ap whole (low-run 0 bytes (ltb-true (greatestOf 0 bytes) 0x80 (sym (low-all 0 bytes (omega arith)) ∙ e))))

@@ -1,7 +1,9 @@
 -- What the code keeps of the bytes that it has seen.
+use mathlib.Core.Bool.{Bool}
 use mathlib.Core.List.{List, [], _∷_}
 use mathlib.Core.Option.{Option, none, some}
 use Prim.Native.Nat.{ℕ, max}
+use lib.Dec.{ltb}
 use lib.ListN.{getD}
 use Rattle.rules.specs.Utf8.{Octets, _to_, UTF8-tail}
 use Rattle.utf8.specs.declared.Wanted.{Wanted}
@@ -16,6 +18,10 @@ ranges r = some [] ∷ some (r ∷ []) ∷ some (r ∷ UTF8-tail ∷ []) ∷ som
 
 unfoldable pub wants : Wanted → Option (List Octets)
 wants w = getD (ranges (w .low to w .high)) (w .more) none
+
+-- a byte that is a character of its own
+unfoldable pub isLow : ℕ → Bool
+isLow b = ltb b 0x80
 
 -- the greatest of the bytes and of one before them
 unfoldable pub greatestOf : ℕ → List ℕ → ℕ

@@ -5,7 +5,8 @@ ghost use mathlib.Core.Option.{some};
 ghost use Prim.Native.Nat.{_+_, _≤_, _<_, min, max};
 ghost use lib.ListN.{length};
 ghost use Rattle.rules.specs.Utf8.{begins, after, afterAll, UTF8-octets};
-ghost use Rattle.utf8.specs.Wants.{blockSize, wants, greatestOf};
+ghost use Rattle.rules.specs.Base.{all};
+ghost use Rattle.utf8.specs.Wants.{blockSize, wants, isLow, greatestOf};
 
 // What the character at hand still wants: how many bytes, and the range of the next one. It is nothing between two characters.
 pub struct Wanted {
@@ -172,15 +173,35 @@ fn after_blocks(bytes: &[u8]) -> Wanted
     w
 }
 
-// Whether the bytes are well-formed. Of a longer text the whole is looked at first: most are ASCII.
+// Whether every byte is below 80 hex, one by one.
+fn low_bytes(bytes: &[u8]) -> bool
+    ensures { λ r. ⌜ r ≡ all isLow (now (bytes .entry)) ⌝ }
+{
+    let mut i: usize = 0;
+    while i < bytes.len() {
+        if bytes[i] >= 0x80 {
+            return false;
+        }
+        i += 1;
+    }
+    true
+}
+
+// The same of a text of any length: a longer one is looked at all at once.
+fn is_ascii(bytes: &[u8]) -> bool
+    ensures { λ r. ⌜ r ≡ all isLow (now (bytes .entry)) ⌝ }
+{
+    if bytes.len() < BLOCK {
+        return low_bytes(bytes);
+    }
+    greatest_byte(bytes) < 0x80
+}
+
+// Whether the bytes are well-formed. Most texts are ASCII, which is looked at first.
 pub fn well_formed(bytes: &[u8]) -> bool
     ensures { λ r. ⌜ r ≡ UTF8-octets (now (bytes .entry)) ⌝ }
 {
-    if bytes.len() < BLOCK {
-        let w = after_bytes(bytes, wanting(0, 0, 0));
-        return w.more == 0;
-    }
-    if greatest_byte(bytes) < 0x80 {
+    if is_ascii(bytes) {
         return true;
     }
     let w = after_blocks(bytes);
