@@ -1,4 +1,4 @@
-// Well-formed UTF-8 by RFC 3629: the bytes of a name in one pass, ASCII runs by the block.
+// Well-formed UTF-8 by RFC 3629: ASCII is looked at first, anything else by the block.
 ghost use mathlib.Core.Path.{_≡_};
 ghost use mathlib.Core.List.{[]};
 ghost use mathlib.Core.Option.{some};
