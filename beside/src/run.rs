@@ -261,8 +261,10 @@ mod tests {
         let (outcome, shown) = run(hasty);
         assert!(outcome.different > SHOWN);
         assert_eq!(shown.len(), SHOWN);
-        for part in ["file ", "smaller ", "expected ", "given    refused 15"] {
+        for part in ["file ", "expected ", "given    refused 15"] {
             assert!(shown[0].contains(part), "{part} in {}", shown[0]);
         }
+        // A file of no bytes has none that is smaller.
+        assert!(shown.iter().any(|text| text.contains("smaller ")));
     }
 }
