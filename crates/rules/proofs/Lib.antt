@@ -18,6 +18,8 @@ pub mod Runs
 pub mod Alone
 -- The bindings as they stand, and the file's.
 pub mod Consts
+-- The flip by its formula and by its table.
+pub mod Flip
 -- Reading back what a plan holds.
 pub mod RoundTrip
 -- The grammar of names.

@@ -88,6 +88,19 @@ pub record Constraint : Type 0 where
 pub data CompareOp : Type 0 where
   Lt Le Gt Ge : CompareOp
 
+-- the ops by their numbers, and back. The last argument of `getD` is never met: every number asked for is below 4.
+abbrev pub compareOps : List CompareOp
+compareOps = CompareOp.Lt ∷ CompareOp.Le ∷ CompareOp.Gt ∷ CompareOp.Ge ∷ []
+
+unfoldable pub opOfNumber : ℕ → CompareOp
+opOfNumber n = getD compareOps n CompareOp.Lt
+
+unfoldable pub opNumber : CompareOp → ℕ
+opNumber CompareOp.Lt = 0
+opNumber CompareOp.Le = 1
+opNumber CompareOp.Gt = 2
+opNumber CompareOp.Ge = 3
+
 pub record Comparison : Type 0 where
   pub op : CompareOp
   pub left : ℕ
@@ -287,6 +300,6 @@ unfoldable pub isConstant : Tables → ℕ → Bool
 isConstant T n = getD (constants T) n false
 
 unfoldable pub openFile : Unit {0}
-unfolding varName recordFields factTy recordTy unionTy nameAt typeAt predicateAt nodeAt fieldPath then payload deepest childTypes depthOf
-    depths depth childNodes constantOf constants isConstant
+unfolding opOfNumber opNumber varName recordFields factTy recordTy unionTy nameAt typeAt predicateAt nodeAt fieldPath then payload deepest
+    childTypes depthOf depths depth childNodes constantOf constants isConstant
 openFile = tt

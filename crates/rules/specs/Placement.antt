@@ -2,10 +2,10 @@
 use mathlib.Core.Bool.{Bool, true, false}
 use mathlib.Core.List.{List, [], _∷_, _++_}
 use mathlib.Core.Option.{Option, none, some}
-use Prim.Native.Nat.{ℕ, suc, _+_}
+use Prim.Native.Nat.{ℕ, suc, _+_, _%_}
 use lib.Dec.{eqb}
 use Rattle.rules.specs.Base.{both, _whenSome_ as _>>=_}
-use Rattle.rules.specs.File.{Tables, Anchor, FieldPath, CompareOp, Comparison, nodeAt, varName}
+use Rattle.rules.specs.File.{Tables, Anchor, FieldPath, CompareOp, Comparison, opOfNumber, opNumber, nodeAt, varName}
 use Rattle.rules.specs.Constant.{unionTag, term, bytesOnly, constant}
 use Rattle.rules.specs.Lookup.{samePath}
 use Rattle.rules.specs.Events.{Narrowing, Event}
@@ -234,12 +234,9 @@ unfoldable pub placeCloser : ℕ → List Bool → SeekBuilder → SeekBuilder
 placeCloser n [] b = b
 placeCloser n (held ∷ outer) b = closePart n held (withOpened outer b)
 
--- Rust `flipped`: a table of four
+-- Rust `flipped`; request [5]: the "formula over the op's number: add 2, remainder by 4"
 unfoldable pub flipped : CompareOp → CompareOp
-flipped CompareOp.Lt = CompareOp.Gt
-flipped CompareOp.Le = CompareOp.Ge
-flipped CompareOp.Gt = CompareOp.Lt
-flipped CompareOp.Ge = CompareOp.Le
+flipped op = opOfNumber ((opNumber op + 2) % 4)
 
 -- what a Var is compared with, read from the Var's side
 pub record Compared : Type 0 where

@@ -1,6 +1,6 @@
 -- "Refusals, by place", reading: 3 to 7, the first fault met front to back.
 use mathlib.Core.Bool.{true, false}
-use mathlib.Core.List.{List, [], _∷_}
+use mathlib.Core.List.{List, [], _∷_, map}
 use mathlib.Core.Option.{Option, none, some}
 use Prim.Native.Nat.{ℕ, zero, suc, _+_, _*_}
 use lib.ListN.{getD}
@@ -8,8 +8,8 @@ use lib.Dec.{leb, eqb}
 use Rattle.rules.specs.Limits.{nameLimit, typeLimit, predicateLimit, nodeLimit, bindingLimit, hoistedLimit, fetchedLimit}
 use Rattle.rules.specs.Limits.{constraintLimit, comparisonLimit, levelLimit}
 use Rattle.rules.specs.File.{Tables, FieldTy, Alternative, Ty, Predicate, Anchor, FieldPattern, Node, FieldPath, Slot, Binding}
+use Rattle.rules.specs.File.{Hoisted, Fetched, Constraint, CompareOp, compareOps, Comparison, LevelEntry, noTables}
 use Rattle.rules.specs.Utf8.{UTF8-octets, openUtf8}
-use Rattle.rules.specs.File.{Hoisted, Fetched, Constraint, CompareOp, Comparison, LevelEntry, noTables}
 
 -- what was read and the bytes after it, or the number of the refusal
 pub data Read (A : Type 0) : Type 0 where
@@ -248,7 +248,7 @@ constraint = do
   pure (record { name = x; node = n })
 
 unfoldable pub op : Reader CompareOp
-op = kind (pure CompareOp.Lt ∷ pure CompareOp.Le ∷ pure CompareOp.Gt ∷ pure CompareOp.Ge ∷ [])
+op = kind (map pure compareOps)
 
 unfoldable pub comparison : Reader Comparison
 comparison = do
