@@ -2,7 +2,7 @@
 use Prim.Native.Nat.{ℕ, zero, suc, _+_, _*_, _-_, _≤_, _<_}
 use mathlib.Core.Path.{_≡_, refl, sym, ap, _∙_, subst}
 use mathlib.Core.Bool.{Bool, true, false}
-use mathlib.Core.List.{List, [], _∷_, _++_}
+use mathlib.Core.List.{List, [], _∷_, _++_, map}
 use native.Mathlib.Omega.{arith}
 use native.Mathlib.Nat.{mul-le-mul}
 use borrow.Author.Tests.{leb-true}
@@ -12,7 +12,7 @@ use lib.Seq.{drop-drop, length-take-le}
 use Rattle.rules.specs.Utf8.{UTF8-octets}
 use Rattle.rules.proofs.Utf8.{bytes-whole}
 use Rattle.rules.specs.Base.{all}
-use Rattle.rules.specs.File.{Ty, Node, Slot, Anchor, CompareOp}
+use Rattle.rules.specs.File.{Ty, Node, Slot, Anchor, CompareOp, compareOps, opOfNumber}
 use Rattle.rules.specs.Read.{Reader, follow, _>>=_, pure, refuse, u8, u16, many, several, kind, section, wellFormed, name, fieldTy, alternative, factTy, recordTy, unionTy, type, predicate, anchor, fieldPattern, one, two, intNode, bytesNode, fuzzyNode, recordNode, node, path, rowSlot, keySlot, derivedSlot, fieldSlot, valueSlot, constSlot, slot, binding, hoisted, fetched, constraint, op, comparison, level}
 use Rattle.rules.specs.Read.Read.{got, refused}
 use Rattle.file.specs.Steps.{readAt, stepAt, skim, recordOf}
@@ -129,14 +129,15 @@ node-fixed (suc (suc (suc (suc (suc (suc (suc (suc (suc (suc (suc (suc (suc (suc
 bytes-alike : {A : Type 0} (f : List ℕ) (n : ℕ) {r : Reader A} → Fixed n r → (p : ℕ) → stepAt f r p ≡ stepAt f (many n u8) p
 bytes-alike f n x p = alike-step f (alike-fixed n x (fixed-bytes n)) p
 
-abbrev opReaders : List (Reader CompareOp)
-opReaders = pure CompareOp.Lt ∷ pure CompareOp.Le ∷ pure CompareOp.Gt ∷ pure CompareOp.Ge ∷ []
+abbrev pub opReaders : List (Reader CompareOp)
+opReaders = map pure compareOps
 
-op-known : (k : ℕ) → k < 4 → (o : CompareOp) × (getD opReaders k (refuse 5) ≡ pure o)
-op-known zero h = (CompareOp.Lt, refl)
-op-known (suc zero) h = (CompareOp.Le, refl)
-op-known (suc (suc zero)) h = (CompareOp.Gt, refl)
-op-known (suc (suc (suc zero))) h = (CompareOp.Ge, refl)
+pub op-known : (k : ℕ) → k < 4 → getD opReaders k (refuse 5) ≡ pure (opOfNumber k)
+unfolding opOfNumber
+op-known zero h = refl
+op-known (suc zero) h = refl
+op-known (suc (suc zero)) h = refl
+op-known (suc (suc (suc zero))) h = refl
 op-known (suc (suc (suc (suc k)))) h = absurd (omega arith)
 
 -- each size is small
@@ -299,8 +300,7 @@ module _ (f : List ℕ) (p : ℕ) where
     pub comparison-in : k < 4 → stepAt f comparison p ≡ stepAt f (many 4 u8) (p + 1)
     unfolding comparison op readAt pure
     comparison-in g =
-        let o = op-known k g in
-        step-same f _ _ _ _ (then-got f op _ p (o .0) (p + 1) (kind-in f p opReaders h ∙ ap (λ (j : ℕ). getD opReaders j (refuse 5) (drop (p + 1) f)) (sym e) ∙ ap (λ (r : Reader CompareOp). r (drop (p + 1) f)) (o .1)))
+        step-same f _ _ _ _ (then-got f op _ p (opOfNumber k) (p + 1) (kind-in f p opReaders h ∙ ap (λ (j : ℕ). getD opReaders j (refuse 5) (drop (p + 1) f)) (sym e) ∙ ap (λ (r : Reader CompareOp). r (drop (p + 1) f)) (op-known k g)))
         ∙ bytes-alike f 4 (fixed-bind 2 2 fixed-u16 (λ l. fixed-bind 2 0 fixed-u16 (λ r. fixed-pure _))) (p + 1)
 
   pub type-cut : length f ≤ p → stepAt f type p ≡ Refused 3

@@ -10,16 +10,16 @@ use lib.ListN.{length, getD, drop, List·getD-eq-default}
 use lib.Dec.{eqb}
 use borrow.Author.Tests.{eq-eqb, ne-eqb}
 use Rattle.rules.specs.File as File
-use Rattle.rules.specs.File.{Ty, nameAt, typeAt, predicateAt}
+use Rattle.rules.specs.File.{Ty, opOfNumber, nameAt, typeAt, predicateAt}
 use Rattle.rules.specs.Utf8.{UTF8-octets}
 use Rattle.rules.specs.Read.{Read, Reader, _>>=_, pure, refuse, u8, optional, many, several, kind, wellFormed, name, type, factTy, recordTy, unionTy, predicate, node, one, two, hoisted, fetched, constraint, op, comparison, level}
 use Rattle.rules.specs.Read.Read.{got}
 use Rattle.file.specs.Steps.{word, readAt, baseOf}
 use Rattle.file.specs.Tables.{Stands, Section, Indexed, tablesOf}
 use Rattle.file.proofs.Readers.{lt-or-le, refused-got, bind-inv, then-got, then-refused, kind-in, kind-out, needs-fixed, needs-first, fixed-bind, fixed-pure, fixed-u8, fixed-u16}
-use Rattle.file.proofs.Leaves.{typeReaders, fixed-fieldTy, fixed-alternative, fixed-predicate, fixed-hoisted, fixed-constraint, fixed-level}
+use Rattle.file.proofs.Leaves.{typeReaders, opReaders, op-known, fixed-fieldTy, fixed-alternative, fixed-predicate, fixed-hoisted, fixed-constraint, fixed-level}
 use Rattle.file.proofs.Sections.{word-then}
-use Rattle.views.specs.Views.{sizeOf, startAt, run, byteAt, orNone, opKind, textView, typeViews, typeView, predicateMaybe, predicateOption, SeenType, SeenText, hoistedAt, constraintAt, comparisonAt, levelEntryAt}
+use Rattle.views.specs.Views.{sizeOf, startAt, run, byteAt, orNone, textView, typeViews, typeView, predicateMaybe, predicateOption, SeenType, SeenText, hoistedAt, constraintAt, comparisonAt, levelEntryAt}
 use Rattle.views.specs.declared.TextView.{TextView}
 use Rattle.views.specs.declared.TypeView.{TypeView}
 use Rattle.views.specs.declared.TypeView.the-variants as Tv
@@ -62,17 +62,6 @@ chosen {A} {B} f rs v k p b rest x e =
     (lt-or-le (getD f p 0) (length rs)))
     (λ h. absurd (refused-got (sym (then-refused f (kind rs) k p 3 (kind-out f p rs h)) ∙ e)))
     (lt-or-le p (length f))
-
-abbrev opReaders : List (Reader File.CompareOp)
-opReaders = pure File.CompareOp.Lt ∷ pure File.CompareOp.Le ∷ pure File.CompareOp.Gt ∷ pure File.CompareOp.Ge ∷ []
-
-op-known : (j : ℕ) → j < 4 → getD opReaders j (refuse 5) ≡ pure (opKind j)
-unfolding opKind
-op-known zero h = refl
-op-known (suc zero) h = refl
-op-known (suc (suc zero)) h = refl
-op-known (suc (suc (suc zero))) h = refl
-op-known (suc (suc (suc (suc j)))) h = absurd (omega arith)
 
 -- a name that was read: its bytes, as they stand
 name-bytes : (f : List ℕ) (p : ℕ) (xs rest : List ℕ) → readAt f name p ≡ got xs rest → Counts f 1 (finds-byte f) p xs rest
@@ -144,14 +133,14 @@ module _ (f ix : List ℕ) (x : Indexed f ix) (t p : ℕ) where
 
   -- a comparison: its op, then two numbers
   pub comparison-here : t < length (tablesOf f .comparisons) → p ≡ getD ix (baseOf 8 + 1 + t) 0
-      → (p + 5 ≤ length f) × (getD f p 0 < 4) × (_≡_ {A = File.Comparison} (record { op = opKind (getD f p 0); left = word f (p + 1); right = word f (p + 3) }) (comparisonAt (tablesOf f) t))
+      → (p + 5 ≤ length f) × (getD f p 0 < 4) × (_≡_ {A = File.Comparison} (record { op = opOfNumber (getD f p 0); left = word f (p + 1); right = word f (p + 3) }) (comparisonAt (tablesOf f) t))
   unfolding comparisonAt comparison op
   comparison-here h e =
       let y = stands-at (x .comparisons) t p (record { op = File.CompareOp.Lt; left = 0; right = 0 }) h e in
-      let c = chosen f opReaders opKind _ p _ (y .rest) op-known (y .reads) in
+      let c = chosen f opReaders opOfNumber _ p _ (y .rest) op-known (y .reads) in
       let m : p + 1 + 4 ≤ length f = needs-room f 4 (p + 1) (omega arith) (needs-fixed 4 (fixed-bind 2 2 fixed-u16 (λ l. fixed-bind 2 0 fixed-u16 (λ r. fixed-pure _)))) (c .then) in
       let z : p + 1 + 2 ≡ p + 3 = omega arith in
-      (omega arith, c .known, ap (λ (j : ℕ). record { op = opKind (getD f p 0); left = word f (p + 1); right = word f j }) (sym z) ∙ value-of (two-in f (p + 1) _ m) (c .then))
+      (omega arith, c .known, ap (λ (j : ℕ). record { op = opOfNumber (getD f p 0); left = word f (p + 1); right = word f j }) (sym z) ∙ value-of (two-in f (p + 1) _ m) (c .then))
 
 -- types
 module _ (f ix : List ℕ) (x : Indexed f ix) (t p : ℕ) (h : t < length (tablesOf f .types)) (e : p ≡ getD ix (baseOf 1 + 1 + t) 0) where

@@ -91,12 +91,9 @@ pastPath f p = p + 3 + 4 * getD f (p + 2) 0
 unfoldable pub orNone : ℕ → Option ℕ
 orNone n = elim (eqb n 65535) [ true ↦ none | false ↦ some n ]
 
--- an anchor and an op by their byte
+-- an anchor by its byte
 unfoldable pub anchorKind : ℕ → File.Anchor
 anchorKind b = getD (File.Anchor.Prefix ∷ File.Anchor.Whole ∷ []) b File.Anchor.Prefix
-
-unfoldable pub opKind : ℕ → File.CompareOp
-opKind b = getD (File.CompareOp.Lt ∷ File.CompareOp.Le ∷ File.CompareOp.Gt ∷ File.CompareOp.Ge ∷ []) b File.CompareOp.Lt
 
 -- the code's anchor by its byte, and its predicate where FFFF hex stands for none
 unfoldable pub anchorAt : ℕ → Anchor

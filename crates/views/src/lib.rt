@@ -4,12 +4,12 @@ ghost use mathlib.Core.Path.{_≡_};
 ghost use Prim.Native.Nat.{_+_, _*_, _≤_, _<_};
 ghost use lib.ListN.{length, getD};
 ghost use Rattle.rules.specs.Limits.{stepLimit};
-ghost use Rattle.rules.specs.File.{nameAt, typeAt, predicateAt, nodeAt};
+ghost use Rattle.rules.specs.File.{opOfNumber, opNumber, nameAt, typeAt, predicateAt, nodeAt};
 ghost use Rattle.file.specs.Sections as Sections;
 ghost use Rattle.file.specs.Steps.{word, sectionCount, limitOf, indexLength};
 ghost use Rattle.file.specs.Tables.{Indexed, tablesOf};
 ghost use Rattle.paths.specs.Paths.{pathFor, Holds};
-ghost use Rattle.views.specs.Views.{sizeOf, startAt, pathAt, pastPath, long, orNone, anchorAt, opKind, opOf, typeOption, predicateMaybe, textView, typeView, nodeView, typeEntry, nodeEntry, bindingView, fetchedView, fieldAt, alternativeAt, patternAt, fieldOf, alternativeOf, patternOf, predicateOf, bindingAt, hoistedAt, fetchedAt, constraintAt, comparisonAt, levelEntryAt, hoistedOf, constraintOf, comparisonOf, levelOf, PathInside, SeenType, SeenNode, SeenBinding, SeenFetched, SeenText};
+ghost use Rattle.views.specs.Views.{sizeOf, startAt, pathAt, pastPath, long, orNone, anchorAt, opOf, typeOption, predicateMaybe, textView, typeView, nodeView, typeEntry, nodeEntry, bindingView, fetchedView, fieldAt, alternativeAt, patternAt, fieldOf, alternativeOf, patternOf, predicateOf, bindingAt, hoistedAt, fetchedAt, constraintAt, comparisonAt, levelEntryAt, hoistedOf, constraintOf, comparisonOf, levelOf, PathInside, SeenType, SeenNode, SeenBinding, SeenFetched, SeenText};
 use file::BINDINGS;
 use file::COMPARISONS;
 use file::CONSTRAINTS;
@@ -457,10 +457,22 @@ pub fn constraint_at(file: &[u8], index: &[u16], k: usize) -> Constraint
     }
 }
 
-// A comparison's op by its byte.
-fn compare_op(b: u8) -> CompareOp
+// The number of a comparison's op.
+pub fn op_number(op: CompareOp) -> u8
+    ensures { λ r. ⌜ r ≡ opNumber (opOf op) ⌝ }
+{
+    match op {
+        CompareOp::Lt => 0,
+        CompareOp::Le => 1,
+        CompareOp::Gt => 2,
+        CompareOp::Ge => 3,
+    }
+}
+
+// A comparison's op by its number.
+pub fn compare_op(b: u8) -> CompareOp
     requires { ⌜ b < 4 ⌝ }
-    ensures { λ r. ⌜ opOf r ≡ opKind b ⌝ }
+    ensures { λ r. ⌜ opOf r ≡ opOfNumber b ⌝ }
 {
     match b {
         0 => CompareOp::Lt,
