@@ -3,19 +3,16 @@ use mathlib.Core.Path.{_≡_, refl, sym, ap, _∙_}
 use mathlib.Core.Bool.{Bool, false}
 use mathlib.Core.List.{List, []}
 use mathlib.Core.Option.{Option, none, some, Option·getD}
-use Prim.Native.Nat.{ℕ, _≤_, min}
+use Prim.Native.Nat.{ℕ, _≤_, _<_, min}
 use native.Mathlib.Omega.{arith}
 use lib.Dec.{eqb}
 use lib.ListN.{length}
 use Rattle.rules.specs.Base.{_whenSome_}
-use Rattle.rules.specs.File.{Tables, CompareOp, nodeAt, varName}
+use Rattle.rules.specs.File.{Tables, CompareOp, opNumber, nodeAt, varName}
 use Rattle.rules.specs.Constant as ConstantRules
 use Rattle.rules.specs.Constant.{bytesOnly}
-use Rattle.rules.specs.Placement.{isVar, flipped}
-use Rattle.views.specs.Views.{opOf}
+use Rattle.rules.specs.Placement.{isVar}
 use Rattle.views.specs.declared.Anchor.{Anchor}
-use Rattle.views.specs.declared.CompareOp as CodeOp
-use Rattle.views.specs.declared.CompareOp.the-variants as Op
 use Rattle.tables.specs.Tables.{foundOption}
 use Rattle.tables.specs.declared.Found.{Found}
 use Rattle.tables.specs.declared.Found.the-variants as Fo
@@ -97,19 +94,10 @@ module _ (T : Tables) (x n : ℕ) (r : Found) (e : foundOption r ≡ varName (no
   unfolding isVar
   var-none h = ap is (ap foundOption (sym h) ∙ e)
 
-module _ (op : CodeOp.CompareOp) where
-  pub lt-flips : op ≡ Op.Lt → CompareOp.Gt ≡ flipped (opOf op)
-  unfolding flipped
-  lt-flips e = ap (λ o. flipped (opOf o)) (sym e)
-
-  pub le-flips : op ≡ Op.Le → CompareOp.Ge ≡ flipped (opOf op)
-  unfolding flipped
-  le-flips e = ap (λ o. flipped (opOf o)) (sym e)
-
-  pub gt-flips : op ≡ Op.Gt → CompareOp.Lt ≡ flipped (opOf op)
-  unfolding flipped
-  gt-flips e = ap (λ o. flipped (opOf o)) (sym e)
-
-  pub ge-flips : op ≡ Op.Ge → CompareOp.Le ≡ flipped (opOf op)
-  unfolding flipped
-  ge-flips e = ap (λ o. flipped (opOf o)) (sym e)
+-- an op's number is one of four
+pub number-below : (op : CompareOp) → opNumber op < 4
+unfolding opNumber
+number-below CompareOp.Lt = omega arith
+number-below CompareOp.Le = omega arith
+number-below CompareOp.Gt = omega arith
+number-below CompareOp.Ge = omega arith

@@ -20,8 +20,10 @@ use constant::constant;
 use tables::Found;
 use tables::var_name;
 use views::CompareOp;
+use views::compare_op;
 use views::comparison_at;
 use views::count_of;
+use views::op_number;
 
 // Whether a node is the variable of that name.
 fn is_var(file: &[u8], index: &[u16], node: usize, name: usize) -> bool
@@ -39,12 +41,7 @@ fn is_var(file: &[u8], index: &[u16], node: usize, name: usize) -> bool
 fn flipped(op: CompareOp) -> CompareOp
     ensures { λ r. ⌜ opOf r ≡ flipped (opOf op) ⌝ }
 {
-    match op {
-        CompareOp::Lt => CompareOp::Gt,
-        CompareOp::Le => CompareOp::Ge,
-        CompareOp::Gt => CompareOp::Lt,
-        CompareOp::Ge => CompareOp::Le,
-    }
+    compare_op((op_number(op) + 2) % 4)
 }
 
 // Of two edges, the first for the upper sense, the second for the lower.
