@@ -1,5 +1,5 @@
 -- Demand 3, of every accepted file.
-use mathlib.Core.List.{List, [], _∷_, _++_, append-nil}
+use mathlib.Core.List.{List, [], _∷_, _++_}
 use mathlib.Core.Option.{Option, none, some}
 use mathlib.Core.Path.{_≡_, refl, sym, ap, _∙_, subst}
 use Prim.Native.Nat.{ℕ, zero, suc, _+_, _<_, min}
@@ -26,16 +26,11 @@ use Rattle.rules.proofs.Consts.{levels-now}
 use Rattle.rules.proofs.Demand1.{Ended, ended, numbered}
 use Rattle.rules.proofs.Numbers.{refused≢got}
 use Rattle.rules.proofs.Lists.{AddsTo, adds-keeps, Onwards, onwards-same, onwards-next}
-use Rattle.rules.proofs.Nested.{Nested, Emits, emits-keeps}
+use Rattle.rules.proofs.Emits.{level-emits}
+use Rattle.rules.proofs.Nested.{balanced, nested}
 use Rattle.rules.proofs.Kept.{kept}
 
 module _ (T : Tables) (S : Sound T) where
-  -- the events of one level's walk end their tags
-  nested-level : (l : LevelEntry) → l .predicate < length (T .predicates) → (lists : Lists) → Each (BindingOk T) (lists .bindings) → Nested 0 (walkLevel T l lists .events)
-  nested-level l h lists fit =
-      let a = walk-keeps T S Emits (emits-keeps T) l h lists fit .0 in
-      subst (Nested 0) (append-nil (a .emitted) ∙ sym (a .events-end)) (a .balanced 0 [] tt)
-
   pub one-level : (l : LevelEntry) → l .predicate < length (T .predicates) → (lists : Lists) → Each (BindingOk T) (lists .bindings) → LevelKept T l lists (level T l lists)
   unfolding level levelOf
   one-level l h lists fit =
@@ -44,7 +39,7 @@ module _ (T : Tables) (S : Sound T) where
         events-walked = refl;
         lists-walked = refl;
         placed = refl;
-        kept = kept T (walkLevel T l lists .events) (nested-level l h lists fit);
+        kept = kept T (walkLevel T l lists .events) (nested (walkLevel T l lists .events) (level-emits _ balanced T S l h lists fit));
         adds = walk-keeps T S AddsTo (adds-keeps T) l h lists fit .0;
       }
 

@@ -326,10 +326,10 @@ placed-all T (Event.bound x t ∷ Event.closer made ∷ es) n b s h = absurd h
 placed-all T (Event.bound x t ∷ Event.bound y u ∷ es) n b s h = absurd h
 
 -- Building never returns, and without building no part is made and no closer taken: of any event.
-record Fallen (b b′ : SeekBuilder) : Type 0 where
-  building : b′ .building ≡ false
-  parts : b′ .parts ≡ b .parts
-  closers : b′ .closers ≡ b .closers
+pub record Fallen (b b′ : SeekBuilder) : Type 0 where
+  pub building : b′ .building ≡ false
+  pub parts : b′ .parts ≡ b .parts
+  pub closers : b′ .closers ≡ b .closers
 
 fallen-part : (made : ℕ) (part : SeekKeyPart) (path : FieldPath) (op : Narrowing) (b : SeekBuilder) → b .building ≡ false → Fallen b (placePart made part path op b)
 unfolding placePart withPart withResidual
@@ -356,7 +356,7 @@ fallen T Event.skip b h = record { building = refl; parts = refl; closers = refl
 fallen T (Event.closer made) b h = fallen-closer made (b .opened) b h
 fallen T (Event.bound x t) b h = by-test (Fallen b) (b .building) (λ e. absurd (true≢false (sym e ∙ h))) (λ e. record { building = h; parts = refl; closers = refl })
 
-fallen-all : (T : Tables) (es : List Event) (b : SeekBuilder) → b .building ≡ false → Fallen b (placeAll T es b)
+pub fallen-all : (T : Tables) (es : List Event) (b : SeekBuilder) → b .building ≡ false → Fallen b (placeAll T es b)
 unfolding placeAll
 fallen-all T [] b h = record { building = h; parts = refl; closers = refl }
 fallen-all T (e ∷ es) b h =

@@ -30,9 +30,12 @@ pub mod Numbers
 pub mod Demand1
 -- Demand 3.
 pub mod Lists
+pub mod Emits
 pub mod Nested
 pub mod Kept
 pub mod Demand3
+-- A closer and its tag.
+pub mod Closers
 -- What later code leans on.
 pub mod Paths
 -- The plan reader.
