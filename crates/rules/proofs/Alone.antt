@@ -31,7 +31,7 @@ nothing-kept T =
       report = λ n code s. s;
       narrow = λ n path x s. s;
       skip = λ s. s;
-      closer = λ n before s. s;
+      closer = λ n s. s;
       bound = λ x t s. s;
     }
 
@@ -41,7 +41,7 @@ any-numbers T = record { scalar = tt; first = λ t i fs e l. tt; next = λ p t i
 alone : (T : Tables) (address : ℕ) (M : Walk → Walk → Type 0) → Sim T Any Any (nothing-kept T) (λ s. true) address M (λ w s. Nothing)
 alone T address M =
     record {
-      idle = λ s e. record { bind = λ x slot. refl; constrained = λ x. refl; select = λ a path disc. refl; report = λ n code. refl; narrow = λ n path x. refl; skip = refl; closer = λ n before. refl; bound = λ x t. refl };
+      idle = λ s e. record { bind = λ x slot. refl; constrained = λ x. refl; select = λ a path disc. refl; report = λ n code. refl; narrow = λ n path x. refl; skip = refl; closer = λ n. refl; bound = λ x t. refl };
       stays = λ a a′ s e m r. tt;
       lookups = λ a s f e r x. absurd (true≢false e);
       reported = λ a b s s′ e e′ r r′. absurd (true≢false e);
@@ -57,7 +57,7 @@ alone T address M =
       registers = λ m n at p a s h h′ r. tt;
       facts = λ m n p a s h r. tt;
       tags = λ m d p a s h r. tt;
-      closers = λ m d p a a′ s s′ h r g on r′. tt;
+      closers = λ m a s r. tt;
     }
 
 -- a level of an accepted file, from bindings that fit

@@ -178,7 +178,7 @@ now-runs T address =
       registers = λ m n at p a c s s′ r. now-meet T (Event.narrow m p (Narrowing.RegisterField n at)) a c r;
       facts = λ m n p a c s r. now-meet T (Event.narrow m p (Narrowing.FactId n)) a c r;
       tags = λ m d p a c s r. now-meet T (Event.narrow m p (Narrowing.Tag d)) a c r;
-      closers = λ m d p a a′ c c′ s r g on r′. now-meet T (Event.closer m) a′ c′ r′;
+      closers = λ m a c r. now-meet T (Event.closer m) a c r;
     }
 
 module _ (T : Tables) (S : Sound T) where

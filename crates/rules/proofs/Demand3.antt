@@ -27,7 +27,7 @@ use Rattle.rules.proofs.Demand1.{Ended, ended, numbered}
 use Rattle.rules.proofs.Numbers.{refused≢got}
 use Rattle.rules.proofs.Lists.{AddsTo, adds-keeps, Onwards, onwards-same, onwards-next}
 use Rattle.rules.proofs.Emits.{level-emits}
-use Rattle.rules.proofs.Nested.{balanced, nested}
+use Rattle.rules.proofs.Skipped.{skipped, all-skipped}
 use Rattle.rules.proofs.Kept.{kept}
 
 module _ (T : Tables) (S : Sound T) where
@@ -39,7 +39,7 @@ module _ (T : Tables) (S : Sound T) where
         events-walked = refl;
         lists-walked = refl;
         placed = refl;
-        kept = kept T (walkLevel T l lists .events) (nested (walkLevel T l lists .events) (level-emits _ balanced T S l h lists fit));
+        kept = kept T (walkLevel T l lists .events) (all-skipped (walkLevel T l lists .events) (level-emits _ skipped T S l h lists fit));
         adds = walk-keeps T S AddsTo (adds-keeps T) l h lists fit .0;
       }
 

@@ -8,7 +8,7 @@ use Rattle.rules.specs.File.{Tables, FieldPath, LevelEntry}
 use Rattle.rules.specs.Constant.{Const}
 use Rattle.rules.specs.Events.{Narrowing, Event, Lists, Walk, bind, constrained, select, report, emit}
 use Rattle.rules.specs.Walk.{narrowing, walkLevel}
-use Rattle.rules.specs.Levels.{Level, levelOf, level, levelsFrom}
+use Rattle.rules.specs.Levels.{levelOf, level, levelsFrom}
 use Rattle.rules.proofs.Sound.{BindingOk, Sound}
 use Rattle.rules.proofs.Keeps.{Keeps, narrow, skip}
 use Rattle.rules.proofs.Alone.{walk-keeps}

@@ -68,7 +68,7 @@ module _ (flip : CompareOp → CompareOp) where
   unfoldable pub place : Tables → Event → SeekBuilder → SeekBuilder
   place T (Event.narrow n path x) b = placeNarrowing n path x b
   place T Event.skip b = fall b
-  place T (Event.closer n) b = placeCloser n (b .opened) b
+  place T (Event.closer n) b = placeCloser n b
   place T (Event.bound x t) b = placeBound T x t b
 
   unfoldable pub placeAll : Tables → List Event → SeekBuilder → SeekBuilder

@@ -22,7 +22,7 @@ pub record Idle {S : Type 0} (o : Ops S) (s : S) : Type 0 where
   pub report : (n : ℕ) (code : Code) → o .report n code s ≡ s
   pub narrow : (n : ℕ) (path : FieldPath) (x : Narrowing) → o .narrow n path x s ≡ s
   pub skip : o .skip s ≡ s
-  pub closer : (n : ℕ) (before : S) → o .closer n before s ≡ s
+  pub closer : (n : ℕ) → o .closer n s ≡ s
   pub bound : (x t : ℕ) → o .bound x t s ≡ s
 
 module _ {S : Type 0} (o : Ops S) (T : Tables) (s : S) (I : Idle o s) where
@@ -200,9 +200,9 @@ module _ {S : Type 0} (o : Ops S) (T : Tables) (s : S) (I : Idle o s) where
     unfolding injectAlternative
     idle-injectAlternative n f none path = reported n Code.RejectUnknownAlternative
     idle-injectAlternative n f (some alt) path =
-        ap (λ w. o .closer n s (below (f .node) (alt .type) (payload path (alt .disc)) w)) (I .narrow n path _)
-        ∙ ap (o .closer n s) (B (f .node) (alt .type) (payload path (alt .disc)))
-        ∙ I .closer n s
+        ap (λ w. o .closer n (below (f .node) (alt .type) (payload path (alt .disc)) w)) (I .narrow n path _)
+        ∙ ap (o .closer n) (B (f .node) (alt .type) (payload path (alt .disc)))
+        ∙ I .closer n
 
     pub idle-injectOnly : (n : ℕ) (f : Option FieldPattern) (alts : List Alternative) (path : FieldPath) → injectOnly o T address below n f alts path s ≡ s
     unfolding injectOnly

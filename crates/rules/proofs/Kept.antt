@@ -1,24 +1,24 @@
--- Placement of events whose closers end their tags and whose bounds a skip follows: what demand 3 says of one level.
-use mathlib.Core.Bool.{Bool, true, false}
+-- Placement of events whose bounds a skip follows: what demand 3 says of one level.
+use mathlib.Core.Bool.{true, false}
 use mathlib.Core.List.{List, [], _∷_, _++_, append-nil, append-assoc}
 use mathlib.Core.Option.{Option, none, some}
 use mathlib.Core.Path.{_≡_, refl, sym, ap, _∙_, subst}
-use Prim.Native.Nat.{ℕ, zero, suc, _+_, _-_, _≤_, _<_}
+use Prim.Native.Nat.{ℕ, suc, _+_, _-_, _≤_, _<_}
 use native.Mathlib.Omega.{arith}
 use lib.Dec.{eqb}
 use lib.ListN.{length, take, drop, length-append}
 use lib.Seq.{take-add}
-use Rattle.rules.specs.Base.{Each, done, more, both, concatMap}
+use Rattle.rules.specs.Base.{concatMap}
 use Rattle.rules.specs.File.{Tables, FieldPath, Anchor, CompareOp, Comparison}
-use Rattle.rules.specs.Constant.{unionTag, term}
+use Rattle.rules.specs.Constant.{term}
 use Rattle.rules.specs.Lookup.{sameSteps, samePath}
 use Rattle.rules.specs.Events.{Narrowing, Event}
-use Rattle.rules.specs.Placement.{SeekKeyPart, Part, Residual, Guide, Range, RangeEdge, Edges, SeekBuilder, new, withPart, withResidual, withGuide, withRange, withEdges, withCloser, withOpened, fall, placePart, placePrefix, rangeAt, attachable, placeFuzzy, placeNarrowing, closePart, placeCloser, takeHi, takeLo, takeEdge, sided, foldFrom, placeBound, place, placeAll}
+use Rattle.rules.specs.Placement.{SeekKeyPart, Part, Residual, Guide, Range, RangeEdge, Edges, SeekBuilder, new, withPart, withResidual, withGuide, withRange, withEdges, withCloser, fall, placePart, placePrefix, rangeAt, attachable, placeFuzzy, placeNarrowing, placeCloser, takeHi, takeLo, takeEdge, sided, foldFrom, placeBound, place, placeAll}
 use Rattle.rules.specs.Levels.{narrowings}
 use Rattle.rules.specs.Demand3.{buildingAfter, beforeFall, madeBy, partsOf, closersOf, closersIn, number, edges, Kept}
 use Rattle.rules.proofs.Cases.{by-test, ways, by-option, true≢false, some≢none, some-injective, eqb-eq, both-left, both-right}
-use Rattle.rules.proofs.Sentences.{closer-fallen}
-use Rattle.rules.proofs.Nested.{Nested}
+use Rattle.rules.proofs.Sentences.{closer-building, closer-fallen}
+use Rattle.rules.proofs.Skipped.{Skipped}
 
 -- equal paths, by the test
 same-steps : (a b : List ℕ) → sameSteps a b ≡ true → a ≡ b
@@ -41,8 +41,7 @@ abbrev edgesSet : Edges → ℕ
 edgesSet e = number (e .lo) + number (e .hi)
 
 -- what stands while building holds
-pub record Building (opened : List Bool) (range : Option Range) (guide : Option Guide) (e : Edges) : Type 0 where
-  pub all-open : Each (λ h. h ≡ true) opened
+pub record Building (range : Option Range) (guide : Option Guide) (e : Edges) : Type 0 where
   pub no-range : range ≡ none
   pub no-guide : guide ≡ none
   pub no-edge : edgesSet e ≡ 0
@@ -53,79 +52,62 @@ pub record Ranged (range : Option Range) (guide : Option Guide) (e : Edges) : Ty
   pub guide-path : (g : Guide) (r : Range) → guide ≡ some g → range ≡ some r → g .path ≡ r .path
   pub edges-folded : edgesSet e ≡ length (e .folded)
 
--- what stands after any number of a walk's steps; n tags are open
-pub record Steady (n : ℕ) (b : SeekBuilder) : Type 0 where
-  pub opens : length (b .opened) ≡ n
-  pub on : b .building ≡ true → Building (b .opened) (b .range) (b .guide) (b .edges)
+-- what stands after any number of a walk's steps
+pub record Steady (b : SeekBuilder) : Type 0 where
+  pub on : b .building ≡ true → Building (b .range) (b .guide) (b .edges)
   pub ranged : Ranged (b .range) (b .guide) (b .edges)
   pub closers-most : b .closers ≤ length (b .parts)
 
-steady-new : Steady 0 new
+steady-new : Steady new
 unfolding new edges number
 steady-new =
     record {
-      opens = refl;
-      on = λ e. record { all-open = done; no-range = refl; no-guide = refl; no-edge = refl };
+      on = λ e. record { no-range = refl; no-guide = refl; no-edge = refl };
       ranged = record { edge-excludes = λ h. (refl, refl); guide-path = λ g r e f. absurd (some≢none g (sym e)); edges-folded = refl };
       closers-most = omega arith;
     }
 
-module _ (n : ℕ) (b : SeekBuilder) (s : Steady n b) where
-  steady-part : (part : Part) → Steady n (withPart part b)
+module _ (b : SeekBuilder) (s : Steady b) where
+  steady-part : (part : Part) → Steady (withPart part b)
   unfolding withPart edges
   steady-part part =
       record {
-        opens = s .opens;
         on = s .on;
         ranged = s .ranged;
         closers-most = omega (arith, s .closers-most, length-append (b .parts) (part ∷ []));
       }
 
-  steady-closer : (part : Part) → Steady n (withCloser (withPart part b))
+  steady-closer : (part : Part) → Steady (withCloser (withPart part b))
   unfolding withCloser withPart edges
   steady-closer part =
       record {
-        opens = s .opens;
         on = s .on;
         ranged = s .ranged;
         closers-most = omega (arith, s .closers-most, length-append (b .parts) (part ∷ []));
       }
 
-  steady-residual : (residual : Residual) → Steady n (withResidual residual b)
+  steady-residual : (residual : Residual) → Steady (withResidual residual b)
   unfolding withResidual edges
   steady-residual residual =
       record {
-        opens = s .opens;
         on = s .on;
         ranged = s .ranged;
         closers-most = s .closers-most;
       }
 
-  steady-fall : Steady n (fall b)
+  steady-fall : Steady (fall b)
   unfolding fall edges
   steady-fall =
       record {
-        opens = s .opens;
         on = λ q. absurd (true≢false (sym q));
         ranged = s .ranged;
         closers-most = s .closers-most;
       }
 
-  steady-tag : Steady (suc n) (withOpened (b .building ∷ b .opened) b)
-  unfolding withOpened edges
-  steady-tag =
-      record {
-        opens = ap suc (s .opens);
-        on = λ e. let h = s .on e in record { all-open = more e (h .all-open); no-range = h .no-range; no-guide = h .no-guide; no-edge = h .no-edge };
-        ranged = s .ranged;
-        closers-most = s .closers-most;
-      }
-
-  steady-range : (range : Range) → b .building ≡ true → Steady n (fall (withRange range b))
+  steady-range : (range : Range) → b .building ≡ true → Steady (fall (withRange range b))
   unfolding fall withRange edges
   steady-range range e =
       record {
-        opens = s .opens;
         on = λ q. absurd (true≢false (sym q));
         ranged = record {
           edge-excludes = λ h. absurd (omega (arith, h, s .on e .no-edge));
@@ -148,12 +130,11 @@ unfolding rangeAt
 range-at none path e = absurd (true≢false (sym e))
 range-at (some r) path e = (r, refl, same-path (r .path) path e)
 
-steady-guide : (n : ℕ) (b : SeekBuilder) (s : Steady n b) (g : Guide) → attachable b (g .path) ≡ true → Steady n (fall (withGuide g b))
+steady-guide : (b : SeekBuilder) (s : Steady b) (g : Guide) → attachable b (g .path) ≡ true → Steady (fall (withGuide g b))
 unfolding fall withGuide edges
-steady-guide n b s g e =
+steady-guide b s g e =
     let a = attach b (g .path) e in
     record {
-      opens = s .opens;
       on = λ q. absurd (true≢false (sym q));
       ranged = record {
         edge-excludes = λ h. ways (b .building) _ (λ q. absurd (omega (arith, h, s .on q .no-edge))) (λ q. let r = range-at (b .range) (g .path) (a .1 q) in absurd (some≢none (r .0) (sym (r .1) ∙ s .ranged .edge-excludes h .0)));
@@ -190,11 +171,10 @@ paired-fold T x t i (c ∷ cs) e h =
     paired-fold T x t (suc i) cs _ (by-option Paired (sided T x t c) (λ q. h) (λ s q. paired-edge i (s .op) (s .value) e h))
 
 -- a bound and the skip after it
-steady-folded : (T : Tables) (x t n : ℕ) (b : SeekBuilder) → Steady n b → b .building ≡ true → Steady n (fall (withEdges (foldFrom T x t 0 (T .comparisons) (b .edges)) b))
+steady-folded : (T : Tables) (x t : ℕ) (b : SeekBuilder) → Steady b → b .building ≡ true → Steady (fall (withEdges (foldFrom T x t 0 (T .comparisons) (b .edges)) b))
 unfolding fall withEdges edges
-steady-folded T x t n b s e =
+steady-folded T x t b s e =
     record {
-      opens = s .opens;
       on = λ q. absurd (true≢false (sym q));
       ranged = record {
         edge-excludes = λ h. (s .on e .no-range, s .on e .no-guide);
@@ -204,18 +184,22 @@ steady-folded T x t n b s e =
       closers-most = s .closers-most;
     }
 
-steady-bound : (T : Tables) (x t n : ℕ) (b : SeekBuilder) → Steady n b → Steady n (fall (placeBound T x t b))
+steady-bound : (T : Tables) (x t : ℕ) (b : SeekBuilder) → Steady b → Steady (fall (placeBound T x t b))
 unfolding placeBound
-steady-bound T x t n b s = by-test (λ b′. Steady n (fall b′)) (b .building) (λ e. steady-folded T x t n b s e) (λ e. steady-fall n b s)
+steady-bound T x t b s = by-test (λ b′. Steady (fall b′)) (b .building) (λ e. steady-folded T x t b s e) (λ e. steady-fall b s)
 
-steady-narrowing : (made n : ℕ) (b : SeekBuilder) (s : Steady n b) (path : FieldPath) (x : Narrowing) (es : List Event) → Nested n (Event.narrow made path x ∷ es) → (m : ℕ) × Steady m (placeNarrowing made path x b) × Nested m es
-unfolding placeNarrowing placePart placePrefix placeFuzzy withOpened
-steady-narrowing made n b s path (Narrowing.Bytes bytes) es h = (n, by-test (Steady n) (b .building) (λ e. steady-part n b s _) (λ e. steady-residual n b s _), h)
-steady-narrowing made n b s path (Narrowing.Tag disc) es h = (suc n, by-test (Steady (suc n)) (b .building) (λ e. steady-part (suc n) _ (steady-tag n b s) _) (λ e. steady-residual (suc n) _ (steady-tag n b s) _), h)
-steady-narrowing made n b s path (Narrowing.RegisterField a at) es h = (n, by-test (Steady n) (b .building) (λ e. steady-part n b s _) (λ e. steady-residual n b s _), h)
-steady-narrowing made n b s path (Narrowing.FactId a) es h = (n, by-test (Steady n) (b .building) (λ e. steady-part n b s _) (λ e. steady-residual n b s _), h)
-steady-narrowing made n b s path (Narrowing.Prefix bytes) es h = (n, by-test (Steady n) (b .building) (λ e. steady-range n b s _ e) (λ e. steady-residual n b s _), h)
-steady-narrowing made n b s path (Narrowing.Fuzzy x d a) es h = (n, by-test (Steady n) (attachable b path) (λ e. steady-guide n b s _ e) (λ e. steady-residual n b s _), h)
+steady-part-or : (made : ℕ) (b : SeekBuilder) → Steady b → (part : SeekKeyPart) (path : FieldPath) (op : Narrowing) → Steady (placePart made part path op b)
+unfolding placePart
+steady-part-or made b s part path op = by-test Steady (b .building) (λ e. steady-part b s _) (λ e. steady-residual b s _)
+
+steady-narrowing : (made : ℕ) (b : SeekBuilder) → Steady b → (path : FieldPath) (x : Narrowing) → Steady (placeNarrowing made path x b)
+unfolding placeNarrowing placePrefix placeFuzzy
+steady-narrowing made b s path (Narrowing.Bytes bytes) = steady-part-or made b s _ path _
+steady-narrowing made b s path (Narrowing.Tag disc) = steady-part-or made b s _ path _
+steady-narrowing made b s path (Narrowing.RegisterField a at) = steady-part-or made b s _ path _
+steady-narrowing made b s path (Narrowing.FactId a) = steady-part-or made b s _ path _
+steady-narrowing made b s path (Narrowing.Prefix bytes) = by-test Steady (b .building) (λ e. steady-range b s _ e) (λ e. steady-residual b s _)
+steady-narrowing made b s path (Narrowing.Fuzzy x d a) = by-test Steady (attachable b path) (λ e. steady-guide b s _ e) (λ e. steady-residual b s _)
 
 -- What a level has placed, counted.
 pub filled : SeekBuilder → ℕ
@@ -231,9 +215,9 @@ counts-part made part path op b =
     (λ e. omega (arith, length-append (b .parts) (record { key = part; node = made } ∷ [])))
     (λ e. omega (arith, length-append (b .residuals) (record { path = path; op = op; node = made } ∷ [])))
 
-counts-prefix : (made n : ℕ) (b : SeekBuilder) (s : Steady n b) (path : FieldPath) (prefix : List ℕ) → Counts 1 b (placePrefix made path prefix b)
+counts-prefix : (made : ℕ) (b : SeekBuilder) (s : Steady b) (path : FieldPath) (prefix : List ℕ) → Counts 1 b (placePrefix made path prefix b)
 unfolding placePrefix withRange withResidual fall filled number
-counts-prefix made n b s path prefix =
+counts-prefix made b s path prefix =
     by-test (Counts 1 b) (b .building)
     (λ e. omega (arith, ap number (s .on e .no-range)))
     (λ e. omega (arith, length-append (b .residuals) (record { path = path; op = Narrowing.Prefix prefix; node = made } ∷ [])))
@@ -245,41 +229,22 @@ counts-fuzzy made b path x distance anchor =
     (λ e. omega (arith, ap number (attach b path e .0)))
     (λ e. omega (arith, length-append (b .residuals) (record { path = path; op = Narrowing.Fuzzy x distance anchor; node = made } ∷ [])))
 
-counts-narrowing : (made n : ℕ) (b : SeekBuilder) (s : Steady n b) (path : FieldPath) (x : Narrowing) → Counts 1 b (placeNarrowing made path x b)
-unfolding placeNarrowing withOpened filled
-counts-narrowing made n b s path (Narrowing.Bytes bytes) = counts-part made _ path _ b
-counts-narrowing made n b s path (Narrowing.Tag disc) = counts-part made _ path _ (withOpened (b .building ∷ b .opened) b)
-counts-narrowing made n b s path (Narrowing.RegisterField a at) = counts-part made _ path _ b
-counts-narrowing made n b s path (Narrowing.FactId a) = counts-part made _ path _ b
-counts-narrowing made n b s path (Narrowing.Prefix bytes) = counts-prefix made n b s path bytes
-counts-narrowing made n b s path (Narrowing.Fuzzy x d a) = counts-fuzzy made b path x d a
+counts-narrowing : (made : ℕ) (b : SeekBuilder) (s : Steady b) (path : FieldPath) (x : Narrowing) → Counts 1 b (placeNarrowing made path x b)
+unfolding placeNarrowing
+counts-narrowing made b s path (Narrowing.Bytes bytes) = counts-part made _ path _ b
+counts-narrowing made b s path (Narrowing.Tag disc) = counts-part made _ path _ b
+counts-narrowing made b s path (Narrowing.RegisterField a at) = counts-part made _ path _ b
+counts-narrowing made b s path (Narrowing.FactId a) = counts-part made _ path _ b
+counts-narrowing made b s path (Narrowing.Prefix bytes) = counts-prefix made b s path bytes
+counts-narrowing made b s path (Narrowing.Fuzzy x d a) = counts-fuzzy made b path x d a
 
--- a closer: the innermost open tag ends, and building held before it if it holds
-steady-outer : (n : ℕ) (b : SeekBuilder) (s : Steady (suc n) b) (held : Bool) (outer : List Bool) → b .opened ≡ held ∷ outer → Steady n (withOpened outer b)
-unfolding withOpened edges
-steady-outer n b s held outer e =
-    record {
-      opens = omega (arith, ap length e, s .opens);
-      on = λ q. let h = s .on q in record { all-open = tail-all (subst (Each (λ h. h ≡ true)) e (h .all-open)); no-range = h .no-range; no-guide = h .no-guide; no-edge = h .no-edge };
-      ranged = s .ranged;
-      closers-most = s .closers-most;
-    }
-  where
-    tail-all : {x : Bool} {xs : List Bool} → Each (λ h. h ≡ true) (x ∷ xs) → Each (λ h. h ≡ true) xs
-    tail-all (more p h) = h
+steady-close : (made : ℕ) (b : SeekBuilder) → Steady b → Steady (placeCloser made b)
+unfolding placeCloser
+steady-close made b s = by-test Steady (b .building) (λ e. steady-closer b s _) (λ e. s)
 
-steady-close : (made n : ℕ) (held : Bool) (b : SeekBuilder) → Steady n b → Steady n (closePart made held b)
-unfolding closePart
-steady-close made n held b s = by-test (Steady n) (both held (b .building)) (λ e. steady-closer n b s _) (λ e. s)
-
-counts-close : (made : ℕ) (held : Bool) (b : SeekBuilder) → Counts 0 b (closePart made held b)
-unfolding closePart withCloser withPart filled
-counts-close made held b = by-test (Counts 0 b) (both held (b .building)) (λ e. omega (arith, length-append (b .parts) (record { key = SeekKeyPart.Bytes term; node = made } ∷ []))) (λ e. omega arith)
-
-steady-placed-closer : (made n : ℕ) (b : SeekBuilder) (s : Steady (suc n) b) (opened : List Bool) → b .opened ≡ opened → Steady n (placeCloser made opened b) × Counts 0 b (placeCloser made opened b)
-unfolding placeCloser withOpened filled
-steady-placed-closer made n b s [] e = absurd (omega (arith, ap length e, s .opens))
-steady-placed-closer made n b s (held ∷ outer) e = (steady-close made n held _ (steady-outer n b s held outer e), counts-close made held (withOpened outer b))
+counts-close : (made : ℕ) (b : SeekBuilder) → Counts 0 b (placeCloser made b)
+unfolding placeCloser withCloser withPart filled
+counts-close made b = by-test (Counts 0 b) (b .building) (λ e. omega (arith, length-append (b .parts) (record { key = SeekKeyPart.Bytes term; node = made } ∷ []))) (λ e. omega arith)
 
 counts-fall : (b : SeekBuilder) → Counts 0 b (fall b)
 unfolding fall filled
@@ -291,39 +256,35 @@ counts-bound T x t b = by-test (λ b′. Counts 0 b (fall b′)) (b .building) (
 
 -- all the events of a level
 pub record Placed (es : List Event) (b b′ : SeekBuilder) : Type 0 where
-  pub depth-left : ℕ
-  pub steady : Steady depth-left b′
+  pub steady : Steady b′
   pub counts : Counts (narrowings es) b b′
 
-placed-same : (n : ℕ) (b : SeekBuilder) → Steady n b → Placed [] b b
+placed-same : (b : SeekBuilder) → Steady b → Placed [] b b
 unfolding narrowings
-placed-same n b s = record { depth-left = n; steady = s; counts = omega arith }
+placed-same b s = record { steady = s; counts = omega arith }
 
 counts-next : (k l : ℕ) (a b c : SeekBuilder) → Counts k a b → Counts l b c → Counts (k + l) a c
 counts-next k l a b c g h = omega (arith, g, h)
 
-placed-all : (T : Tables) (es : List Event) (n : ℕ) (b : SeekBuilder) → Steady n b → Nested n es → Placed es b (placeAll T es b)
+placed-all : (T : Tables) (es : List Event) (b : SeekBuilder) → Steady b → Skipped es → Placed es b (placeAll T es b)
 unfolding placeAll place narrowings
-placed-all T [] n b s h = placed-same n b s
-placed-all T (Event.narrow made path x ∷ es) n b s h =
-    let a = steady-narrowing made n b s path x es h in
-    let r = placed-all T es (a .0) (placeNarrowing made path x b) (a .1) (a .2) in
-    record { depth-left = r .depth-left; steady = r .steady; counts = omega (arith, counts-narrowing made n b s path x, r .counts) }
-placed-all T (Event.skip ∷ es) n b s h =
-    let r = placed-all T es n (fall b) (steady-fall n b s) h in
-    record { depth-left = r .depth-left; steady = r .steady; counts = omega (arith, counts-fall b, r .counts) }
-placed-all T (Event.closer made ∷ es) zero b s h = absurd h
-placed-all T (Event.closer made ∷ es) (suc n) b s h =
-    let a = steady-placed-closer made n b s (b .opened) refl in
-    let r = placed-all T es n (placeCloser made (b .opened) b) (a .0) h in
-    record { depth-left = r .depth-left; steady = r .steady; counts = omega (arith, a .1, r .counts) }
-placed-all T (Event.bound x t ∷ []) n b s h = absurd h
-placed-all T (Event.bound x t ∷ Event.skip ∷ es) n b s h =
-    let r = placed-all T es n (fall (placeBound T x t b)) (steady-bound T x t n b s) h in
-    record { depth-left = r .depth-left; steady = r .steady; counts = omega (arith, counts-bound T x t b, r .counts) }
-placed-all T (Event.bound x t ∷ Event.narrow made p y ∷ es) n b s h = absurd h
-placed-all T (Event.bound x t ∷ Event.closer made ∷ es) n b s h = absurd h
-placed-all T (Event.bound x t ∷ Event.bound y u ∷ es) n b s h = absurd h
+placed-all T [] b s h = placed-same b s
+placed-all T (Event.narrow made path x ∷ es) b s h =
+    let r = placed-all T es (placeNarrowing made path x b) (steady-narrowing made b s path x) h in
+    record { steady = r .steady; counts = omega (arith, counts-narrowing made b s path x, r .counts) }
+placed-all T (Event.skip ∷ es) b s h =
+    let r = placed-all T es (fall b) (steady-fall b s) h in
+    record { steady = r .steady; counts = omega (arith, counts-fall b, r .counts) }
+placed-all T (Event.closer made ∷ es) b s h =
+    let r = placed-all T es (placeCloser made b) (steady-close made b s) h in
+    record { steady = r .steady; counts = omega (arith, counts-close made b, r .counts) }
+placed-all T (Event.bound x t ∷ []) b s h = absurd h
+placed-all T (Event.bound x t ∷ Event.skip ∷ es) b s h =
+    let r = placed-all T es (fall (placeBound T x t b)) (steady-bound T x t b s) h in
+    record { steady = r .steady; counts = omega (arith, counts-bound T x t b, r .counts) }
+placed-all T (Event.bound x t ∷ Event.narrow made p y ∷ es) b s h = absurd h
+placed-all T (Event.bound x t ∷ Event.closer made ∷ es) b s h = absurd h
+placed-all T (Event.bound x t ∷ Event.bound y u ∷ es) b s h = absurd h
 
 -- Building never returns, and without building no part is made and no closer taken: of any event.
 pub record Fallen (b b′ : SeekBuilder) : Type 0 where
@@ -336,24 +297,22 @@ unfolding placePart withPart withResidual
 fallen-part made part path op b h = by-test (Fallen b) (b .building) (λ e. absurd (true≢false (sym e ∙ h))) (λ e. record { building = h; parts = refl; closers = refl })
 
 fallen-narrowing : (made : ℕ) (path : FieldPath) (x : Narrowing) (b : SeekBuilder) → b .building ≡ false → Fallen b (placeNarrowing made path x b)
-unfolding placeNarrowing placePrefix placeFuzzy withOpened withResidual withGuide fall
+unfolding placeNarrowing placePrefix placeFuzzy withResidual withGuide fall
 fallen-narrowing made path (Narrowing.Bytes bytes) b h = fallen-part made _ path _ b h
-fallen-narrowing made path (Narrowing.Tag disc) b h = let r = fallen-part made _ path _ (withOpened (b .building ∷ b .opened) b) h in record { building = r .building; parts = r .parts; closers = r .closers }
+fallen-narrowing made path (Narrowing.Tag disc) b h = fallen-part made _ path _ b h
 fallen-narrowing made path (Narrowing.RegisterField a at) b h = fallen-part made _ path _ b h
 fallen-narrowing made path (Narrowing.FactId a) b h = fallen-part made _ path _ b h
 fallen-narrowing made path (Narrowing.Prefix bytes) b h = by-test (Fallen b) _ (λ e. absurd (true≢false (sym e ∙ h))) (λ e. record { building = h; parts = refl; closers = refl })
 fallen-narrowing made path (Narrowing.Fuzzy x d a) b h = by-test (Fallen b) (attachable b path) (λ e. record { building = refl; parts = refl; closers = refl }) (λ e. record { building = h; parts = refl; closers = refl })
 
-fallen-closer : (made : ℕ) (opened : List Bool) (b : SeekBuilder) → b .building ≡ false → Fallen b (placeCloser made opened b)
-unfolding placeCloser withOpened
-fallen-closer made [] b h = record { building = h; parts = refl; closers = refl }
-fallen-closer made (held ∷ outer) b h = subst (Fallen b) (sym (closer-fallen made held (withOpened outer b) h)) (record { building = h; parts = refl; closers = refl })
+fallen-closer : (made : ℕ) (b : SeekBuilder) → b .building ≡ false → Fallen b (placeCloser made b)
+fallen-closer made b h = subst (Fallen b) (sym (closer-fallen made b h)) (record { building = h; parts = refl; closers = refl })
 
 fallen : (T : Tables) (e : Event) (b : SeekBuilder) → b .building ≡ false → Fallen b (place T e b)
 unfolding place placeBound fall
 fallen T (Event.narrow made path x) b h = fallen-narrowing made path x b h
 fallen T Event.skip b h = record { building = refl; parts = refl; closers = refl }
-fallen T (Event.closer made) b h = fallen-closer made (b .opened) b h
+fallen T (Event.closer made) b h = fallen-closer made b h
 fallen T (Event.bound x t) b h = by-test (Fallen b) (b .building) (λ e. absurd (true≢false (sym e ∙ h))) (λ e. record { building = h; parts = refl; closers = refl })
 
 pub fallen-all : (T : Tables) (es : List Event) (b : SeekBuilder) → b .building ≡ false → Fallen b (placeAll T es b)
@@ -394,11 +353,9 @@ makes-none : (b b′ : SeekBuilder) → b′ .parts ≡ b .parts → b′ .close
 makes-none b b′ e c = record { on = λ q. e ∙ sym (append-nil (b .parts)); fell = λ q. e; on-closers = λ q. omega (arith, c); fell-closers = λ q. c }
 
 makes-narrowing : (made : ℕ) (b : SeekBuilder) → b .building ≡ true → (path : FieldPath) (x : Narrowing) → Makes (partsOf (Event.narrow made path x)) (closersOf (Event.narrow made path x)) b (placeNarrowing made path x b)
-unfolding partsOf closersOf placeNarrowing placePrefix placeFuzzy withOpened withResidual withRange withGuide fall
+unfolding partsOf closersOf placeNarrowing placePrefix placeFuzzy withResidual withRange withGuide fall
 makes-narrowing made b h path (Narrowing.Bytes bytes) = makes-part made b h _ path _
-makes-narrowing made b h path (Narrowing.Tag disc) =
-    let r = makes-part made (withOpened (b .building ∷ b .opened) b) h (SeekKeyPart.Bytes (unionTag disc)) path (Narrowing.Tag disc) in
-    record { on = r .on; fell = r .fell; on-closers = r .on-closers; fell-closers = r .fell-closers }
+makes-narrowing made b h path (Narrowing.Tag disc) = makes-part made b h _ path _
 makes-narrowing made b h path (Narrowing.RegisterField a at) = makes-part made b h _ path _
 makes-narrowing made b h path (Narrowing.FactId a) = makes-part made b h _ path _
 makes-narrowing made b h path (Narrowing.Prefix bytes) = by-test (Makes [] 0 b) (b .building) (λ e. makes-none b _ refl refl) (λ e. makes-none b _ refl refl)
@@ -408,16 +365,11 @@ makes-skip : (b : SeekBuilder) → Makes (partsOf Event.skip) (closersOf Event.s
 unfolding partsOf closersOf fall
 makes-skip b = makes-none b _ refl refl
 
-head-true : {x : Bool} {xs : List Bool} → Each (λ k. k ≡ true) (x ∷ xs) → x ≡ true
-head-true (more p g) = p
-
-makes-closer : (made : ℕ) (b : SeekBuilder) → b .building ≡ true → (n : ℕ) → Steady (suc n) b → (opened : List Bool) → b .opened ≡ opened → Makes (partsOf (Event.closer made)) (closersOf (Event.closer made)) b (placeCloser made opened b)
-unfolding partsOf closersOf placeCloser closePart withOpened withCloser withPart
-makes-closer made b h n s [] e = absurd (omega (arith, ap length e, s .opens))
-makes-closer made b h n s (held ∷ outer) e =
-    by-test (Makes (madeBy made (SeekKeyPart.Bytes term)) 1 b) (both held (b .building))
-    (λ q. record { on = λ t. refl; fell = λ t. absurd (true≢false (sym h ∙ t)); on-closers = λ t. refl; fell-closers = λ t. absurd (true≢false (sym h ∙ t)) })
-    (λ q. absurd (true≢false (sym (ap (λ (k : Bool). both k (b .building)) (head-true (subst (Each (λ k. k ≡ true)) e (s .on h .all-open))) ∙ h) ∙ q)))
+makes-closer : (made : ℕ) (b : SeekBuilder) → b .building ≡ true → Makes (partsOf (Event.closer made)) (closersOf (Event.closer made)) b (placeCloser made b)
+unfolding partsOf closersOf withCloser withPart
+makes-closer made b h =
+    subst (Makes (madeBy made (SeekKeyPart.Bytes term)) 1 b) (sym (closer-building made b h))
+    (record { on = λ t. refl; fell = λ t. absurd (true≢false (sym h ∙ t)); on-closers = λ t. refl; fell-closers = λ t. absurd (true≢false (sym h ∙ t)) })
 
 makes-bound : (b : SeekBuilder) (T : Tables) (x t : ℕ) → Makes (partsOf (Event.bound x t)) (closersOf (Event.bound x t)) b (placeBound T x t b)
 unfolding partsOf closersOf placeBound withEdges
@@ -445,24 +397,14 @@ made-step T e es b m ih =
     })
     (λ q. let f = fallen-all T es (place T e b) q in made-none b _ (f .parts ∙ m .fell q) (f .closers ∙ m .fell-closers q))
 
-made-all : (T : Tables) (es : List Event) (n : ℕ) (b : SeekBuilder) → Steady n b → Nested n es → b .building ≡ true → Made (beforeFall T b es) b (placeAll T es b)
+made-all : (T : Tables) (es : List Event) (b : SeekBuilder) → b .building ≡ true → Made (beforeFall T b es) b (placeAll T es b)
 unfolding placeAll place beforeFall
-made-all T [] n b s h on = made-none b b refl refl
-made-all T (Event.narrow made path x ∷ es) n b s h on =
-    let a = steady-narrowing made n b s path x es h in
-    made-step T (Event.narrow made path x) es b (makes-narrowing made b on path x) (λ q. made-all T es (a .0) (placeNarrowing made path x b) (a .1) (a .2) q)
-made-all T (Event.skip ∷ es) n b s h on = made-step T Event.skip es b (makes-skip b) (λ q. made-all T es n (fall b) (steady-fall n b s) h q)
-made-all T (Event.closer made ∷ es) zero b s h on = absurd h
-made-all T (Event.closer made ∷ es) (suc n) b s h on =
-    made-step T (Event.closer made) es b (makes-closer made b on n s (b .opened) refl)
-    (λ q. made-all T es n (placeCloser made (b .opened) b) (steady-placed-closer made n b s (b .opened) refl .0) h q)
-made-all T (Event.bound x t ∷ []) n b s h on = absurd h
-made-all T (Event.bound x t ∷ Event.skip ∷ es) n b s h on =
-    made-step T (Event.bound x t) (Event.skip ∷ es) b (makes-bound b T x t)
-    (λ q. made-step T Event.skip es (placeBound T x t b) (makes-skip (placeBound T x t b)) (λ r. made-all T es n (fall (placeBound T x t b)) (steady-bound T x t n b s) h r))
-made-all T (Event.bound x t ∷ Event.narrow made p y ∷ es) n b s h on = absurd h
-made-all T (Event.bound x t ∷ Event.closer made ∷ es) n b s h on = absurd h
-made-all T (Event.bound x t ∷ Event.bound y u ∷ es) n b s h on = absurd h
+made-all T [] b on = made-none b b refl refl
+made-all T (Event.narrow made path x ∷ es) b on =
+    made-step T (Event.narrow made path x) es b (makes-narrowing made b on path x) (λ q. made-all T es (placeNarrowing made path x b) q)
+made-all T (Event.skip ∷ es) b on = made-step T Event.skip es b (makes-skip b) (λ q. made-all T es (fall b) q)
+made-all T (Event.closer made ∷ es) b on = made-step T (Event.closer made) es b (makes-closer made b on) (λ q. made-all T es (placeCloser made b) q)
+made-all T (Event.bound x t ∷ es) b on = made-step T (Event.bound x t) es b (makes-bound b T x t) (λ q. made-all T es (placeBound T x t b) q)
 
 -- lo and hi are two
 pub most-one : {A : Type 0} (o : Option A) → number o ≤ 1
@@ -480,11 +422,11 @@ unfolding new filled number
 sum-of k b h c = omega (arith, h, c)
 
 -- what demand 3 says of one level
-pub kept : (T : Tables) (es : List Event) → Nested 0 es → Kept T es (placeAll T es new)
+pub kept : (T : Tables) (es : List Event) → Skipped es → Kept T es (placeAll T es new)
 unfolding new edges
 kept T es h =
-    let r = placed-all T es 0 new steady-new h in
-    let made = made-all T es 0 new steady-new h refl in
+    let r = placed-all T es new steady-new h in
+    let made = made-all T es new refl in
     record {
       never-returns = never-returns T es;
       parts = made .parts;

@@ -31,7 +31,7 @@ pub mod Demand1
 -- Demand 3.
 pub mod Lists
 pub mod Emits
-pub mod Nested
+pub mod Skipped
 pub mod Kept
 pub mod Demand3
 -- A closer and its tag.

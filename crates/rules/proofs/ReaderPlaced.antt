@@ -4,10 +4,10 @@ use mathlib.Core.List.{List, [], _∷_}
 use Prim.Native.Nat.{ℕ, suc, _+_, _≤_, _<_}
 use native.Mathlib.Omega.{arith}
 use lib.ListN.{length}
-use Rattle.rules.specs.Base.{Each, done, more, both}
+use Rattle.rules.specs.Base.{Each, done, more}
 use Rattle.rules.specs.File.{Tables, FieldPath, CompareOp, Comparison}
 use Rattle.rules.specs.Events.{Narrowing, Event}
-use Rattle.rules.specs.Placement.{SeekKeyPart, Part, Residual, Guide, Range, Edges, SeekBuilder, new, withPart, withResidual, withGuide, withRange, withEdges, withCloser, withOpened, fall, placePart, placePrefix, attachable, placeFuzzy, placeNarrowing, closePart, placeCloser, takeHi, takeLo, takeEdge, sided, foldFrom, placeBound, place, placeAll}
+use Rattle.rules.specs.Placement.{SeekKeyPart, Part, Residual, Guide, Range, Edges, SeekBuilder, new, withPart, withResidual, withGuide, withRange, withEdges, withCloser, fall, placePart, placePrefix, attachable, placeFuzzy, placeNarrowing, placeCloser, takeHi, takeLo, takeEdge, sided, foldFrom, placeBound, place, placeAll}
 use Rattle.rules.proofs.Cases.{by-test, by-option}
 use Rattle.rules.proofs.Each.{Perhaps, nothing, just, each-snoc}
 use Rattle.rules.proofs.ReaderReads.{PathFits, KeyFits, PartFits, RangeFits, GuideFits, ResidualFits, NarrowingFits}
@@ -54,10 +54,6 @@ with-closer : (b : SeekBuilder) → Made b → Made (withCloser b)
 unfolding withCloser
 with-closer b g = record { parts = g .parts; residuals = g .residuals; guide = g .guide; range = g .range; folded = g .folded }
 
-with-opened : (opened : List Bool) (b : SeekBuilder) → Made b → Made (withOpened opened b)
-unfolding withOpened
-with-opened opened b g = record { parts = g .parts; residuals = g .residuals; guide = g .guide; range = g .range; folded = g .folded }
-
 falls : (b : SeekBuilder) → Made b → Made (fall b)
 unfolding fall
 falls b g = record { parts = g .parts; residuals = g .residuals; guide = g .guide; range = g .range; folded = g .folded }
@@ -75,7 +71,7 @@ place-part n key path op b l h p k g =
 place-narrowing : (n : ℕ) (path : FieldPath) (x : Narrowing) (b : SeekBuilder) → n < 65536 → PathFits path → NarrowingFits x → Made b → Made (placeNarrowing n path x b)
 unfolding placeNarrowing placePrefix placeFuzzy
 place-narrowing n path (Narrowing.Bytes bytes) b l p h g = place-part n (SeekKeyPart.Bytes bytes) path (Narrowing.Bytes bytes) b l tt p tt g
-place-narrowing n path (Narrowing.Tag disc) b l p h g = place-part n (SeekKeyPart.Bytes _) path (Narrowing.Tag disc) _ l tt p h (with-opened _ b g)
+place-narrowing n path (Narrowing.Tag disc) b l p h g = place-part n (SeekKeyPart.Bytes _) path (Narrowing.Tag disc) b l tt p h g
 place-narrowing n path (Narrowing.RegisterField address at) b l p h g = place-part n (SeekKeyPart.RegisterField address at) path (Narrowing.RegisterField address at) b l h p h g
 place-narrowing n path (Narrowing.FactId address) b l p h g = place-part n (SeekKeyPart.RegisterFactId address) path (Narrowing.FactId address) b l h p h g
 place-narrowing n path (Narrowing.Prefix prefix) b l p h g =
@@ -83,14 +79,9 @@ place-narrowing n path (Narrowing.Prefix prefix) b l p h g =
 place-narrowing n path (Narrowing.Fuzzy x distance anchor) b l p h g =
     either Made (attachable b path) (falls _ (with-guide _ b (record { path = p; term = h; node = l }) g)) (with-residual _ b (record { path = p; op = h; node = l }) g)
 
-close-part : (n : ℕ) (held : Bool) (b : SeekBuilder) → n < 65536 → Made b → Made (closePart n held b)
-unfolding closePart
-close-part n held b l g = either Made (both held (b .building)) (with-closer _ (with-part _ b (record { key = tt; node = l }) g)) g
-
-place-closer : (n : ℕ) (opened : List Bool) (b : SeekBuilder) → n < 65536 → Made b → Made (placeCloser n opened b)
+place-closer : (n : ℕ) (b : SeekBuilder) → n < 65536 → Made b → Made (placeCloser n b)
 unfolding placeCloser
-place-closer n [] b l g = g
-place-closer n (held ∷ outer) b l g = close-part n held _ l (with-opened outer b g)
+place-closer n b l g = either Made (b .building) (with-closer _ (with-part _ b (record { key = tt; node = l }) g)) g
 
 -- the edges: the index of a comparison is below their number
 abbrev Folds : Edges → Type 0
@@ -114,7 +105,7 @@ module _ (T : Tables) (few : length (T .comparisons) ≤ 256) where
   unfolding place placeBound
   place-event (Event.narrow n path x) b h g = place-narrowing n path x b (h .0) (h .1) (h .2) g
   place-event Event.skip b h g = falls b g
-  place-event (Event.closer n) b h g = place-closer n (b .opened) b h g
+  place-event (Event.closer n) b h g = place-closer n b h g
   place-event (Event.bound x t) b h g = either Made (b .building) (with-edges _ b (fold-from x t 0 (T .comparisons) (b .edges) (omega arith) (g .folded)) g) g
 
   pub place-all : {es : List Event} (b : SeekBuilder) → Each EventFits es → Made b → Made (placeAll T es b)

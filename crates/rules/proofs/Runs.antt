@@ -54,8 +54,7 @@ pub record Sim (T : Tables) (P : FieldPath → Type 0) (N : ℕ → Type 0) {C :
   pub registers : (m n : ℕ) (at p : FieldPath) (a : Walk) (c : C) → Short at → Short p → R a c → R (narrow m p (Narrowing.RegisterField n at) a) (o .narrow m p (Narrowing.RegisterField n at) c)
   pub facts : (m n : ℕ) (p : FieldPath) (a : Walk) (c : C) → Short p → R a c → R (narrow m p (Narrowing.FactId n) a) (o .narrow m p (Narrowing.FactId n) c)
   pub tags : (m d : ℕ) (p : FieldPath) (a : Walk) (c : C) → Short p → R a c → R (narrow m p (Narrowing.Tag d) a) (o .narrow m p (Narrowing.Tag d) c)
-  -- from before the tag, a and c, to after the payload, a′ and c′
-  pub closers : (m d : ℕ) (p : FieldPath) (a a′ : Walk) (c c′ : C) → Short p → R a c → M (narrow m p (Narrowing.Tag d) a) a′ → (stopped c′ ≡ false → stopped c ≡ false) → R a′ c′ → R (emit (Event.closer m) a′) (o .closer m c c′)
+  pub closers : (m : ℕ) (a : Walk) (c : C) → R a c → R (emit (Event.closer m) a) (o .closer m c)
 
 module _ (T : Tables) (S : Sound T) (P : FieldPath → Type 0) (N : ℕ → Type 0) (numbers : Numbers T P N) {C : Type 0} (o : Ops C) (stopped : C → Bool) (address : ℕ) (M : Walk → Walk → Type 0) (R : Walk → C → Type 0) (K : Keeps T M) (sim : Sim T P N o stopped address M R) where
   abbrev Fit : Walk → Type 0
@@ -140,12 +139,12 @@ module _ (T : Tables) (S : Sound T) (P : FieldPath → Type 0) (N : ℕ → Type
   goes-fact m n p a c s f r = record { grew = K .facts m n p a s; fit = f; rel = sim .facts m n p a c s r; still = λ h. ap stopped (sim .idle c h .narrow m p (Narrowing.FactId n)) ∙ h }
 
   -- a tag, its payload, its closer
-  goes-union : (m d : ℕ) (p : FieldPath) (a a′ : Walk) (c c′ : C) → Short p → Goes (narrow m p (Narrowing.Tag d) a) a′ (o .narrow m p (Narrowing.Tag d) c) c′ → Goes a (emit (Event.closer m) a′) c (o .closer m c c′)
+  goes-union : (m d : ℕ) (p : FieldPath) (a a′ : Walk) (c c′ : C) → Short p → Goes (narrow m p (Narrowing.Tag d) a) a′ (o .narrow m p (Narrowing.Tag d) c) c′ → Goes a (emit (Event.closer m) a′) c (o .closer m c′)
   unfolding emit
   goes-union m d p a a′ c c′ s g f r =
       let b = g f (sim .tags m d p a c s r) in
       let on : stopped c ≡ true → stopped c′ ≡ true = λ h. b .still (ap stopped (sim .idle c h .narrow m p (Narrowing.Tag d)) ∙ h) in
-      record { grew = K .unions m d p a a′ s (b .grew); fit = b .fit; rel = sim .closers m d p a a′ c c′ s r (b .grew) (went-on on) (b .rel); still = λ h. ap stopped (sim .idle c′ (on h) .closer m c) ∙ on h }
+      record { grew = K .unions m d p a a′ s (b .grew); fit = b .fit; rel = sim .closers m a′ c′ (b .rel); still = λ h. ap stopped (sim .idle c′ (on h) .closer m) ∙ on h }
 
   -- A branch on what each run finds by itself: l here and m there. It suffices to follow both on the first run's branch.
   sync : {L : Type 0} (a : Walk) (c : C) (l m : L) (x : Walk) (g : L → C) → (Fit a → stopped c ≡ false → R a c → m ≡ l) → Goes a x c (g l) → (stopped c ≡ true → g m ≡ c) → Goes a x c (g m)

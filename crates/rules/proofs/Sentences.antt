@@ -1,16 +1,17 @@
 -- Single sentences of document 01, told of one step of the rules. They stand before the inductions, so that a rule that breaks one of them is refused by it.
-use mathlib.Core.Bool.{Bool, true, false}
+use mathlib.Core.Bool.{true, false}
 use mathlib.Core.List.{List, [], _∷_}
 use mathlib.Core.Option.{none, some}
 use mathlib.Core.Path.{_≡_, refl, sym, _∙_}
 use Prim.Native.Nat.{ℕ}
 use Rattle.rules.specs.File.{Tables, FieldPath, Slot, LevelEntry}
+use Rattle.rules.specs.Constant.{term}
 use Rattle.rules.specs.Events.{Lists, Ops, walkOps, emit}
 use Rattle.rules.specs.Walk.{FieldWalk, constrainBy, constrain, read, variable}
-use Rattle.rules.specs.Placement.{SeekBuilder, withRange, withResidual, fall, placePrefix, closePart, place, placeAll}
+use Rattle.rules.specs.Placement.{SeekKeyPart, SeekBuilder, withPart, withCloser, withRange, withResidual, fall, placePrefix, placeCloser, place, placeAll}
 use Rattle.rules.specs.Levels.{levelOf, level, levelsFrom}
 use Rattle.rules.specs.Demand3.{levelAt}
-use Rattle.rules.proofs.Cases.{by-test, by-option, true≢false, some≢none, both-right}
+use Rattle.rules.proofs.Cases.{by-test, by-option, true≢false, some≢none}
 
 module _ {S : Type 0} (o : Ops S) (T : Tables) (address : ℕ) (below : FieldWalk S) (x n t : ℕ) (path : FieldPath) (w : S) where
   -- "A Var binds only while new": a bound one is read
@@ -40,10 +41,17 @@ pub prefix-falls : (n : ℕ) (path : FieldPath) (prefix : List ℕ) (b : SeekBui
 unfolding placePrefix withRange withResidual fall
 prefix-falls n path prefix b = by-test Fell (b .building) (λ e. record { building = refl }) (λ e. record { building = e })
 
--- "if building held before its tag and still holds, else nothing": a closer after the fall changes nothing
-pub closer-fallen : (n : ℕ) (held : Bool) (b : SeekBuilder) → b .building ≡ false → closePart n held b ≡ b
-unfolding closePart
-closer-fallen n held b fell = by-test (λ after. after ≡ b) _ (λ e. absurd (true≢false (sym (both-right held (b .building) e) ∙ fell))) (λ e. refl)
+-- "one part of byte 00 if building .. still holds"
+pub closer-building : (n : ℕ) (b : SeekBuilder) → b .building ≡ true → placeCloser n b ≡ withCloser (withPart (record { key = SeekKeyPart.Bytes term; node = n }) b)
+unfolding placeCloser
+closer-building n b holds =
+    by-test (λ after. after ≡ withCloser (withPart (record { key = SeekKeyPart.Bytes term; node = n }) b)) (b .building)
+    (λ e. refl) (λ e. absurd (true≢false (sym holds ∙ e)))
+
+-- "else nothing": a closer after the fall changes nothing
+pub closer-fallen : (n : ℕ) (b : SeekBuilder) → b .building ≡ false → placeCloser n b ≡ b
+unfolding placeCloser
+closer-fallen n b fell = by-test (λ after. after ≡ b) (b .building) (λ e. absurd (true≢false (sym e ∙ fell))) (λ e. refl)
 
 -- "the four lists as the walk of the level before left them"
 pub later-begins : (T : Tables) (start : Lists) (first second : LevelEntry) (entries : List LevelEntry)

@@ -115,7 +115,7 @@ emit e w = record { lists = w .lists; events = w .events ++ (e ∷ []) }
 
 -- What the walk asks of whatever keeps its lists and takes its events. The walk is told over any such S, so that it can be read once for
 -- these lists and once for a program's memory. `constant` is asked of the state too, since the Rust's reads the bindings as they stand.
--- `narrow` and `closer` are given the node first, and `closer` what stood before its tag.
+-- `narrow` and `closer` are given the node first.
 pub record Ops (S : Type 0) : Type 0 where
   pub lookup : S → ℕ → Option Slot
   pub constant : S → ℕ → ℕ → Option Const
@@ -126,7 +126,7 @@ pub record Ops (S : Type 0) : Type 0 where
   pub report : ℕ → Code → S → S
   pub narrow : ℕ → FieldPath → Narrowing → S → S
   pub skip : S → S
-  pub closer : ℕ → S → S → S
+  pub closer : ℕ → S → S
   pub bound : ℕ → ℕ → S → S
 
 -- the lists and events of this document; `constant` reads the file's bindings
@@ -142,7 +142,7 @@ walkOps T =
       report = report;
       narrow = λ n path x w. emit (Event.narrow n path x) w;
       skip = λ w. emit Event.skip w;
-      closer = λ n before w. emit (Event.closer n) w;
+      closer = λ n w. emit (Event.closer n) w;
       bound = λ x t w. emit (Event.bound x t) w;
     }
 

@@ -58,7 +58,7 @@ nowOps T =
       report = λ n code s. onLists (report n code) s;
       narrow = λ n path x s. meet T (Event.narrow n path x) s;
       skip = λ s. meet T Event.skip s;
-      closer = λ n before s. meet T (Event.closer n) s;
+      closer = λ n s. meet T (Event.closer n) s;
       bound = λ x t s. meet T (Event.bound x t) s;
     }
 

@@ -4,7 +4,7 @@ use mathlib.Core.List.{List, [], _∷_, _++_}
 use mathlib.Core.Option.{Option, none, some}
 use Prim.Native.Nat.{ℕ, suc, _+_, _%_}
 use lib.Dec.{eqb}
-use Rattle.rules.specs.Base.{both, _whenSome_ as _>>=_}
+use Rattle.rules.specs.Base.{_whenSome_ as _>>=_}
 use Rattle.rules.specs.File.{Tables, Anchor, FieldPath, CompareOp, Comparison, opOfNumber, opNumber, nodeAt, varName}
 use Rattle.rules.specs.Constant.{unionTag, term, bytesOnly, constant}
 use Rattle.rules.specs.Lookup.{samePath}
@@ -48,8 +48,7 @@ pub record Edges : Type 0 where
   pub hi : Option RangeEdge
   pub folded : List ℕ
 
--- closers: how many closer events became parts. opened: for each tag that no closer has ended, the last first, whether building held before
--- it.
+-- closers: how many closer events became parts
 pub record SeekBuilder : Type 0 where
   pub building : Bool
   pub parts : List Part
@@ -58,7 +57,6 @@ pub record SeekBuilder : Type 0 where
   pub range : Option Range
   pub edges : Edges
   pub closers : ℕ
-  pub opened : List Bool
 
 -- "A level starts building, with nothing set." (Rust `SeekBuilder::new`)
 unfoldable pub new : SeekBuilder
@@ -71,7 +69,6 @@ new =
       range = none;
       edges = record { lo = none; hi = none; folded = [] };
       closers = 0;
-      opened = [];
     }
 
 -- One change each.
@@ -85,7 +82,6 @@ withPart part b =
       range = b .range;
       edges = b .edges;
       closers = b .closers;
-      opened = b .opened;
     }
 
 unfoldable pub withResidual : Residual → SeekBuilder → SeekBuilder
@@ -98,7 +94,6 @@ withResidual residual b =
       range = b .range;
       edges = b .edges;
       closers = b .closers;
-      opened = b .opened;
     }
 
 unfoldable pub withGuide : Guide → SeekBuilder → SeekBuilder
@@ -111,7 +106,6 @@ withGuide guide b =
       range = b .range;
       edges = b .edges;
       closers = b .closers;
-      opened = b .opened;
     }
 
 unfoldable pub withRange : Range → SeekBuilder → SeekBuilder
@@ -124,7 +118,6 @@ withRange range b =
       range = some range;
       edges = b .edges;
       closers = b .closers;
-      opened = b .opened;
     }
 
 unfoldable pub withEdges : Edges → SeekBuilder → SeekBuilder
@@ -137,7 +130,6 @@ withEdges edges b =
       range = b .range;
       edges = edges;
       closers = b .closers;
-      opened = b .opened;
     }
 
 unfoldable pub withCloser : SeekBuilder → SeekBuilder
@@ -150,20 +142,6 @@ withCloser b =
       range = b .range;
       edges = b .edges;
       closers = b .closers + 1;
-      opened = b .opened;
-    }
-
-unfoldable pub withOpened : List Bool → SeekBuilder → SeekBuilder
-withOpened opened b =
-    record {
-      building = b .building;
-      parts = b .parts;
-      residuals = b .residuals;
-      guide = b .guide;
-      range = b .range;
-      edges = b .edges;
-      closers = b .closers;
-      opened = opened;
     }
 
 -- "Skip: building falls."
@@ -177,7 +155,6 @@ fall b =
       range = b .range;
       edges = b .edges;
       closers = b .closers;
-      opened = b .opened;
     }
 
 -- "The first four: a part while building .., else a residual."
@@ -214,25 +191,17 @@ placeFuzzy n path x distance anchor b =
 
 unfoldable pub placeNarrowing : ℕ → FieldPath → Narrowing → SeekBuilder → SeekBuilder
 placeNarrowing n path (Narrowing.Bytes bytes) b = placePart n (SeekKeyPart.Bytes bytes) path (Narrowing.Bytes bytes) b
-placeNarrowing n path (Narrowing.Tag disc) b =
-    placePart n (SeekKeyPart.Bytes (unionTag disc)) path (Narrowing.Tag disc) (withOpened (b .building ∷ b .opened) b)
+placeNarrowing n path (Narrowing.Tag disc) b = placePart n (SeekKeyPart.Bytes (unionTag disc)) path (Narrowing.Tag disc) b
 placeNarrowing n path (Narrowing.RegisterField address at) b =
     placePart n (SeekKeyPart.RegisterField address at) path (Narrowing.RegisterField address at) b
 placeNarrowing n path (Narrowing.FactId address) b = placePart n (SeekKeyPart.RegisterFactId address) path (Narrowing.FactId address) b
 placeNarrowing n path (Narrowing.Prefix prefix) b = placePrefix n path prefix b
 placeNarrowing n path (Narrowing.Fuzzy x distance anchor) b = placeFuzzy n path x distance anchor b
 
--- "Closer: one part of byte 00 if building held before its tag and still holds, else nothing."
-unfoldable pub closePart : ℕ → Bool → SeekBuilder → SeekBuilder
-closePart n held b =
-    elim (both held (b .building)) [
-      | true ↦ withCloser (withPart (record { key = SeekKeyPart.Bytes term; node = n }) b)
-      | false ↦ b
-    ]
-
-unfoldable pub placeCloser : ℕ → List Bool → SeekBuilder → SeekBuilder
-placeCloser n [] b = b
-placeCloser n (held ∷ outer) b = closePart n held (withOpened outer b)
+-- "Closer: one part of byte 00 if building held before its tag and still holds, else nothing." Building never returns, so where it still
+-- holds it held before the tag: request [9], and proofs/Closers.antt.
+unfoldable pub placeCloser : ℕ → SeekBuilder → SeekBuilder
+placeCloser n b = elim (b .building) [ true ↦ withCloser (withPart (record { key = SeekKeyPart.Bytes term; node = n }) b) | false ↦ b ]
 
 -- Rust `flipped`; request [5]: the "formula over the op's number: add 2, remainder by 4"
 unfoldable pub flipped : CompareOp → CompareOp
@@ -298,7 +267,7 @@ placeBound T x t b = elim (b .building) [ true ↦ withEdges (foldFrom T x t 0 (
 unfoldable pub place : Tables → Event → SeekBuilder → SeekBuilder
 place T (Event.narrow n path x) b = placeNarrowing n path x b
 place T Event.skip b = fall b
-place T (Event.closer n) b = placeCloser n (b .opened) b
+place T (Event.closer n) b = placeCloser n b
 place T (Event.bound x t) b = placeBound T x t b
 
 -- "Placement begins anew at each level and takes its events one by one"
@@ -345,7 +314,7 @@ unfoldable pub seekKey : SeekBuilder → SeekKey
 seekKey b = seek (b .parts) (b .range) (b .edges .lo) (b .edges .hi)
 
 unfoldable pub openPlacement : Unit {0}
-unfolding new withPart withResidual withGuide withRange withEdges withCloser withOpened fall placePart placePrefix rangeAt attachable
-    placeFuzzy placeNarrowing closePart placeCloser flipped isVar compared takeHi takeLo takeEdge sided foldFrom placeBound place placeAll
+unfolding new withPart withResidual withGuide withRange withEdges withCloser fall placePart placePrefix rangeAt attachable
+    placeFuzzy placeNarrowing placeCloser flipped isVar compared takeHi takeLo takeEdge sided foldFrom placeBound place placeAll
     asBytes joined nodesOf unranged seek seekKey
 openPlacement = tt

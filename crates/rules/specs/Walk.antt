@@ -160,7 +160,7 @@ module _ {S : Type 0} (o : Ops S) (T : Tables) where
     unfoldable pub injectAlternative : ℕ → FieldPattern → Option Alternative → FieldPath → S → S
     injectAlternative n f none path w = report n Code.RejectUnknownAlternative (skip w)
     injectAlternative n f (some alt) path w =
-        closer n w
+        closer n
         (below (f .node) (alt .type) (payload path (alt .disc))
         (narrow n path (Narrowing.Tag (alt .disc)) w))
 

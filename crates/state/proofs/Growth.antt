@@ -1,4 +1,4 @@
--- A walk of the written rules only grows: its lists and its level never come to fewer bytes, its tags are closed as they were opened, and its level stays sane.
+-- A walk of the written rules only grows: its lists and its level never come to fewer bytes, and its level stays sane.
 use mathlib.Core.Bool.{Bool, true, false}
 use mathlib.Core.List.{List, [], _∷_, _++_}
 use mathlib.Core.Option.{none}
@@ -7,12 +7,12 @@ use Prim.Native.Nat.{ℕ, suc, _+_, _≤_}
 use native.Mathlib.Nat.{suc-add, zero-add, add-zero}
 use native.Mathlib.Omega.{arith}
 use lib.ListN.{length, drop, length-append}
-use Rattle.rules.specs.Base.{both, concatMap}
+use Rattle.rules.specs.Base.{concatMap}
 use Rattle.rules.specs.File.{Tables, FieldPath, Slot, Anchor}
-use Rattle.rules.specs.Constant.{Const, unionTag, term}
+use Rattle.rules.specs.Constant.{Const, term}
 use Rattle.rules.specs.Events.{Code, Narrowing, Event, Lists, Walk, bind, constrained, select, report, emit}
 use Rattle.rules.specs.Walk.{narrowing}
-use Rattle.rules.specs.Placement.{SeekKeyPart, Part, Residual, Guide, Range, Edges, SeekBuilder, new, withPart, withResidual, withGuide, withRange, withEdges, withCloser, withOpened, fall, placePart, placePrefix, attachable, placeFuzzy, placeNarrowing, closePart, placeCloser, placeBound, place, placeAll}
+use Rattle.rules.specs.Placement.{SeekKeyPart, Part, Residual, Guide, Range, Edges, SeekBuilder, new, withPart, withResidual, withGuide, withRange, withEdges, withCloser, fall, placePart, placePrefix, attachable, placeFuzzy, placeNarrowing, placeCloser, placeBound, place, placeAll}
 use Rattle.rules.specs.Levels.{narrowings}
 use Rattle.rules.specs.Plan as Plan
 use Rattle.rules.specs.Demand3.{number}
@@ -44,10 +44,6 @@ sane-residual n r b e s =
       no-guide = s .no-guide;
       counted = omega (arith, s .counted, length-append (b .residuals) (r ∷ []));
     }
-
-sane-opened : (n : ℕ) (opened : List Bool) (b : SeekBuilder) → Sane n b → Sane n (withOpened opened b)
-unfolding withOpened
-sane-opened n opened b s = record { clean = s .clean; no-range = s .no-range; no-guide = s .no-guide; counted = s .counted }
 
 sane-closer : (n : ℕ) (b : SeekBuilder) → Sane n b → Sane n (withCloser b)
 unfolding withCloser
@@ -82,26 +78,25 @@ sane-guide n guide b e s = fallen (n + 1) (fall (withGuide guide b)) refl (omega
 -- One event: n narrowings and what they made, before and after.
 pub record Step (n : ℕ) (b : SeekBuilder) (m : ℕ) (b′ : SeekBuilder) : Type 0 where
   pub sane : Sane n b → Sane m b′
-  pub opened : b′ .opened ≡ b .opened
   pub weight : weight b ≤ weight b′
 
 step-residual : (n : ℕ) (r : Residual) (b : SeekBuilder) → (Sane n b → b .building ≡ false) → Step n b (n + 1) (withResidual r b)
 unfolding withResidual
-step-residual n r b e = record { sane = λ s. sane-residual n r b (e s) s; opened = refl; weight = weight-residual r b }
+step-residual n r b e = record { sane = λ s. sane-residual n r b (e s) s; weight = weight-residual r b }
 
 step-part : (n node : ℕ) (key : SeekKeyPart) (path : FieldPath) (op : Narrowing) (b : SeekBuilder) → Step n b (n + 1) (placePart node key path op b)
 unfolding placePart withPart
 step-part n node key path op b =
     let p : Part = record { key = key; node = node } in
     by-test (Step n b (n + 1)) (b .building)
-    (λ e. record { sane = sane-part n (n + 1) p b (omega arith); opened = refl; weight = weight-part p b })
+    (λ e. record { sane = sane-part n (n + 1) p b (omega arith); weight = weight-part p b })
     (λ e. step-residual n (record { path = path; op = op; node = node }) b (λ s. e))
 
 step-prefix : (n node : ℕ) (path : FieldPath) (prefix : List ℕ) (b : SeekBuilder) → Step n b (n + 1) (placePrefix node path prefix b)
 unfolding placePrefix fall withRange weight
 step-prefix n node path prefix b =
     by-test (Step n b (n + 1)) (b .building)
-    (λ e. record { sane = sane-range n (record { path = path; prefix = prefix; node = node }) b e; opened = refl; weight = omega arith })
+    (λ e. record { sane = sane-range n (record { path = path; prefix = prefix; node = node }) b e; weight = omega arith })
     (λ e. step-residual n (record { path = path; op = Narrowing.Prefix prefix; node = node }) b (λ s. e))
 
 -- a guide is attached only where none is, and always while building holds
@@ -124,7 +119,7 @@ step-fuzzy : (n node : ℕ) (path : FieldPath) (x d : ℕ) (a : Anchor) (b : See
 unfolding placeFuzzy fall withGuide weight
 step-fuzzy n node path x d a b =
     by-test (Step n b (n + 1)) (attachable b path)
-    (λ e. record { sane = sane-guide n (record { path = path; term = x; distance = d; anchor = a; node = node }) b (attaches b path e); opened = refl; weight = omega arith })
+    (λ e. record { sane = sane-guide n (record { path = path; term = x; distance = d; anchor = a; node = node }) b (attaches b path e); weight = omega arith })
     (λ e. step-residual n (record { path = path; op = Narrowing.Fuzzy x d a; node = node }) b (refuses-guide n b path e))
 
 step-constant : (n node : ℕ) (path : FieldPath) (c : Const) (b : SeekBuilder) → Step n b (n + 1) (placeNarrowing node path (narrowing c) b)
@@ -135,48 +130,22 @@ step-constant n node path (Const.Fuzzy x d a) b = step-fuzzy n node path x d a b
 
 step-fall : (n : ℕ) (b : SeekBuilder) → Step n b n (fall b)
 unfolding fall weight
-step-fall n b = record { sane = sane-fall n b; opened = refl; weight = omega arith }
+step-fall n b = record { sane = sane-fall n b; weight = omega arith }
 
 step-bound : (T : Tables) (x t n : ℕ) (b : SeekBuilder) → Step n b n (placeBound T x t b)
 unfolding placeBound withEdges weight
 step-bound T x t n b =
     by-test (Step n b n) (b .building)
-    (λ e. record { sane = sane-edges n _ b; opened = refl; weight = omega arith })
-    (λ e. record { sane = λ s. s; opened = refl; weight = omega arith })
+    (λ e. record { sane = sane-edges n _ b; weight = omega arith })
+    (λ e. record { sane = λ s. s; weight = omega arith })
 
--- a tag opens, and its closer ends what it opened
-record Opens (n : ℕ) (b : SeekBuilder) (m : ℕ) (b′ : SeekBuilder) : Type 0 where
-  sane : Sane n b → Sane m b′
-  opened : b′ .opened ≡ b .building ∷ b .opened
-  weight : weight b ≤ weight b′
-
-opens-tag : (n node : ℕ) (path : FieldPath) (d : ℕ) (b : SeekBuilder) → Opens n b (n + 1) (placeNarrowing node path (Narrowing.Tag d) b)
-unfolding placeNarrowing withOpened weight
-opens-tag n node path d b =
-    let o = withOpened (b .building ∷ b .opened) b in
-    let r = step-part n node (SeekKeyPart.Bytes (unionTag d)) path (Narrowing.Tag d) o in
-    record { sane = λ s. r .sane (sane-opened n (b .building ∷ b .opened) b s); opened = r .opened; weight = r .weight }
-
-record Closes (n : ℕ) (b : SeekBuilder) (outer : List Bool) (b′ : SeekBuilder) : Type 0 where
-  sane : Sane n b → Sane n b′
-  opened : b′ .opened ≡ outer
-  weight : weight b ≤ weight b′
-
-pub closer-as : (node : ℕ) (b : SeekBuilder) (held : Bool) (outer : List Bool) → b .opened ≡ held ∷ outer → placeCloser node (b .opened) b ≡ closePart node held (withOpened outer b)
-unfolding placeCloser
-closer-as node b held outer e = ap (λ (o : List Bool). placeCloser node o b) e
-
-closes-part : (n node : ℕ) (b : SeekBuilder) (held : Bool) (outer : List Bool) → Closes n b outer (closePart node held (withOpened outer b))
-unfolding closePart withOpened withCloser withPart weight
-closes-part n node b held outer =
+step-closer : (n node : ℕ) (b : SeekBuilder) → Step n b n (placeCloser node b)
+unfolding placeCloser withCloser withPart weight
+step-closer n node b =
     let p : Part = record { key = SeekKeyPart.Bytes term; node = node } in
-    by-test (Closes n b outer) (both held (b .building))
-    (λ e. record {
-      sane = λ s. sane-closer n _ (sane-part n n p (withOpened outer b) (omega arith) (sane-opened n outer b s));
-      opened = refl;
-      weight = weight-part p b;
-    })
-    (λ e. record { sane = sane-opened n outer b; opened = refl; weight = omega arith })
+    by-test (Step n b n) (b .building)
+    (λ e. record { sane = λ s. sane-closer n _ (sane-part n n p b (omega arith) s); weight = weight-part p b })
+    (λ e. record { sane = λ s. s; weight = omega arith })
 
 -- A walk's level: what placement makes of its events, and how many of them narrow.
 abbrev pub built : Tables → Walk → SeekBuilder
@@ -212,26 +181,14 @@ size T w = listSize T (w .lists) + weight (built T w)
 
 pub record Grew (T : Tables) (w w′ : Walk) : Type 0 where
   pub sane : Sane (met w) (built T w) → Sane (met w′) (built T w′)
-  pub opened : built T w′ .opened ≡ built T w .opened
   pub size : size T w ≤ size T w′
 
--- the same but for what is open
-pub record Larger (T : Tables) (w w′ : Walk) : Type 0 where
-  pub sane : Sane (met w) (built T w) → Sane (met w′) (built T w′)
-  pub size : size T w ≤ size T w′
-
-pub larger : {T : Tables} {w w′ : Walk} → Grew T w w′ → Larger T w w′
-larger g = record { sane = g .sane; size = g .size }
-
--- one event whose level is known
-larger-emit : (T : Tables) (e : Event) (w : Walk) (b : SeekBuilder) → built T (emit e w) ≡ b → (Sane (met w) (built T w) → Sane (met w + narrowings (e ∷ [])) b) → weight (built T w) ≤ weight b → Larger T w (emit e w)
-unfolding emit size
-larger-emit T e w b same s h = record { sane = λ k. subst₂ Sane (sym (met-emit e w)) (sym same) (s k); size = omega (arith, h, ap weight same) }
-
+-- one event more
 grew-emit : (T : Tables) (e : Event) (w : Walk) → Step (met w) (built T w) (met w + narrowings (e ∷ [])) (place T e (built T w)) → Grew T w (emit e w)
+unfolding emit size
 grew-emit T e w s =
-    let g = larger-emit T e w _ (built-emit T e w) (s .sane) (s .weight) in
-    record { sane = g .sane; opened = ap (λ (b : SeekBuilder). b .opened) (built-emit T e w) ∙ s .opened; size = g .size }
+    let same = built-emit T e w in
+    record { sane = λ k. subst₂ Sane (sym (met-emit e w)) (sym same) (s .sane k); size = omega (arith, s .weight, ap weight same) }
 
 -- one entry more in one of the lists
 grew-lists : (T : Tables) (w w′ : Walk) → w′ .events ≡ w .events → listSize T (w .lists) ≤ listSize T (w′ .lists) → Grew T w w′
@@ -239,15 +196,14 @@ unfolding size
 grew-lists T w w′ e h =
     record {
       sane = subst (λ (es : List Event). Sane (narrowings es) (placeAll T es new)) (sym e);
-      opened = ap (λ (es : List Event). placeAll T es new .opened) e;
       size = omega (arith, h, ap (λ (es : List Event). weight (placeAll T es new)) e);
     }
 
 grew-same : (T : Tables) (w : Walk) → Grew T w w
-grew-same T w = record { sane = λ s. s; opened = refl; size = omega arith }
+grew-same T w = record { sane = λ s. s; size = omega arith }
 
 grew-next : (T : Tables) (u v w : Walk) → Grew T u v → Grew T v w → Grew T u w
-grew-next T u v w g h = record { sane = λ s. h .sane (g .sane s); opened = h .opened ∙ g .opened; size = omega (arith, g .size, h .size) }
+grew-next T u v w g h = record { sane = λ s. h .sane (g .sane s); size = omega (arith, g .size, h .size) }
 
 pub grew-bind : (T : Tables) (x : ℕ) (slot : Slot) (w : Walk) → Grew T w (bind x slot w)
 unfolding bind listSize
@@ -288,39 +244,13 @@ pub grew-fact : (T : Tables) (m a : ℕ) (path : FieldPath) (w : Walk) → Grew 
 unfolding placeNarrowing
 grew-fact T m a path w = grew-narrow T m path (Narrowing.FactId a) w (step-part (met w) m _ path _ (built T w))
 
-pub larger-tag : (T : Tables) (m d : ℕ) (p : FieldPath) (w : Walk) → Larger T w (narrow m p (Narrowing.Tag d) w)
+pub grew-tag : (T : Tables) (m d : ℕ) (path : FieldPath) (w : Walk) → Grew T w (narrow m path (Narrowing.Tag d) w)
+unfolding placeNarrowing
+grew-tag T m d path w = grew-narrow T m path (Narrowing.Tag d) w (step-part (met w) m _ path _ (built T w))
+
+pub grew-closer : (T : Tables) (m : ℕ) (w : Walk) → Grew T w (emit (Event.closer m) w)
 unfolding place narrowings
-larger-tag T m d p w =
-    let o = opens-tag (met w) m p d (built T w) in
-    larger-emit T (Event.narrow m p (Narrowing.Tag d)) w _ (built-emit T (Event.narrow m p (Narrowing.Tag d)) w) (o .sane) (o .weight)
-
--- a tag's opened, of the walk after it
-tag-opened : (T : Tables) (m d : ℕ) (p : FieldPath) (w : Walk) → built T (narrow m p (Narrowing.Tag d) w) .opened ≡ built T w .building ∷ built T w .opened
-unfolding place
-tag-opened T m d p w = ap (λ (b : SeekBuilder). b .opened) (built-emit T (Event.narrow m p (Narrowing.Tag d)) w) ∙ opens-tag (met w) m p d (built T w) .opened
-
--- what a closer makes of a walk that follows its tag
-module _ (T : Tables) (m d : ℕ) (p : FieldPath) (w w′ : Walk) (g : Grew T (narrow m p (Narrowing.Tag d) w) w′) where
-  pub built-closer : built T (emit (Event.closer m) w′) ≡ closePart m (built T w .building) (withOpened (built T w .opened) (built T w′))
-  unfolding place
-  built-closer = built-emit T (Event.closer m) w′ ∙ closer-as m (built T w′) (built T w .building) (built T w .opened) (g .opened ∙ tag-opened T m d p w)
-
-  closes : Closes (met w′) (built T w′) (built T w .opened) (closePart m (built T w .building) (withOpened (built T w .opened) (built T w′)))
-  closes = closes-part (met w′) m (built T w′) (built T w .building) (built T w .opened)
-
-  pub larger-closer : Larger T w′ (emit (Event.closer m) w′)
-  unfolding narrowings
-  larger-closer = larger-emit T (Event.closer m) w′ _ built-closer (λ s. rw add-zero (closes .sane s)) (closes .weight)
-
-  grew-union : Grew T w (emit (Event.closer m) w′)
-  grew-union =
-      let o = larger-tag T m d p w in
-      let k = larger-closer in
-      record {
-        sane = λ s. k .sane (g .sane (o .sane s));
-        opened = ap (λ (b : SeekBuilder). b .opened) built-closer ∙ closes .opened;
-        size = omega (arith, o .size, g .size, k .size);
-      }
+grew-closer T m w = grew-emit T (Event.closer m) w (rw add-zero (step-closer (met w) m (built T w)))
 
 pub grew-keeps : (T : Tables) → Keeps T (Grew T)
 grew-keeps T =
@@ -336,5 +266,5 @@ grew-keeps T =
       constants = λ m n t c p w e s. grew-constant T m c p w;
       registers = λ m a at p w s s′. grew-register T m a at p w;
       facts = λ m a p w s. grew-fact T m a p w;
-      unions = λ m d p w w′ s g. grew-union T m d p w w′ g;
+      unions = λ m d p w w′ s g. grew-next T w _ _ (grew-tag T m d p w) (grew-next T _ _ _ g (grew-closer T m w′));
     }

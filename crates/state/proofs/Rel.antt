@@ -8,14 +8,14 @@ use borrow.Author.Tests.{le-leb, leb-false}
 use lib.Dec.{leb}
 use lib.ListN.{length, length-append}
 use lib.Seq.{sets}
-use Rattle.rules.specs.Base.{both, all, concatMap}
+use Rattle.rules.specs.Base.{all, concatMap}
 use Rattle.rules.specs.Limits.{planLimit}
 use Rattle.rules.specs.File.{Tables, FieldPath, Anchor}
 use Rattle.rules.specs.Constant.{term}
 use Rattle.rules.specs.Events.{Narrowing, Lists, Walk}
-use Rattle.rules.specs.Placement.{SeekKeyPart, Part, Residual, Range, Guide, SeekBuilder, withPart, withResidual, withGuide, withRange, withEdges, withCloser, withOpened, fall, placePart, placePrefix, attachable, placeFuzzy, placeNarrowing, closePart, placeBound}
+use Rattle.rules.specs.Placement.{SeekKeyPart, Part, Residual, Range, Guide, SeekBuilder, withPart, withResidual, withGuide, withRange, withEdges, withCloser, fall, placePart, placePrefix, attachable, placeFuzzy, placeNarrowing, placeCloser, placeBound}
 use Rattle.rules.specs.Plan as Plan
-use Rattle.rules.proofs.Cases.{by-test, true≢false, leb-le, both-right}
+use Rattle.rules.proofs.Cases.{by-test, true≢false, leb-le}
 use Rattle.rules.proofs.Choices.{by-test₂}
 use Rattle.state.specs.State.{Ends, Counts, counts, Level, Target, State, state, stop, unless, fits}
 use Rattle.state.specs.Ops as Ops
@@ -24,7 +24,7 @@ use Rattle.state.proofs.Seqs.{sets-append, sets-before, concatMap-snoc,
 use Rattle.state.proofs.Stopped.{unless-over, unless-live}
 use Rattle.state.proofs.Mem.{Mem}
 use Rattle.state.proofs.Sizes.{textOf, plainPart, summary, weight, part-length, restForm, residual-length, all-snoc, Sane, summary-long}
-use Rattle.state.proofs.Growth.{built, met, listSize, size, Larger}
+use Rattle.state.proofs.Growth.{built, met, listSize, size, Grew}
 
 -- the counts of a level that has these parts and nothing else
 abbrev pub countsOf : List Part → Counts
@@ -71,12 +71,12 @@ module _ (T : Tables) (t : Target) (base : List ℕ) where
   of-long l n b c e s h = record { sane = s; live = λ q. absurd (true≢false (sym e ∙ q)); dead = λ q. h }
 
   -- once stopped, what is too long stays too long
-  pub rel-stays : (w w′ : Walk) (c : State) → c .over ≡ true → Larger T w w′ → Rel T t base w c → Rel T t base w′ c
+  pub rel-stays : (w w′ : Walk) (c : State) → c .over ≡ true → Grew T w w′ → Rel T t base w c → Rel T t base w′ c
   unfolding size
   rel-stays w w′ c e g r = of-long (w′ .lists) (met w′) (built T w′) c e (g .sane (r .sane)) (omega (arith, r .dead e, g .size))
 
   -- an operation: where there is room it does as f does
-  pub rel-unless : (w w′ : Walk) (c : State) (f : State → State) → Larger T w w′ → Rel T t base w c → (c .over ≡ false → Good T t base (w .lists) (met w) (built T w) c → Sane (met w′) (built T w′) → Rel T t base w′ (f c)) → Rel T t base w′ (unless f c)
+  pub rel-unless : (w w′ : Walk) (c : State) (f : State → State) → Grew T w w′ → Rel T t base w c → (c .over ≡ false → Good T t base (w .lists) (met w) (built T w) c → Sane (met w′) (built T w′) → Rel T t base w′ (f c)) → Rel T t base w′ (unless f c)
   rel-unless w w′ c f g r k = go (c .over) refl
     where
       go : (o : Bool) → c .over ≡ o → Rel T t base w′ (unless f c)
@@ -268,7 +268,7 @@ module _ (T : Tables) (t : Target) (base : List ℕ) (l : Lists) (n : ℕ) (b : 
       of-good T t base l n (placeBound T x ty b) (relevel (boundLevel T x ty) c) e s
       (record { mem = g .mem; level = ap (boundLevel T x ty) (g .level) ∙ bound-level x ty; target = g .target; plan = g .plan ∙ bound-plan x ty })
 
-  -- "one part of byte 00 if building held before its tag and still holds"
+  -- one part of byte 00 while building
   rel-closer-part : (p : Part) → b .residuals ≡ [] → Sane n (withCloser (withPart p b)) → RelAt T t base l n (withCloser (withPart p b)) (putPart (p .node) (p .key) (closed (c .level .counts)) c)
   unfolding putPart withCloser planAs
   rel-closer-part p clean s =
@@ -276,24 +276,18 @@ module _ (T : Tables) (t : Target) (base : List ℕ) (l : Lists) (n : ℕ) (b : 
       (ap (λ (x : Level). Ops.withPart (p .key) (closed (x .counts)) x) (g .level) ∙ closer-level p n b)
       (part-written p clean)
 
-  pub rel-close : (node : ℕ) (held held′ : Bool) → held′ ≡ held → (b .building ≡ true → b .residuals ≡ []) → Sane n (closePart node held b) → RelAt T t base l n (closePart node held b) (close node held′ c)
-  unfolding closePart close
-  rel-close node held held′ q clean s =
-      subst (λ (k : Bool). RelAt T t base l n (closePart node held b) (elim k [ true ↦ putPart node (SeekKeyPart.Bytes term) (closed (c .level .counts)) c | false ↦ c ])) (sym (λ i. both (q i) (building-is i)))
-      (by-test₂ (λ b′ c′. Sane n b′ → RelAt T t base l n b′ c′) (both held (b .building))
-      (λ h. rel-closer-part (record { key = SeekKeyPart.Bytes term; node = node }) (clean (both-right held (b .building) h)))
+  pub rel-close : (node : ℕ) → (b .building ≡ true → b .residuals ≡ []) → Sane n (placeCloser node b) → RelAt T t base l n (placeCloser node b) (close node c)
+  unfolding placeCloser close
+  rel-close node clean s =
+      subst (λ (k : Bool). RelAt T t base l n (placeCloser node b) (elim k [ true ↦ putPart node (SeekKeyPart.Bytes term) (closed (c .level .counts)) c | false ↦ c ])) (sym building-is)
+      (by-test₂ (λ b′ c′. Sane n b′ → RelAt T t base l n b′ c′) (b .building)
+      (λ h. rel-closer-part (record { key = SeekKeyPart.Bytes term; node = node }) (clean h))
       (λ h s′. of-good T t base l n b c e s′ g) s)
 
--- a tag's opening shows in no level and no plan
-pub good-opened : (T : Tables) (t : Target) (base : List ℕ) (l : Lists) (n : ℕ) (b : SeekBuilder) (c : State) (opened : List Bool) → Good T t base l n b c → Good T t base l n (withOpened opened b) c
-unfolding withOpened summary planAs
-good-opened T t base l n b c opened g = record { mem = g .mem; level = g .level; target = g .target; plan = g .plan }
-
 pub rel-narrowing : (T : Tables) (t : Target) (base : List ℕ) (l : Lists) (n : ℕ) (b : SeekBuilder) (c : State) → c .over ≡ false → Good T t base l n b c → Sane n b → (node : ℕ) (path : FieldPath) (x : Narrowing) → Sane (n + 1) (placeNarrowing node path x b) → RelAt T t base l (n + 1) (placeNarrowing node path x b) (Ops.narrowing node path x c)
-unfolding placeNarrowing Ops.narrowing withOpened
+unfolding placeNarrowing Ops.narrowing
 rel-narrowing T t base l n b c e g s₀ node path (Narrowing.Bytes bytes) s = rel-place-part T t base l n b c e g node _ path _ (s₀ .clean) s
-rel-narrowing T t base l n b c e g s₀ node path (Narrowing.Tag d) s =
-    rel-place-part T t base l n (withOpened (b .building ∷ b .opened) b) c e (good-opened T t base l n b c (b .building ∷ b .opened) g) node _ path _ (s₀ .clean) s
+rel-narrowing T t base l n b c e g s₀ node path (Narrowing.Tag d) s = rel-place-part T t base l n b c e g node _ path _ (s₀ .clean) s
 rel-narrowing T t base l n b c e g s₀ node path (Narrowing.RegisterField a at) s = rel-place-part T t base l n b c e g node _ path _ (s₀ .clean) s
 rel-narrowing T t base l n b c e g s₀ node path (Narrowing.FactId a) s = rel-place-part T t base l n b c e g node _ path _ (s₀ .clean) s
 rel-narrowing T t base l n b c e g s₀ node path (Narrowing.Prefix prefix) s = rel-prefix T t base l n b c e g node path prefix s

@@ -12,7 +12,7 @@ use Rattle.rules.specs.Base.{Each, concatMap}
 use Rattle.rules.specs.File.{Tables, FieldTy, Alternative, Ty, FieldPath, Slot, Binding, typeAt, nodeAt, recordTy, unionTy, payload}
 use Rattle.rules.specs.Events.{Code, Select, Diagnostic, Narrowing, Event, Lists, Walk, bind, constrained, select, report, emit}
 use Rattle.rules.specs.Walk.{narrowing}
-use Rattle.rules.specs.Placement.{SeekBuilder, place, placeNarrowing, placeBound, fall, closePart, withOpened}
+use Rattle.rules.specs.Placement.{SeekBuilder, place}
 use Rattle.rules.specs.Levels.{narrowings}
 use Rattle.rules.specs.Plan as Plan
 use Rattle.rules.proofs.Cases.{some≢none, some-injective}
@@ -21,7 +21,7 @@ use Rattle.rules.proofs.Keeps.{narrow, skip}
 use Rattle.rules.proofs.Numbers.{TypeNumbers, NodeNumbers, Bounded}
 use Rattle.rules.proofs.RoundTrip.{PathNumbers, BindingNumbers}
 use Rattle.rules.proofs.Runs.{Numbers, Stands, Sim}
-use Rattle.state.specs.State.{Level, Target, State, unless, made, constrainedAt, selectsAt, diagnosticsAt, runsEnd}
+use Rattle.state.specs.State.{Target, State, unless, made, constrainedAt, selectsAt, diagnosticsAt, runsEnd}
 use Rattle.rules.proofs.Sound.{Sound}
 use Rattle.rules.proofs.ReaderTables.{PathWithin, first-within, then-within}
 use Rattle.state.specs.Ops as Ops
@@ -31,9 +31,9 @@ use Rattle.state.proofs.Stopped.{stopped}
 use Rattle.state.proofs.Fitting.{all-fitting}
 use Rattle.state.proofs.Made.{binding-length}
 use Rattle.state.proofs.Mem.{mem-bind, mem-constrain, mem-select, mem-report, mem-lookup, same-reported}
-use Rattle.state.proofs.Sizes.{summary, Sane}
-use Rattle.state.proofs.Growth.{built, met, built-emit, met-emit, listSize, Grew, Larger, larger, grew-bind, grew-constrained, grew-select, grew-report, grew-skip, grew-bound, grew-constant, grew-register, grew-fact, larger-tag, larger-closer, built-closer}
-use Rattle.state.proofs.Rel.{Good, RelAt, Rel, rel-stays, rel-unless, rel-append, rel-counted, rel-fall, rel-bound, rel-close, rel-narrowing, good-opened}
+use Rattle.state.proofs.Sizes.{Sane}
+use Rattle.state.proofs.Growth.{built, met, built-emit, met-emit, listSize, Grew, grew-bind, grew-constrained, grew-select, grew-report, grew-skip, grew-bound, grew-constant, grew-register, grew-fact, grew-tag, grew-closer}
+use Rattle.state.proofs.Rel.{Good, RelAt, Rel, rel-stays, rel-unless, rel-append, rel-counted, rel-fall, rel-bound, rel-close, rel-narrowing}
 
 abbrev pub Name : ℕ → Type 0
 Name x = x < 65536
@@ -89,7 +89,7 @@ module _ (T : Tables) (t : Target) (base : List ℕ) where
   rel-bind : (x : ℕ) (slot : Slot) (w : Walk) (c : State) → BindingNumbers (record { name = x; slot = slot }) → Rel T t base w c → Rel T t base (bind x slot w) (Ops.bind x slot c)
   unfolding bind Ops.bind listSize
   rel-bind x slot w c numbers r =
-      rel-unless T t base w (bind x slot w) c _ (larger (grew-bind T x slot w)) r λ e g s.
+      rel-unless T t base w (bind x slot w) c _ (grew-bind T x slot w) r λ e g s.
       let b : Binding = record { name = x; slot = slot } in
       let m = g .mem in
       rel-counted T t base (bind x slot w .lists) (met w) (built T w) c _ (c .ends .bindings) constrainedAt (Plan.binding b) _
@@ -101,7 +101,7 @@ module _ (T : Tables) (t : Target) (base : List ℕ) where
   rel-constrained : (x : ℕ) (w : Walk) (c : State) → Rel T t base w c → Rel T t base (constrained x w) (Ops.constrained x c)
   unfolding constrained Ops.constrained listSize
   rel-constrained x w c r =
-      rel-unless T t base w (constrained x w) c _ (larger (grew-constrained T x w)) r λ e g s.
+      rel-unless T t base w (constrained x w) c _ (grew-constrained T x w) r λ e g s.
       rel-append T t base (constrained x w .lists) (met w) (built T w) c (c .ends .constrained) selectsAt (Plan.u16 x) _ e s
       (λ h. record { mem = mem-constrain T (w .lists) (c .ends) (c .work) (g .mem) x h; level = g .level; target = g .target; plan = g .plan })
       (λ h. omega (arith, h, g .mem .constrained .ends, length-snoc Plan.u16 (w .lists .constrained) x))
@@ -109,7 +109,7 @@ module _ (T : Tables) (t : Target) (base : List ℕ) where
   rel-select : (a : ℕ) (p : FieldPath) (d : ℕ) (w : Walk) (c : State) → Rel T t base w c → Rel T t base (select a p d w) (Ops.select a p d c)
   unfolding select Ops.select listSize
   rel-select a p d w c r =
-      rel-unless T t base w (select a p d w) c _ (larger (grew-select T a p d w)) r λ e g s.
+      rel-unless T t base w (select a p d w) c _ (grew-select T a p d w) r λ e g s.
       let k : Select = record { address = a; path = p; disc = d } in
       let m = g .mem in
       rel-counted T t base (select a p d w .lists) (met w) (built T w) c _ (c .ends .selects) diagnosticsAt (Plan.select k) _
@@ -121,54 +121,53 @@ module _ (T : Tables) (t : Target) (base : List ℕ) where
   rel-report : (n : ℕ) (code : Code) (w : Walk) (c : State) → Rel T t base w c → Rel T t base (report n code w) (Ops.report n code c)
   unfolding report Ops.report listSize
   rel-report n code w c r =
-      rel-unless T t base w (report n code w) c _ (larger (grew-report T n code w)) r λ e g s.
+      rel-unless T t base w (report n code w) c _ (grew-report T n code w) r λ e g s.
       let d : Diagnostic = record { node = n; code = code } in
       rel-append T t base (report n code w .lists) (met w) (built T w) c (c .ends .diagnostics) runsEnd (Plan.diagnostic d) _ e s
       (λ h. record { mem = mem-report T (w .lists) (c .ends) (c .work) (g .mem) d h; level = g .level; target = g .target; plan = g .plan })
       (λ h. omega (arith, h, g .mem .diagnostics .ends, length-snoc Plan.diagnostic (w .lists .diagnostics) d))
 
-  -- The level's events. One whose level is known:
-  rel-emit : (ev : Event) (w : Walk) (c : State) (f : State → State) (b : SeekBuilder) → built T (emit ev w) ≡ b → Larger T w (emit ev w) → Rel T t base w c
-      → (c .over ≡ false → Good T t base (w .lists) (met w) (built T w) c → Sane (met w + narrowings (ev ∷ [])) b → RelAt T t base (w .lists) (met w + narrowings (ev ∷ [])) b (f c))
+  -- The level's events.
+  rel-emit : (ev : Event) (w : Walk) (c : State) (f : State → State) → Grew T w (emit ev w) → Rel T t base w c
+      → (c .over ≡ false → Good T t base (w .lists) (met w) (built T w) c → Sane (met w + narrowings (ev ∷ [])) (place T ev (built T w)) → RelAt T t base (w .lists) (met w + narrowings (ev ∷ [])) (place T ev (built T w)) (f c))
       → Rel T t base (emit ev w) (unless f c)
   unfolding emit
-  rel-emit ev w c f b same g r k =
+  rel-emit ev w c f g r k =
       rel-unless T t base w (emit ev w) c f g r λ e good s.
-      subst₂ (λ (n : ℕ) (b′ : SeekBuilder). RelAt T t base (w .lists) n b′ (f c)) (sym (met-emit ev w)) (sym same) (k e good (subst₂ Sane (met-emit ev w) same s))
+      subst₂ (λ (n : ℕ) (b : SeekBuilder). RelAt T t base (w .lists) n b (f c)) (sym (met-emit ev w)) (sym (built-emit T ev w)) (k e good (subst₂ Sane (met-emit ev w) (built-emit T ev w) s))
 
   -- one that does not narrow
-  rel-quiet : (ev : Event) (w : Walk) (c : State) (f : State → State) (b : SeekBuilder) → narrowings (ev ∷ []) ≡ 0 → built T (emit ev w) ≡ b → Larger T w (emit ev w) → Rel T t base w c
-      → (c .over ≡ false → Good T t base (w .lists) (met w) (built T w) c → Sane (met w) b → RelAt T t base (w .lists) (met w) b (f c))
+  rel-quiet : (ev : Event) (w : Walk) (c : State) (f : State → State) → narrowings (ev ∷ []) ≡ 0 → Grew T w (emit ev w) → Rel T t base w c
+      → (c .over ≡ false → Good T t base (w .lists) (met w) (built T w) c → Sane (met w) (place T ev (built T w)) → RelAt T t base (w .lists) (met w) (place T ev (built T w)) (f c))
       → Rel T t base (emit ev w) (unless f c)
-  rel-quiet ev w c f b none-met same g r k =
+  rel-quiet ev w c f none-met g r k =
       let n = ap (λ (m : ℕ). met w + m) none-met ∙ add-zero (met w) in
-      rel-emit ev w c f b same g r λ e good s.
-      subst (λ (m : ℕ). RelAt T t base (w .lists) m b (f c)) (sym n) (k e good (subst (λ (m : ℕ). Sane m b) n s))
+      rel-emit ev w c f g r λ e good s.
+      subst (λ (m : ℕ). RelAt T t base (w .lists) m (place T ev (built T w)) (f c)) (sym n) (k e good (subst (λ (m : ℕ). Sane m (place T ev (built T w))) n s))
 
   rel-skip : (w : Walk) (c : State) → Rel T t base w c → Rel T t base (skip w) (Ops.skip c)
   unfolding place narrowings Ops.skip
   rel-skip w c r =
-      rel-quiet Event.skip w c (Ops.relevel Ops.fall) (fall (built T w)) refl (built-emit T Event.skip w) (larger (grew-skip T w)) r λ e g s.
+      rel-quiet Event.skip w c (Ops.relevel Ops.fall) refl (grew-skip T w) r λ e g s.
       rel-fall T t base (w .lists) (met w) (built T w) c e g s
 
   rel-bounds : (x ty : ℕ) (w : Walk) (c : State) → Rel T t base w c → Rel T t base (emit (Event.bound x ty) w) (Ops.bound T x ty c)
   unfolding place narrowings Ops.bound
   rel-bounds x ty w c r =
-      rel-quiet (Event.bound x ty) w c (Ops.relevel (Ops.boundLevel T x ty)) (placeBound T x ty (built T w)) refl (built-emit T (Event.bound x ty) w) (larger (grew-bound T x ty w)) r λ e g s.
+      rel-quiet (Event.bound x ty) w c (Ops.relevel (Ops.boundLevel T x ty)) refl (grew-bound T x ty w) r λ e g s.
       rel-bound T t base (w .lists) (met w) (built T w) c e g x ty s
 
-  rel-narrow : (m : ℕ) (p : FieldPath) (x : Narrowing) (w : Walk) (c : State) → Larger T w (narrow m p x w) → Rel T t base w c → Rel T t base (narrow m p x w) (Ops.narrow m p x c)
+  rel-narrow : (m : ℕ) (p : FieldPath) (x : Narrowing) (w : Walk) (c : State) → Grew T w (narrow m p x w) → Rel T t base w c → Rel T t base (narrow m p x w) (Ops.narrow m p x c)
   unfolding place narrowings Ops.narrow
   rel-narrow m p x w c g r =
-      rel-emit (Event.narrow m p x) w c (Ops.narrowing m p x) (placeNarrowing m p x (built T w)) (built-emit T (Event.narrow m p x) w) g r λ e good s.
+      rel-emit (Event.narrow m p x) w c (Ops.narrowing m p x) g r λ e good s.
       rel-narrowing T t base (w .lists) (met w) (built T w) c e good (r .sane) m p x s
 
-  rel-closer : (m d : ℕ) (p : FieldPath) (w w′ : Walk) (c c′ : State) → Rel T t base w c → Grew T (narrow m p (Narrowing.Tag d) w) w′ → (c′ .over ≡ false → c .over ≡ false) → Rel T t base w′ c′ → Rel T t base (emit (Event.closer m) w′) (Ops.closer m c c′)
-  unfolding narrowings Ops.closer summary withOpened
-  rel-closer m d p w w′ c c′ r g on r′ =
-      rel-quiet (Event.closer m) w′ c′ (Ops.close m (c .level .building)) (closePart m (built T w .building) (withOpened (built T w .opened) (built T w′))) refl (built-closer T m d p w w′ g) (larger-closer T m d p w w′ g) r′ λ e good s.
-      rel-close T t base (w′ .lists) (met w′) (withOpened (built T w .opened) (built T w′)) c′ e (good-opened T t base (w′ .lists) (met w′) (built T w′) c′ (built T w .opened) good)
-      m (built T w .building) (c .level .building) (ap (λ (x : Level). x .building) (r .live (on e) .level)) (r′ .sane .clean) s
+  rel-closer : (m : ℕ) (w : Walk) (c : State) → Rel T t base w c → Rel T t base (emit (Event.closer m) w) (Ops.closer m c)
+  unfolding place narrowings Ops.closer
+  rel-closer m w c r =
+      rel-quiet (Event.closer m) w c (Ops.close m) refl (grew-closer T m w) r λ e g s.
+      rel-close T t base (w .lists) (met w) (built T w) c e g m (r .sane .clean) s
 
   -- All of it, for a level whose address is within its field.
   pub simulates : Sound T → Bounded T → (address : ℕ) → address < 65536 → Sim T PathWithin Name (ops T) (λ c. c .over) address (Grew T) (Rel T t base)
@@ -176,7 +175,7 @@ module _ (T : Tables) (t : Target) (base : List ℕ) where
   simulates S bounded address h =
       record {
         idle = stopped T;
-        stays = λ w w′ c e g r. rel-stays T t base w w′ c e (larger g) r;
+        stays = λ w w′ c e g r. rel-stays T t base w w′ c e (g) r;
         lookups = λ w c f e r x. ap (Ops.checkedSlot T) (mem-lookup T (w .lists) (c .ends) (c .work) (r .live e .mem) x) ∙ all-fitting T S (w .lists .bindings) f x;
         reported = λ w w′ c c′ e e′ r r′. same-reported T (w .lists) (w′ .lists) (c .ends) (c′ .ends) (c .work) (c′ .work) (r .live e .mem) (r′ .live e′ .mem);
         constant-is = λ w c r n ty. refl;
@@ -187,11 +186,11 @@ module _ (T : Tables) (t : Target) (base : List ℕ) where
         reports = rel-report;
         skips = rel-skip;
         bounds = λ x ty w c r. rel-skip _ _ (rel-bounds x ty w c r);
-        constants = λ m n ty k p w c e s r. rel-narrow m p (narrowing k) w c (larger (grew-constant T m k p w)) r;
-        registers = λ m n at p w c s s′ r. rel-narrow m p (Narrowing.RegisterField n at) w c (larger (grew-register T m n at p w)) r;
-        facts = λ m n p w c s r. rel-narrow m p (Narrowing.FactId n) w c (larger (grew-fact T m n p w)) r;
-        tags = λ m d p w c s r. rel-narrow m p (Narrowing.Tag d) w c (larger-tag T m d p w) r;
-        closers = λ m d p w w′ c c′ s r g on r′. rel-closer m d p w w′ c c′ r g on r′;
+        constants = λ m n ty k p w c e s r. rel-narrow m p (narrowing k) w c (grew-constant T m k p w) r;
+        registers = λ m n at p w c s s′ r. rel-narrow m p (Narrowing.RegisterField n at) w c (grew-register T m n at p w) r;
+        facts = λ m n p w c s r. rel-narrow m p (Narrowing.FactId n) w c (grew-fact T m n p w) r;
+        tags = λ m d p w c s r. rel-narrow m p (Narrowing.Tag d) w c (grew-tag T m d p w) r;
+        closers = rel-closer;
       }
     where
       path-numbers : (p : FieldPath) (ty : ℕ) → Stands T PathWithin p ty → PathNumbers p

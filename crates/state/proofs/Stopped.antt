@@ -25,6 +25,6 @@ stopped T s h =
       report = λ n code. unless-over _ s h;
       narrow = λ n path x. unless-over _ s h;
       skip = unless-over _ s h;
-      closer = λ n before. unless-over _ s h;
+      closer = λ n. unless-over _ s h;
       bound = λ x t. unless-over _ s h;
     }

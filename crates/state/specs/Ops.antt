@@ -193,16 +193,15 @@ relevel f s = state (s .over) (s .ends) (f (s .level)) (s .target) (s .work) (s 
 unfoldable pub skip : State → State
 skip s = unless (relevel fall) s
 
--- "Closer: one part of byte 00 if building held before its tag and still holds, else nothing."
+-- Closer: one part of byte 00 while building, else nothing.
 unfoldable pub closed : Counts → Counts
 closed c = counts (c .narrowings) (c .closers + 1) (c .parts) (c .residuals) (c .joined) (c .parted) (c .rest)
 
-unfoldable pub close : ℕ → Bool → State → State
-close n held s =
-    elim (both held (s .level .building)) [ true ↦ putPart n (SeekKeyPart.Bytes term) (closed (s .level .counts)) s | false ↦ s ]
+unfoldable pub close : ℕ → State → State
+close n s = elim (s .level .building) [ true ↦ putPart n (SeekKeyPart.Bytes term) (closed (s .level .counts)) s | false ↦ s ]
 
-unfoldable pub closer : ℕ → State → State → State
-closer n before s = unless (close n (before .level .building)) s
+unfoldable pub closer : ℕ → State → State
+closer n s = unless (close n) s
 
 -- "Bound: while building, the comparisons .."
 unfoldable pub withEdges : Edges → Level → Level
