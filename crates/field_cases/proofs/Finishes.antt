@@ -180,7 +180,7 @@ module _ (T : Tables) (a : ℕ) (below : FieldWalk State) where
   injected n c path =
       elim (c .payload) [
         | none ↦ c .state
-        | some p ↦ closer n (c .state) (below (p .node) (p .type) (File.payload path (p .disc)) (narrow n path (Narrowing.Tag (p .disc)) (c .state)))
+        | some p ↦ closer n (below (p .node) (p .type) (File.payload path (p .disc)) (narrow n path (Narrowing.Tag (p .disc)) (c .state)))
       ]
 
   module _ (n : ℕ) (path : File.FieldPath) (s : State) where

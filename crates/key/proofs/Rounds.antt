@@ -1,6 +1,6 @@
 -- What each member of the cycle ends in, from what it began with and what the member that it called gives.
 use Prim.Native.Nat.{ℕ, zero, suc, _≤_, _<_}
-use mathlib.Core.Path.{_≡_, refl, sym, ap, _∙_}
+use mathlib.Core.Path.{_≡_, sym, ap, _∙_}
 use mathlib.Core.List.{List}
 use native.Mathlib.Omega.{arith}
 use lib.ListN.{length}
@@ -13,12 +13,9 @@ use Rattle.state.specs.Ops.{ops, narrow, skip, closer}
 use Rattle.paths.specs.Paths.{pathOf, Holds}
 use Rattle.paths.specs.declared.FieldPath.{FieldPath}
 use Rattle.slots.specs.Slots.{slotOf}
-use Rattle.seek.specs.Seek.{levelOf, stateOf}
 use Rattle.tables.specs.Tables.{foundOption}
 use Rattle.tables.specs.declared.Found.{Found}
 use Rattle.tables.specs.declared.Found.the-variants as Fo
-use Rattle.walk.specs.Walk.{walkState}
-use Rattle.walk.specs.declared.Walk.{Walk}
 use Rattle.field_cases.specs.Pieces.{Lower, patternsOf, fieldsFor}
 use Rattle.rules.proofs.Sound.{Sound}
 use Rattle.rules.proofs.Idle.{idle-fieldBelow}
@@ -35,11 +32,6 @@ use Rattle.field_cases.specs.declared.Chosen.{Chosen}
 use Rattle.key.specs.Cycle.{Walks, Gives}
 use Rattle.key.proofs.Fields.{partial-opens}
 use Rattle.key.proofs.Going.{Going, going-end}
-
--- whether the level builds
-pub building-is : (T : Tables) (w : Walk) (work plan : List ℕ) → walkState T w work plan .level .building ≡ w .level .building
-unfolding walkState stateOf levelOf
-building-is T w work plan = refl
 
 abbrev below : Tables → ℕ → ℕ → FieldWalk State
 below T a m = fieldBelow (ops T) T a m
@@ -105,13 +97,13 @@ module _ (T : Tables) (a n t : ℕ) (path : File.FieldPath) (s₀ s₁ : State) 
     pub inject-lower : Sound T → t < length (T .types) → Lower T t c
     inject-lower S h = choosing-lower T t n s₀ (record { disc = d; node = k; type = c }) path S h (ap (λ (x : Choosing). x .payload) (sym b) ∙ ap payloadOf e)
 
-    pub inject-goes : Lower T t c → (q : FieldPath) → Holds q (payload path d) → (s₂ s₃ s₄ : State) → s₂ ≡ narrow n path (Narrowing.Tag d) s₁ → Walks T a k c (pathOf q) s₂ s₃ → s₄ ≡ closer n s₁ s₃ → Gives T a t (λ g. injectAt T a g n t path s₀) s₄
+    pub inject-goes : Lower T t c → (q : FieldPath) → Holds q (payload path d) → (s₂ s₃ s₄ : State) → s₂ ≡ narrow n path (Narrowing.Tag d) s₁ → Walks T a k c (pathOf q) s₂ s₃ → s₄ ≡ closer n s₃ → Gives T a t (λ g. injectAt T a g n t path s₀) s₄
     unfolding injected
     inject-goes l q o s₂ s₃ s₄ tag w close =
         record {
           is = λ m h.
               close
-              ∙ ap (closer n s₁)
+              ∙ ap (closer n)
               (w .is m (omega (arith, l .lower))
               ∙ ap (λ (p : File.FieldPath). fieldBelow (ops T) T a m k c p s₂) (o .is)
               ∙ ap (fieldBelow (ops T) T a m k c (payload path d)) tag)

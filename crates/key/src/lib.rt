@@ -179,11 +179,10 @@ pub fn inject(
     let Choice::Just(disc, n, t) = choice else {
         return open;
     };
-    let level = open.level;
     let q = path.payload(disc);
     let tagged = open.tag(path, disc, node, plan);
     let walked = field(file, index, work, plan, n, t, address, q, tagged);
-    walked.closer(level.building, node, plan)
+    walked.closer(node, plan)
 }
 
 // A Record against a Record type: a field that no pattern names closes the seek.

@@ -1,11 +1,10 @@
 -- A narrowing, by whether the plan is too long and whether the level builds.
 use mathlib.Core.Path.{_≡_, sym, ap, _∙_}
-use mathlib.Core.Bool.{Bool, true, false}
+use mathlib.Core.Bool.{true, false}
 use mathlib.Core.List.{List, _∷_, _++_}
 use Prim.Native.Nat.{ℕ, _+_, _≤_}
 use native.Mathlib.Omega.{arith}
 use lib.ListN.{length, length-append}
-use Rattle.rules.specs.Base.{both}
 use Rattle.rules.specs.File.{Tables, FieldPath, Anchor}
 use Rattle.rules.specs.Constant.{term}
 use Rattle.rules.specs.Events.{Narrowing}
@@ -103,17 +102,17 @@ module _ (b : SeekBuilder) (T : Tables) (e : Ends) (w p : List ℕ) where
     unfolding narrow narrowing narrowPrefix stateOf levelOf
     as-prefix prefix h g = g ∙ sym (pick (b .building) false _ _ h) ∙ goes b T e w p (narrowing n path (Narrowing.Prefix prefix)) live
 
-  -- a closer, by what held before its tag
-  module _ (n : ℕ) (before : State) (held : Bool) (eh : before .level .building ≡ held) where
-    pub close-over : b .over ≡ true → stateOf T b e w p ≡ closer n before (stateOf T b e w p)
+  -- a closer
+  module _ (n : ℕ) where
+    pub close-over : b .over ≡ true → stateOf T b e w p ≡ closer n (stateOf T b e w p)
     unfolding closer
-    close-over h = stays b T e w p (close n (before .level .building)) h
+    close-over h = stays b T e w p (close n) h
 
     module _ (live : b .over ≡ false) where
-      pub close-none : both held (b .building) ≡ false → stateOf T b e w p ≡ closer n before (stateOf T b e w p)
+      pub close-none : b .building ≡ false → stateOf T b e w p ≡ closer n (stateOf T b e w p)
       unfolding closer close stateOf levelOf
-      close-none h = sym (pick (both (before .level .building) (b .building)) false _ _ (ap (λ t. both t (b .building)) eh ∙ h)) ∙ goes b T e w p (close n (before .level .building)) live
+      close-none h = sym (pick (b .building) false _ _ h) ∙ goes b T e w p (close n) live
 
-      pub close-part : (r : State) → both held (b .building) ≡ true → r ≡ putPart n (SeekKeyPart.Bytes term) (closed (countsOf (b .counts))) (stateOf T b e w p) → r ≡ closer n before (stateOf T b e w p)
+      pub close-part : (r : State) → b .building ≡ true → r ≡ putPart n (SeekKeyPart.Bytes term) (closed (countsOf (b .counts))) (stateOf T b e w p) → r ≡ closer n (stateOf T b e w p)
       unfolding closer close stateOf levelOf
-      close-part r h g = g ∙ sym (pick (both (before .level .building) (b .building)) true _ _ (ap (λ t. both t (b .building)) eh ∙ h)) ∙ goes b T e w p (close n (before .level .building)) live
+      close-part r h g = g ∙ sym (pick (b .building) true _ _ h) ∙ goes b T e w p (close n) live

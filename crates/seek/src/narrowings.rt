@@ -7,7 +7,7 @@ ghost use Rattle.rules.specs.Constant.{unionTag};
 ghost use Rattle.rules.specs.Events.{Narrowing};
 ghost use Rattle.rules.specs.Placement.{SeekKeyPart};
 ghost use Rattle.rules.specs.Plan as Plan;
-ghost use Rattle.state.specs.State.{Ends, State};
+ghost use Rattle.state.specs.State.{Ends};
 ghost use Rattle.state.specs.Ops as Ops;
 ghost use Rattle.paths.specs.Paths.{pathOf};
 ghost use Rattle.records.specs.Records.{reach, writtenAt, movedTo};
@@ -299,18 +299,18 @@ impl SeekBuilder {
         }
     }
 
-    // A union's closer. `held` says whether the level built before the tag.
-    pub fn closer(self, held: bool, node: usize, plan: &mut [u8]) -> SeekBuilder
-        ensures { λ r. ⌜ ((T : Tables) (e : Ends) (w : List ℕ) (entered : State) → entered .level .building ≡ held →
+    // A union's closer: a part while building, else nothing.
+    pub fn closer(self, node: usize, plan: &mut [u8]) -> SeekBuilder
+        ensures { λ r. ⌜ ((T : Tables) (e : Ends) (w : List ℕ) →
             let before = stateOf T self e w (now (plan .entry)) in
             let after = stateOf T r e w (now (plan .exit)) in
-            after ≡ Ops.closer node entered before
+            after ≡ Ops.closer node before
             ) ⌝ }
     {
         if self.over {
             return self;
         }
-        if !and(held, self.building) {
+        if !self.building {
             return self;
         }
         let p = self.part(true, true, 1, 3, node, plan);

@@ -5,7 +5,6 @@ ghost use mathlib.Core.List.{List};
 ghost use Prim.Native.Nat.{ℕ};
 ghost use Rattle.rules.specs.File.{Tables};
 ghost use Rattle.rules.specs.Events.{Narrowing};
-ghost use Rattle.state.specs.State.{State};
 ghost use Rattle.state.specs.Ops as Ops;
 ghost use Rattle.paths.specs.Paths.{pathOf};
 ghost use Rattle.slots.specs.Slots.{slotOf};
@@ -121,17 +120,17 @@ impl Walk {
         self.placed(l)
     }
 
-    // The end of an alternative. `held` says whether the level built before the tag, where the state was `opening`.
-    pub fn closer(self, held: bool, node: usize, plan: &mut [u8]) -> Walk
+    // The end of an alternative.
+    pub fn closer(self, node: usize, plan: &mut [u8]) -> Walk
         ensures { λ r. ⌜ (
-            (T : Tables) (w : List ℕ) (opening : State) → opening .level .building ≡ held →
+            (T : Tables) (w : List ℕ) →
             let before = walkState T self w (now (plan .entry)) in
             let after = walkState T r w (now (plan .exit)) in
-            after ≡ Ops.closer node opening before
+            after ≡ Ops.closer node before
             ) ⌝ }
     {
         let level = self.level;
-        let l = level.closer(held, node, plan);
+        let l = level.closer(node, plan);
         self.placed(l)
     }
 

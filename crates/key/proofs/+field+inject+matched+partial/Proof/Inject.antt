@@ -3,7 +3,7 @@ use native.Mathlib.Omega.{arith}
 use borrow.Author.Needs.{needs}
 use Rattle.accepted_file.proofs.Given.{sound-tables}
 use Rattle.key.proofs.Deeper.{has-room, fits-payload}
-use Rattle.key.proofs.Rounds.{building-is, inject-done, inject-lower, inject-goes}
+use Rattle.key.proofs.Rounds.{inject-done, inject-lower, inject-goes}
 use Prim.Native.Nat.{ℕ}
 use Rattle.key.proofs.inject.Reads as inject
 use Rattle.key.proofs.+field+inject+matched+partial.Lts-inject as inject-lts
@@ -29,30 +29,30 @@ inject-returns t c = inject-done _ _ _ _ _ _ _ (c .before .before .before .befor
 
 pub inject-payload-requires : (t : ℕ) → inject-lts.Need-payload-requires (inject-claims t) (inject-at t) inject.Post
 inject-payload-requires t c κs =
-    let p = c .before .before .before .before .before .before .before .before .before .before .before .before .before .before .before .before .pre .1 in
-    has-room _ (sound-tables _ _ (p .0)) _ _ _ (p .1) (inject-lower _ 0 _ _ _ _ _ (c .before .before .before .before .before .before .before .before .before .choose .result) (c .before .before .before .before .before .before .before .before .before .choose .ensures) _ _ _ (c .before .before .choice .given .1) (sound-tables _ _ (p .0)) (p .1 .known))
+    let p = c .before .before .before .before .before .before .before .before .before .before .before .before .before .before .before .pre .1 in
+    has-room _ (sound-tables _ _ (p .0)) _ _ _ (p .1) (inject-lower _ 0 _ _ _ _ _ (c .before .before .before .before .before .before .before .before .choose .result) (c .before .before .before .before .before .before .before .before .choose .ensures) _ _ _ (c .before .choice .given .1) (sound-tables _ _ (p .0)) (p .1 .known))
 
 pub inject-tag-requires : (t : ℕ) → inject-lts.Need-tag-requires (inject-claims t) (inject-at t) inject.Post
 inject-tag-requires t c κs = search needs
 
 pub inject-field-requires : (t : ℕ) → inject-lts.Need-field-requires (inject-claims t) (inject-at t) inject.Post
 inject-field-requires t c κs =
-    let p = c .before .before .before .before .before .before .before .before .before .before .before .before .before .before .before .before .before .before .before .before .before .before .before .pre .1 in
-    let l = inject-lower _ 0 _ _ _ _ _ (c .before .before .before .before .before .before .before .before .before .before .before .before .before .before .before .before .choose .result) (c .before .before .before .before .before .before .before .before .before .before .before .before .before .before .before .before .choose .ensures) _ _ _ (c .before .before .before .before .before .before .before .before .before .choice .given .1) (sound-tables _ _ (p .0)) (p .1 .known) in
-    (omega (arith, l .lower, c .before .before .before .before .before .before .before .before .before .before .before .before .before .before .before .before .before .before .before .before .before .before .before .pre .0), (p .0, fits-payload _ (sound-tables _ _ (p .0)) _ _ _ (p .1) l _ _ (c .before .before .before .before .before .before .payload .ensures .0)))
+    let p = c .before .before .before .before .before .before .before .before .before .before .before .before .before .before .before .before .before .before .before .before .before .before .pre .1 in
+    let l = inject-lower _ 0 _ _ _ _ _ (c .before .before .before .before .before .before .before .before .before .before .before .before .before .before .before .choose .result) (c .before .before .before .before .before .before .before .before .before .before .before .before .before .before .before .choose .ensures) _ _ _ (c .before .before .before .before .before .before .before .before .choice .given .1) (sound-tables _ _ (p .0)) (p .1 .known) in
+    (omega (arith, l .lower, c .before .before .before .before .before .before .before .before .before .before .before .before .before .before .before .before .before .before .before .before .before .before .pre .0), (p .0, fits-payload _ (sound-tables _ _ (p .0)) _ _ _ (p .1) l _ _ (c .before .before .before .before .before .before .payload .ensures .0)))
 
 pub inject-closer-requires : (t : ℕ) → inject-lts.Need-closer-requires (inject-claims t) (inject-at t) inject.Post
 inject-closer-requires t c κs = search needs
 
 pub inject-same-length-3 : (t : ℕ) → inject-lts.Need-same-length-3 (inject-claims t) (inject-at t) inject.Post
-inject-same-length-3 t c = c .before .before .before .before .before .before .before .before .field .kept .1 .1 .0 ∙ c .before .before .before .before .before .before .before .before .before .before .before .before .before .before .before .before .before .before .before .before .before .before .before .before .before .choose .kept .1 .1 .0
+inject-same-length-3 t c = c .before .before .before .before .before .before .before .before .field .kept .1 .1 .0 ∙ c .before .before .before .before .before .before .before .before .before .before .before .before .before .before .before .before .before .before .before .before .before .before .before .before .choose .kept .1 .1 .0
 
 pub inject-same-length-4 : (t : ℕ) → inject-lts.Need-same-length-4 (inject-claims t) (inject-at t) inject.Post
-inject-same-length-4 t c = c .before .before .closer .kept .1 .1 .1 .0 ∙ c .before .before .before .before .before .before .before .before .field .kept .1 .1 .1 .0 ∙ c .before .before .before .before .before .before .before .before .before .before .before .before .before .tag .kept .1 .1 .1 .1 .0 ∙ c .before .before .before .before .before .before .before .before .before .before .before .before .before .before .before .before .before .before .before .before .before .before .before .before .before .choose .kept .1 .1 .1 .0
+inject-same-length-4 t c = c .before .before .closer .kept .1 .1 .0 ∙ c .before .before .before .before .before .before .before .before .field .kept .1 .1 .1 .0 ∙ c .before .before .before .before .before .before .before .before .before .before .before .before .before .tag .kept .1 .1 .1 .1 .0 ∙ c .before .before .before .before .before .before .before .before .before .before .before .before .before .before .before .before .before .before .before .before .before .before .before .before .choose .kept .1 .1 .1 .0
 
 pub inject-returns-2 : (t : ℕ) → inject-lts.Need-returns-2 (inject-claims t) (inject-at t) inject.Post
 inject-returns-2 t c =
-    let p = c .before .before .before .before .before .before .before .before .before .before .before .before .before .before .before .before .before .before .before .before .before .before .before .before .before .before .before .before .before .before .before .before .pre .1 in
-    let l = inject-lower _ 0 _ _ _ _ _ (c .before .before .before .before .before .before .before .before .before .before .before .before .before .before .before .before .before .before .before .before .before .before .before .before .before .choose .result) (c .before .before .before .before .before .before .before .before .before .before .before .before .before .before .before .before .before .before .before .before .before .before .before .before .before .choose .ensures) _ _ _ (c .before .before .before .before .before .before .before .before .before .before .before .before .before .before .before .before .before .before .choice .given .1) (sound-tables _ _ (p .0)) (p .1 .known) in
-    inject-goes _ _ _ _ _ _ _ (c .before .before .before .before .before .before .before .before .before .before .before .before .before .before .before .before .before .before .before .before .before .before .before .before .before .choose .result) (c .before .before .before .before .before .before .before .before .before .before .before .before .before .before .before .before .before .before .before .before .before .before .before .before .before .choose .ensures) _ _ _ (c .before .before .before .before .before .before .before .before .before .before .before .before .before .before .before .before .before .before .choice .given .1) l _ (c .before .before .before .before .before .before .before .before .before .before .before .before .before .before .before .payload .ensures .0) _ _ _ (c .before .before .before .before .before .before .before .before .before .before .before .before .before .tag .ensures _ _) (c .before .before .before .before .before .before .before .before .field .ensures)
-    (c .before .before .closer .ensures _ _ _ (building-is _ _ _ _))
+    let p = c .before .before .before .before .before .before .before .before .before .before .before .before .before .before .before .before .before .before .before .before .before .before .before .before .before .before .before .before .before .before .before .pre .1 in
+    let l = inject-lower _ 0 _ _ _ _ _ (c .before .before .before .before .before .before .before .before .before .before .before .before .before .before .before .before .before .before .before .before .before .before .before .before .choose .result) (c .before .before .before .before .before .before .before .before .before .before .before .before .before .before .before .before .before .before .before .before .before .before .before .before .choose .ensures) _ _ _ (c .before .before .before .before .before .before .before .before .before .before .before .before .before .before .before .before .before .choice .given .1) (sound-tables _ _ (p .0)) (p .1 .known) in
+    inject-goes _ _ _ _ _ _ _ (c .before .before .before .before .before .before .before .before .before .before .before .before .before .before .before .before .before .before .before .before .before .before .before .before .choose .result) (c .before .before .before .before .before .before .before .before .before .before .before .before .before .before .before .before .before .before .before .before .before .before .before .before .choose .ensures) _ _ _ (c .before .before .before .before .before .before .before .before .before .before .before .before .before .before .before .before .before .choice .given .1) l _ (c .before .before .before .before .before .before .before .before .before .before .before .before .before .before .before .payload .ensures .0) _ _ _ (c .before .before .before .before .before .before .before .before .before .before .before .before .before .tag .ensures _ _) (c .before .before .before .before .before .before .before .before .field .ensures)
+    (c .before .before .closer .ensures _ _)

@@ -16,7 +16,7 @@ same-length c = search needs
 
 returns : tie.Need-returns
 unfolding walkState
-returns c = λ T w opening h. placed-is T _ _ _ w _ (c .placed .ensures) ∙ c .before .before .before .closer .ensures T _ w opening h
+returns c = λ T w. placed-is T _ _ _ w _ (c .placed .ensures) ∙ c .before .before .before .closer .ensures T _ w
 
 pub closer-spec : {M : Type 1} → statement M
 closer-spec = tie.close (tie.spec closer-requires placed-requires same-length returns)
