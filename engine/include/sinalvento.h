@@ -99,8 +99,8 @@ uint64_t sinalvento_compile(const uint8_t *file, size_t file_len,
 
 /*
  * Each part, range, guide and residual of a plan ends in the number of the node
- * of its rule file that made it, so that an editor can lead from an entry to the
- * pattern. docs/FORMAT.md tells which node that is.
+ * of its rule file that made it (those of a Prefix stand behind its text), so
+ * that an editor can lead from an entry to the pattern. docs/FORMAT.md tells which node that is.
  */
 
 /*
