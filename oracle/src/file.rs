@@ -3,8 +3,10 @@
 pub const MAX_FILE: usize = 32_768;
 pub const MIN_WORK: usize = 65_536;
 pub const MAX_PLAN: usize = 16_384;
-pub const MAX_DEPTH: usize = 16;
-pub const MAX_STEPS: usize = 15;
+/// The deepest type, and the most that a Field's steps and its type's depth come to.
+pub const MAX_DEPTH: usize = 32;
+/// The most steps of a path.
+pub const MAX_STEPS: usize = 31;
 pub const NONE: u16 = 0xFFFF;
 
 /// Each section's limit, in file order.

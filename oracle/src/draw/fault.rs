@@ -154,7 +154,7 @@ fn repeated(rng: &mut Rng, file: &mut RuleFile) {
     });
 }
 
-/// A chain of types that ends at depth 16 or 17.
+/// A chain of types that ends at the greatest depth or one past it.
 fn too_deep(rng: &mut Rng, file: &mut RuleFile) {
     let target = MAX_DEPTH + rng.weighted(&[40, 60]);
     file.types.push(Type::Int);

@@ -29,13 +29,13 @@ pub fn predicate(key: usize) -> Predicate {
     }
 }
 
-/// Unions and records inside each other, to depth 16, with a pattern that
-/// follows them down.
+/// Unions and records inside each other, to the deepest there can be, with a
+/// pattern that follows them down.
 fn nested(rng: &mut Rng) -> RuleFile {
     let depth = match rng.weighted(&[40, 30, 30]) {
         0 => rng.within(2, 5),
-        1 => rng.within(6, 15),
-        _ => 16,
+        1 => rng.within(6, MAX_DEPTH - 1),
+        _ => MAX_DEPTH,
     };
     let mut file = RuleFile {
         names: vec![b"a".to_vec(), b"b".to_vec(), b"\0".to_vec(), vec![]],

@@ -83,7 +83,8 @@ pub fn unions() -> RuleFile {
     file.nodes.push(Node::Wildcard);
     let given = (0..=250).map(|field| (field, first + field)).collect();
     file.nodes.push(Node::Record(given));
-    for disc in 0..13 {
+    // The record of Vars has depth 3.
+    for disc in 3..MAX_DEPTH as u32 {
         let (ty, node) = (file.types.len() as u16 - 1, file.nodes.len() as u16 - 1);
         file.types.push(Type::Union(vec![(0, disc, ty)]));
         file.nodes.push(Node::Record(vec![(0, node)]));

@@ -28,6 +28,7 @@ pub fn rows() -> Vec<Entry> {
         let payload = s.int(4);
         s.record(&[("x", payload)])
     };
+    let d10 = |depth: usize| entry(format!("D10: depth {depth}"), deep(depth));
     vec![
         entry("D1", d1()),
         entry("D2: Int -1", one(Type::Int, |s| s.int(-1))),
@@ -45,8 +46,8 @@ pub fn rows() -> Vec<Entry> {
         ),
         entry("D8: two lower comparisons", two_lower()),
         entry("D9: prefix and fuzzy constraint", prefix_and_fuzzy()),
-        entry("D10: depth 16", deep(16)),
-        entry("D10: depth 17", deep(17)),
+        d10(MAX_DEPTH),
+        d10(MAX_DEPTH + 1),
     ]
 }
 

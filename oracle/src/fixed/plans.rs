@@ -6,7 +6,7 @@ use std::collections::BTreeSet;
 use crate::compile::{hex, line, unhex};
 use crate::draw::boundary::plan_of_length;
 use crate::draw::plans::{made, spoiled};
-use crate::file::MAX_PLAN;
+use crate::file::{MAX_PLAN, MAX_STEPS};
 use crate::fixed::door::d1;
 use crate::plan::{Edge, Level, Plan, Seek, write_plan};
 use crate::reread::{RULES, broken, reread};
@@ -152,7 +152,7 @@ const LAST: [(&str, u8); 9] = [
     ("op", 5),
     ("anchor", 1),
     ("slot", 5),
-    ("step count", 15),
+    ("step count", MAX_STEPS as u8),
     ("code", 11),
 ];
 
@@ -212,7 +212,7 @@ fn meaningless() -> Vec<Entry> {
     found
 }
 
-/// Fifteen steps pass.
+/// As many steps as a path holds pass, one more does not.
 fn full_path() -> Vec<Entry> {
     let select = |steps: usize| {
         let mut bytes = vec![0, 0, 0, 0, 0, 0, 1, 0, 5, 0, 2, 0, steps as u8];
@@ -220,7 +220,7 @@ fn full_path() -> Vec<Entry> {
         bytes.extend([0, 0]);
         bytes
     };
-    [15, 16]
+    [MAX_STEPS, MAX_STEPS + 1]
         .map(|steps| entry(format!("{steps} steps"), select(steps)))
         .into()
 }

@@ -188,6 +188,7 @@ fn binding(slot: Slot) -> Binding {
 pub fn checks() -> Vec<Entry> {
     let mut found = numbers();
     found.extend(shapes());
+    found.extend(paths());
     found.extend(order());
     found
 }
@@ -264,16 +265,6 @@ fn numbers() -> Vec<Entry> {
 }
 
 fn shapes() -> Vec<Entry> {
-    let path = |steps: usize| field(0xFFFF, &vec![0xFFFF_FFFF; steps]);
-    let fetched = |steps: usize| {
-        move |f: &mut RuleFile| {
-            f.fetched.push(Fetched {
-                address: 0,
-                path: path(steps),
-                register: 0,
-            });
-        }
-    };
     vec![
         faulty("9: a type that holds itself", |f| {
             f.types.push(Type::Record(vec![(0, 3)]))
@@ -312,20 +303,37 @@ fn shapes() -> Vec<Entry> {
             f.nodes.push(Node::Record(vec![]));
             f.bindings.push(binding(Slot::Const(3)));
         }),
-        faulty("14: 16 steps to an Int", |f| {
-            f.bindings.push(binding(Slot::Field(0, path(16), 0)))
-        }),
-        faulty("15 steps to an Int", |f| {
-            f.bindings.push(binding(Slot::Field(0, path(15), 0)))
-        }),
-        faulty("14: 15 steps to a record", |f| {
-            f.bindings.push(binding(Slot::Field(0, path(15), 2)));
-        }),
-        faulty("14 steps to a record", |f| {
-            f.bindings.push(binding(Slot::Field(0, path(14), 2)))
-        }),
-        faulty("14: a fetched path of 16 steps", fetched(16)),
-        faulty("a fetched path of 15 steps", fetched(15)),
+    ]
+}
+
+/// Paths at their limits: in d1, type 0 is an Int and type 2 a record of depth 2.
+fn paths() -> Vec<Entry> {
+    let path = |steps: usize| field(0xFFFF, &vec![0xFFFF_FFFF; steps]);
+    let slot = |shows: String, steps: usize, ty: u16| {
+        faulty(&shows, |f| {
+            f.bindings.push(binding(Slot::Field(0, path(steps), ty)))
+        })
+    };
+    let fetched = |shows: String, steps: usize| {
+        faulty(&shows, |f| {
+            f.fetched.push(Fetched {
+                address: 0,
+                path: path(steps),
+                register: 0,
+            })
+        })
+    };
+    let (one, two) = (MAX_DEPTH - 1, MAX_DEPTH - 2);
+    vec![
+        slot(format!("14: {} steps to an Int", one + 1), one + 1, 0),
+        slot(format!("{one} steps to an Int"), one, 0),
+        slot(format!("14: {} steps to a record", two + 1), two + 1, 2),
+        slot(format!("{two} steps to a record"), two, 2),
+        fetched(
+            format!("14: a fetched path of {} steps", MAX_STEPS + 1),
+            MAX_STEPS + 1,
+        ),
+        fetched(format!("a fetched path of {MAX_STEPS} steps"), MAX_STEPS),
     ]
 }
 
@@ -351,11 +359,11 @@ fn order() -> Vec<Entry> {
         }),
         faulty("13 before 14", |f| {
             f.bindings
-                .push(binding(Slot::Field(0, field(0, &[0; 16]), 0)));
+                .push(binding(Slot::Field(0, field(0, &[0; MAX_DEPTH]), 0)));
             f.bindings.push(binding(Slot::Const(1)));
         }),
         entry("11 before 12", {
-            let mut file = deep(17);
+            let mut file = deep(MAX_DEPTH + 1);
             file.nodes.push(Node::ValueAccess(0));
             file
         }),
