@@ -56,11 +56,11 @@ enum sinalvento_refusal {
     SINALVENTO_NUMBER = 8,        /* number at or past its section's count (FFFF for none excepted) */
     SINALVENTO_CHILD = 9,         /* type's or node's child not lower than its parent */
     SINALVENTO_REPEAT = 10,       /* type repeats a name, or a Union a disc */
-    SINALVENTO_DEPTH = 11,        /* type deeper than 16 */
+    SINALVENTO_DEPTH = 11,        /* type deeper than 32 */
     SINALVENTO_SHARED = 12,       /* node is a child more than once */
     SINALVENTO_NOT_CONSTANT = 13, /* Const binding of a node that isn't constant */
-    SINALVENTO_PATH = 14,         /* Field binding with steps + depth of its type above 16,
-                                     or fetched path above 15 steps */
+    SINALVENTO_PATH = 14,         /* Field binding with steps + depth of its type above 32,
+                                     or fetched path above 31 steps */
     /* writing */
     SINALVENTO_PLAN_TOO_LONG = 15, /* plan longer than 16,384 bytes or than the plan buffer */
     /* reading a plan: the first of the two met front to back */

@@ -161,12 +161,12 @@ impl Refusal {
             Number => "number at or past its section's count (FFFF for none excepted)",
             Child => "type's or node's child not lower than its parent",
             Repeat => "type repeats a name, or a Union a disc",
-            Depth => "type deeper than 16",
+            Depth => "type deeper than 32",
             Shared => "node is a child more than once",
             NotConstant => "Const binding of a node that isn't constant",
             Path => {
-                "Field binding with steps + depth of its type above 16, \
-                 or fetched path above 15 steps"
+                "Field binding with steps + depth of its type above 32, \
+                 or fetched path above 31 steps"
             }
             PlanTooLong => "plan longer than 16,384 bytes or than the plan buffer",
             PlanEnds => "plan ends early",
@@ -205,6 +205,7 @@ impl fmt::Display for Place {
 #[cfg(test)]
 mod tests {
     use super::*;
+    use crate::rules::{MAX_DEPTH, MAX_STEPS};
 
     #[test]
     fn a_number_without_a_name_is_kept() {
@@ -215,5 +216,17 @@ mod tests {
         }
         assert_eq!(Refusal::given(u64::MAX >> 16), Unknown(255));
         assert_eq!(Refusal::given(15), PlanTooLong);
+    }
+
+    /// The words have the numbers that the crate itself goes by.
+    #[test]
+    fn limits_in_words() {
+        let deeper = format!("type deeper than {MAX_DEPTH}");
+        assert_eq!(Depth.words(), deeper);
+        let longer = format!(
+            "Field binding with steps + depth of its type above {MAX_DEPTH}, \
+             or fetched path above {MAX_STEPS} steps"
+        );
+        assert_eq!(Path.words(), longer);
     }
 }

@@ -58,7 +58,7 @@ fn a_place_for_each() {
         (8, "type 0, predicate, offset 5 (5 hex)"),
         (9, "type 0, type of field 0, offset 10 (a hex)"),
         (10, "type 1, name of field 1, offset 13 (d hex)"),
-        (11, "type 16, kind, offset 97 (61 hex)"),
+        (11, "type 32, kind, offset 193 (c1 hex)"),
         (12, "node 1, node of field 1, offset 19 (13 hex)"),
         (13, "binding 0, node, offset 16 (10 hex)"),
         (14, "fetched entry 0, path's step count, offset 18 (12 hex)"),

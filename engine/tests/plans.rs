@@ -109,7 +109,7 @@ fn faults_have_a_place() {
     for (bytes, fault) in [
         (changed(&[(8, 4)]), PlanFault::Byte(8)),
         (changed(&[(9, 3)]), PlanFault::Byte(9)),
-        (changed(&[(29, 16)]), PlanFault::Byte(29)),
+        (changed(&[(29, 32)]), PlanFault::Byte(29)),
         ([files::d1_plan(), vec![0]].concat(), PlanFault::Follows(45)),
         (changed(&[(2, 3)]), level(LevelRule::NarrowingsSum)),
         (changed(&[(4, 2)]), level(LevelRule::ClosersAmongParts)),
@@ -328,7 +328,8 @@ fn long_patterns_are_cut_off() {
         fields.join(", "),
         values.join(", ")
     ));
-    let note = "(node 40, line 1: { f0 = 0, f1 = 1, f2 = 2, f3 = 3, f4 = 4, f5 = 5, f6 = 6, f7 ...)";
+    let note =
+        "(node 40, line 1: { f0 = 0, f1 = 1, f2 = 2, f3 = 3, f4 = 4, f5 = 5, f6 = 6, f7 ...)";
     assert!(told.contains(note), "{told}");
 
     let mut rules = text::parse("predicate p: Int level p(x) let x = field r5[0]: Int")

@@ -23,7 +23,7 @@ const WORDS: [(u8, &str, &str); 18] = [
         "type's or node's child not lower than its parent",
     ),
     (10, "whole file", "type repeats a name, or a Union a disc"),
-    (11, "whole file", "type deeper than 16"),
+    (11, "whole file", "type deeper than 32"),
     (12, "whole file", "node is a child more than once"),
     (
         13,
@@ -33,7 +33,7 @@ const WORDS: [(u8, &str, &str); 18] = [
     (
         14,
         "whole file",
-        "Field binding with steps + depth of its type above 16, or fetched path above 15 steps",
+        "Field binding with steps + depth of its type above 32, or fetched path above 31 steps",
     ),
     (
         15,

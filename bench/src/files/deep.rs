@@ -301,7 +301,7 @@ fn bind_constant(file: &mut RuleFile, node: u16) {
 }
 
 /// A name bound to a record that holds a record, 2,046 times, against a type of
-/// depth 16: the value nests far deeper than any type.
+/// the greatest depth: the value nests far deeper than any type.
 pub fn deep_constant() -> RuleFile {
     let mut file = start(false);
     let mut node = add(&mut file, Node::Int(1));

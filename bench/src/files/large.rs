@@ -23,8 +23,8 @@ pub fn without_levels() -> RuleFile {
     file
 }
 
-/// As [`without_levels`], with a fetched path of 16 steps: refused by 14, the
-/// last check.
+/// As [`without_levels`], with a fetched path of one step more than a path
+/// holds: refused by 14, the last check.
 pub fn refused_by_14() -> RuleFile {
     let mut file = levels();
     file.levels.clear();

@@ -7,10 +7,9 @@ use std::collections::HashSet;
 
 use super::Fault;
 use crate::Refusal;
-use crate::rules::{Item, Located, MAX_STEPS, Node, RuleFile, Section, Slot, Type, What};
-
-/// The deepest type, and the most that a Field's steps and its type's depth sum to.
-const MAX_DEPTH: usize = 16;
+use crate::rules::{
+    Item, Located, MAX_DEPTH, MAX_STEPS, Node, RuleFile, Section, Slot, Type, What,
+};
 
 const CHECKS: [fn(&Located) -> Option<Fault>; 7] =
     [number, child, repeat, deep, shared, not_constant, path];

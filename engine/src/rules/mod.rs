@@ -16,8 +16,10 @@ use crate::Fault;
 
 /// The number that stands for no value type and no predicate.
 pub(crate) const NONE: u16 = 0xFFFF;
+/// The deepest type, and the most that a Field's steps and its type's depth sum to.
+pub(crate) const MAX_DEPTH: usize = 32;
 /// The most steps that a path holds.
-pub(crate) const MAX_STEPS: u8 = 15;
+pub(crate) const MAX_STEPS: u8 = 31;
 
 /// A rule file. A table's numbers are indices into its `Vec`; nothing says that
 /// they are in range before the file is compiled.

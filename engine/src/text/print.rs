@@ -53,8 +53,8 @@ impl<'a> Patterns<'a> {
 
 /// How many types ahead a declared one may reach, with what it holds.
 const REACH: usize = 32;
-/// How deep a type may be written inside others.
-const INSIDE: usize = 16;
+/// How deep a type may be written inside others: no accepted file has a deeper one.
+const INSIDE: usize = MAX_DEPTH;
 
 struct Printer<'a> {
     rules: &'a RuleFile,

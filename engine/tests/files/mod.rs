@@ -46,11 +46,11 @@ const NAMES: (usize, &str) = (0, "0100 0161");
 /// A file for each of the refusals 1 and 3 to 14, which come from the file
 /// alone; each is at its boundary where it has one.
 pub fn refused() -> Vec<(u8, Vec<u8>)> {
-    let mut deep = String::from("1100 00");
-    for ty in 0..16 {
+    let mut deep = String::from("2100 00");
+    for ty in 0..32 {
         deep.push_str(&format!("0401 0000 {ty:02x}00"));
     }
-    let steps = format!("0100 0000 0000 10 {} 0000", "00000000".repeat(16));
+    let steps = format!("0100 0000 0000 20 {} 0000", "00000000".repeat(32));
     vec![
         (1, vec![0; sinalvento::MAX_FILE + 1]),
         (3, vec![0]),
