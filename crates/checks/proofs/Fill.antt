@@ -222,10 +222,10 @@ module _ (T : Tables) (f : List ℕ) (b : File.Binding) (v : BindingView) (s : S
   unfolding slotIn isType
   field-type a at t e g = ltb-true t (length (T .types)) (by-slot (slotIn T) s e ∙ g)
 
-  pub fits-field : (a : Address) (at t x y : ℕ) → v .slot ≡ Sv.Field a at t → x ≡ getD f (at + 2) 0 → y ≡ depth T t → leb (x + y) 16 ≡ slotFits T (b .slot)
+  pub fits-field : (a : Address) (at t x y : ℕ) → v .slot ≡ Sv.Field a at t → x ≡ getD f (at + 2) 0 → y ≡ depth T t → leb (x + y) depthLimit ≡ slotFits T (b .slot)
   unfolding slotFits pathAt byteAt
   fits-field a at t x y e ex ey =
-      ap₂ (λ (i j : ℕ). leb (i + j) 16) (ex ∙ sym (length-run (long f) 4 (getD f (at + 2) 0) (at + 3))) ey ∙ by-slot (slotFits T) s e
+      ap₂ (λ (i j : ℕ). leb (i + j) depthLimit) (ex ∙ sym (length-run (long f) 4 (getD f (at + 2) 0) (at + 3))) ey ∙ by-slot (slotFits T) s e
 
 pub depth-few : (f ix : List ℕ) → Indexed f ix → (t d : ℕ) → t < length (tablesOf f .types) → d ≡ depth (tablesOf f) t → d ≤ 512
 unfolding depth

@@ -253,7 +253,7 @@ pub fn is_constant(file: &[u8], index: &[u16], n: usize) -> bool
     index[CONSTANTS + n] == 1
 }
 
-// 11: whether no type is deeper than 16.
+// 11: whether no type is deeper than the limit.
 fn types_shallow(file: &[u8], index: &[u16]) -> bool
     requires { ⌜ Filled (now file) (now index) ⌝ }
     ensures { λ r. ⌜ r ≡ typesShallow (tablesOf (now (file .entry))) ⌝ }
@@ -306,7 +306,7 @@ fn consts_constant(file: &[u8], index: &[u16]) -> bool
     true
 }
 
-// 14: whether binding b, if it is a Field, has steps + depth of its type of at most 16.
+// 14: whether binding b, if it is a Field, has steps + depth of its type within the limit.
 fn binding_fits(file: &[u8], index: &[u16], b: usize) -> bool
     requires { ⌜ Numbered (now file) (now index) ⌝ }
     requires { ⌜ b < length (tablesOf (now file) .bindings) ⌝ }
@@ -343,7 +343,7 @@ fn slots_fit(file: &[u8], index: &[u16]) -> bool
     true
 }
 
-// 14: whether every fetched path has at most fifteen steps.
+// 14: whether every fetched path has no more steps than a path holds.
 fn fetched_fit(file: &[u8], index: &[u16]) -> bool
     requires { ⌜ Indexed (now file) (now index) ⌝ }
     ensures { λ r. ⌜ r ≡ fetchedFit (tablesOf (now (file .entry))) ⌝ }

@@ -13,6 +13,7 @@ use Rattle.rules.specs.File.{Tables, Ty, FieldPattern, typeAt, predicateAt, nod
 use Rattle.rules.specs.Constant.{fieldPattern}
 use Rattle.rules.specs.Lookup.{FieldAt, fieldOf, slotAt, rowField, rowValue, foldedField, foldedSlot}
 use Rattle.rules.proofs.Sound.{Child, Sound}
+use Rattle.rules.proofs.Grown.{holds-further}
 use Rattle.rules.proofs.Keeps.{field-child}
 use Rattle.paths.specs.Paths.{pathOf, pathFor, stepped}
 use Rattle.paths.specs.declared.Address.{Address}
@@ -91,7 +92,7 @@ counts room q h l = let g : q .count ≤ length (q .steps) = omega arith in leng
 -- a type with a child is at least two deep, so its path has room for a step
 module _ {T : Tables} (S : Sound T) where
   pub room-below : {p : File.FieldPath} {t c : ℕ} (q : FieldPath) → pathOf q ≡ p → PathRoom T p t → Child T t c → q .count ≤ stepLimit → length (q .steps) ≡ stepLimit → q .count < stepLimit
-  room-below {p} {t} {c} q e r k h l = omega (arith, counts stepLimit q h l, ap (λ (p : File.FieldPath). length (p .steps)) e, r .short, k .less-deep, S .positive c (k .in-types))
+  room-below {p} {t} {c} q e r k h l = omega (arith, counts stepLimit q h l, ap (λ (p : File.FieldPath). length (p .steps)) e, holds-further _ _ (r .short) _ (S .positive c (k .in-types)) (k .less-deep))
 
   pub field-room : {p : File.FieldPath} {t : ℕ} (x : ℕ) (f : FieldAt) (q : FieldPath) → fieldOf (typeAt T t) x ≡ some f → pathOf q ≡ p → PathRoom T p t → q .count ≤ stepLimit → length (q .steps) ≡ stepLimit → q .count < stepLimit
   field-room {p} {t} x f q g e r h l = room-below q e r (field-child (Child T t) (typeAt T t) x f (S .children t (r .known)) g) h l

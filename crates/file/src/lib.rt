@@ -44,7 +44,7 @@ pub const NAME_LIMIT: usize = 512;
 
 pub const NODE_LIMIT: usize = 2048;
 
-pub const DEPTH_LIMIT: usize = 16;
+pub const DEPTH_LIMIT: usize = 32;
 
 // The index has an area for each section: its count, then where each of its records starts. Three further areas hold the depth of each
 // type, for each node whether it is constant, and for each name the number of its last binding + 1, or 0 if it has none: the checks

@@ -8,13 +8,14 @@ use Rattle.rules.specs.Limits.{stepLimit}
 use Rattle.rules.specs.File as File
 use Rattle.rules.specs.File.{Tables, then, payload}
 use Rattle.rules.proofs.Sound.{Sound}
+use Rattle.rules.proofs.Grown.{room-further, holds-further}
 use Rattle.paths.specs.Paths.{pathOf, Holds}
 use Rattle.paths.specs.declared.FieldPath.{FieldPath}
 use Rattle.field_cases.specs.Pieces.{Fits, Lower}
 
 module _ (T : Tables) (S : Sound T) (p : FieldPath) (t c : ℕ) (f : Fits T p t) (l : Lower T t c) where
   pub has-room : p .count < stepLimit
-  has-room = omega (arith, f .short, l .less-deep, S .positive c (l .known))
+  has-room = holds-further _ _ (f .short) _ (S .positive c (l .known)) (l .less-deep)
 
   pub fits-then : (i : ℕ) (q : FieldPath) → Holds q (then (pathOf p) i) → Fits T q c
   unfolding then
@@ -22,7 +23,7 @@ module _ (T : Tables) (S : Sound T) (p : FieldPath) (t c : ℕ) (f : Fits T p t)
       record {
         known = l .known;
         count = h .count ∙ sym (ap (λ (x : File.FieldPath). length (x .steps)) (h .is));
-        short = omega (arith, h .count, length-append (pathOf p .steps) (i ∷ []), f .count, f .short, l .less-deep);
+        short = omega (arith, h .count, length-append (pathOf p .steps) (i ∷ []), f .count, room-further _ _ _ (f .short) _ (l .less-deep));
       }
 
   pub fits-payload : (i : ℕ) (q : FieldPath) → Holds q (payload (pathOf p) i) → Fits T q c

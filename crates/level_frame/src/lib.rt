@@ -11,7 +11,7 @@ ghost use Rattle.file.specs.Tables.{tablesOf};
 ghost use Rattle.accepted_file.specs.AcceptedFile.{AcceptedFile};
 ghost use Rattle.constant.specs.Sizes.{cap};
 ghost use Rattle.encode.specs.Written.{Wrote};
-ghost use Rattle.records.specs.Records.{put};
+ghost use Rattle.records.specs.Records.{put, longestPath};
 ghost use Rattle.seek.specs.Seek.{guideOf, levelOf};
 ghost use Rattle.level_frame.specs.LevelFrame.{betweenOf, partsLen, frameOf};
 use constant::capped;
@@ -95,7 +95,7 @@ fn parts_len(l: SeekBuilder) -> usize
 
 // The length of the guide in the plan; a level without one has a single byte there.
 fn guide_len(l: SeekBuilder) -> usize
-    ensures { λ r. ⌜ (r ≡ length (Plan.guide (guideOf l))) × (r ≤ 70) ⌝ }
+    ensures { λ r. ⌜ (r ≡ length (Plan.guide (guideOf l))) × (r ≤ longestPath + 7) ⌝ }
 {
     let g = l.guide;
     if kept(l.building, g.set) {

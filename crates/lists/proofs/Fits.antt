@@ -14,6 +14,7 @@ use Rattle.rules.specs.File as File
 use Rattle.rules.specs.File.{Tables, depth}
 use Rattle.rules.specs.Checks.{isType, isPredicate, noneOr}
 use Rattle.rules.proofs.Cases.{both-left, both-right, ltb-lt, leb-le}
+use Rattle.rules.proofs.Grown.{holds-steps}
 use Rattle.state.specs.Ops.{checkedSlot, roomy}
 use Rattle.file.specs.Steps.{depthsBase}
 use Rattle.file.specs.Tables.{tablesOf}
@@ -80,11 +81,11 @@ module _ (f ix : List ℕ) (r : AcceptedFile f ix) (t : ℕ) (b : Bool) (e : b �
       sum-is : length (pathAt g at .steps) + depth (tablesOf f) t ≡ n + d
       sum-is = ap₂ _+_ (steps-at g at ∙ sym en) (sym (ed ∙ r .depths t (type-known h)))
 
-      pub has-room : n + d ≤ 16 → true ≡ both (isType (tablesOf f) t) enough
+      pub has-room : n + d ≤ depthLimit → true ≡ both (isType (tablesOf f) t) enough
       unfolding isType
       has-room k = sym (le-leb (length (pathAt g at .steps) + depth (tablesOf f) t) depthLimit (omega (arith, sum-is))) ∙ ap (λ (c : Bool). both c enough) (sym h ∙ e)
 
-      pub no-room : 16 < n + d → false ≡ both (isType (tablesOf f) t) enough
+      pub no-room : depthLimit < n + d → false ≡ both (isType (tablesOf f) t) enough
       unfolding isType
       no-room k = sym (lt-leb (length (pathAt g at .steps) + depth (tablesOf f) t) depthLimit (omega (arith, sum-is))) ∙ ap (λ (c : Bool). both c enough) (sym h ∙ e)
 
@@ -115,7 +116,7 @@ module _ (f ix : List ℕ) (r : AcceptedFile f ix) (g : List ℕ) where
   short (Sv.Field a at t) e =
       let k : t < length (tablesOf f .types) = ltb-lt _ _ (both-left (ltb t (length (tablesOf f .types))) _ e) in
       let m : length (pathAt g at .steps) + depth (tablesOf f) t ≤ depthLimit = leb-le _ _ (both-right (ltb t (length (tablesOf f .types))) _ e) in
-      omega (arith, m, steps-at g at, sound-tables f ix r .positive t k)
+      omega (arith, steps-at g at, holds-steps _ _ m (sound-tables f ix r .positive t k))
   short (Sv.Value a t) e = tt
   short (Sv.Const n) e = tt
 

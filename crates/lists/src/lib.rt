@@ -26,9 +26,10 @@ ghost use Rattle.views.specs.Views.{sizeOf, predicateMaybe, predicateOption, pa
 ghost use Rattle.accepted_file.specs.AcceptedFile.{AcceptedFile};
 ghost use Rattle.tables.specs.Tables.{SeenSlot};
 ghost use Rattle.slots.specs.Slots.{slotOf, Stands, IsSlot};
-ghost use Rattle.records.specs.Records.{put, reach};
+ghost use Rattle.records.specs.Records.{put, reach, longestPath};
 ghost use Rattle.lists.specs.Lists.{stateWith, overrun, codeOf, fitsTables, placeOf, plainSizes, endOf};
 ghost use Rattle.lists.specs.Lists.{later, apart, nearest, slotFrom, lastPlace, viewAt, Readable, SeenAt, SeenView, ShortSlot};
+use file::DEPTH_LIMIT;
 use file::DEPTHS;
 use file::least;
 use file::wide;
@@ -92,9 +93,6 @@ const CONSTRAINED_END: usize = 32768;
 const SELECTS_END: usize = 49152;
 
 const DIAGNOSTICS_END: usize = 65536;
-
-// How deep a type may be; a path's steps and its type's depth are no more.
-const DEPTH_LIMIT: usize = 16;
 
 // How many records a count's two bytes hold.
 const COUNT_LIMIT: u32 = 65535;
@@ -216,7 +214,7 @@ fn predicate_number(p: MaybePredicate) -> usize
 }
 
 fn slot_size(slot: Slot) -> usize
-    ensures { λ r. ⌜ (r ≡ length (Plan.slot (slotOf slot))) × (r ≤ 68) ⌝ }
+    ensures { λ r. ⌜ (r ≡ length (Plan.slot (slotOf slot))) × (r ≤ 5 + longestPath) ⌝ }
 {
     let kind = slot.kind;
     match kind {

@@ -19,7 +19,7 @@ pub struct FieldPath {
 
 impl FieldPath {
     // How many steps a path may have: the length of `steps`.
-    pub const STEP_LIMIT: usize = 15;
+    pub const STEP_LIMIT: usize = 31;
 
     // The path to a field of a key: no steps yet.
     pub fn field(idx: u16) -> Self

@@ -1,7 +1,7 @@
 -- Bytes at a place of a buffer; what lies past the buffer's end is lost.
 use mathlib.Core.Bool.{Bool, true, false}
 use mathlib.Core.List.{List, [], _∷_}
-use Prim.Native.Nat.{ℕ, _+_, min}
+use Prim.Native.Nat.{ℕ, _+_, _*_, min}
 use lib.Seq.{sets}
 use Rattle.rules.specs.Limits.{stepLimit}
 use Rattle.rules.specs.Placement.{SeekKeyPart}
@@ -16,6 +16,10 @@ put w at bytes = sets w at bytes
 -- How far a place may lie, so that a sum of a place and a size never wraps.
 abbrev pub reach : ℕ
 reach = 1152921504606846976
+
+-- A path of as many steps as it holds, in the plan: its field, their count, and four bytes for each
+abbrev pub longestPath : ℕ
+longestPath = 3 + 4 * stepLimit
 
 -- bytes at a place of the plan, if they are to be written
 unfoldable pub writtenAt : Place → List ℕ → List ℕ → List ℕ

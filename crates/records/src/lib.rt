@@ -11,7 +11,7 @@ ghost use Rattle.rules.specs.Events.{Narrowing};
 ghost use Rattle.rules.specs.Plan as Plan;
 ghost use Rattle.paths.specs.Paths.{pathOf};
 ghost use Rattle.views.specs.Views.{anchorOf};
-ghost use Rattle.records.specs.Records.{put, reach, writtenAt, behind, movedTo, headOf, apartOf, cut};
+ghost use Rattle.records.specs.Records.{put, reach, longestPath, writtenAt, behind, movedTo, headOf, apartOf, cut};
 use file::wide16;
 use paths::Address;
 use paths::FieldPath;
@@ -87,7 +87,7 @@ pub fn within(p: FieldPath) -> FieldPath
 
 // How many bytes a path takes in the plan.
 pub fn path_size(p: FieldPath) -> usize
-    ensures { λ r. ⌜ (r ≡ length (Plan.path (pathOf p))) × (r ≤ 63) ⌝ }
+    ensures { λ r. ⌜ (r ≡ length (Plan.path (pathOf p))) × (r ≤ longestPath) ⌝ }
 {
     let q = within(p);
     3 + 4 * q.count
@@ -98,7 +98,7 @@ pub fn put_path(buf: &mut [u8], at: usize, p: FieldPath) -> usize
     requires { ⌜ at ≤ 2 * reach ⌝ }
     ensures { λ r. ⌜ (
         let form = Plan.path (pathOf p) in
-        (r ≡ at + length form) × (r ≤ at + 63) × (now (buf .exit) ≡ put (now (buf .entry)) at form)
+        (r ≡ at + length form) × (r ≤ at + longestPath) × (now (buf .exit) ≡ put (now (buf .entry)) at form)
         ) ⌝ }
 {
     let q = within(p);
@@ -119,7 +119,7 @@ pub fn put_path_at(plan: &mut [u8], place: Place, path: FieldPath) -> Place
     requires { ⌜ place .at ≤ reach ⌝ }
     ensures { λ r. ⌜ (
         let form = Plan.path (pathOf path) in
-        (now (plan .exit) ≡ writtenAt place form (now (plan .entry))) × (r ≡ behind (length form) place) × (r .at ≤ place .at + 63)
+        (now (plan .exit) ≡ writtenAt place form (now (plan .entry))) × (r ≡ behind (length form) place) × (r .at ≤ place .at + longestPath)
         ) ⌝ }
 {
     if !place.write {

@@ -5,8 +5,7 @@ use mathlib.Core.Option.{Option, none, some}
 use mathlib.Core.Path.{_≡_, refl, sym, ap, _∙_, subst}
 use mathlib.Core.Logic.{⊎-elim}
 use Prim.Native.Nat.{ℕ, zero, suc, _<_}
-use native.Mathlib.Omega.{arith}
-use lib.ListN.{length, length-append, List·getD-eq-default}
+use lib.ListN.{length, List·getD-eq-default}
 use Rattle.rules.specs.Base.{_whenSome_}
 use Rattle.rules.specs.Limits.{stepLimit}
 use Rattle.rules.specs.File.{Tables, Alternative, Ty, Node, FieldPath, Slot, typeAt, predicateAt, nodeAt, isConstant, factTy, recordTy, unionTy, fieldPath, then, payload}
@@ -18,7 +17,8 @@ use Rattle.rules.specs.Resolve.{Answer, Resolver, follow, _whenFound_, give, de
 use Rattle.rules.proofs.Cases.{by-test, by-option, some≢none, some-injective, leb-le, ltb-lt, both-left, both-right, bind-some}
 use Rattle.rules.proofs.Each.{each-first}
 use Rattle.rules.proofs.Sound.{Child, Sound}
-use Rattle.rules.proofs.Keeps.{field-child, union-children}
+use Rattle.rules.proofs.Grown.{holds-further}
+use Rattle.rules.proofs.Keeps.{field-child, union-children, fits-field, fits-then}
 use Rattle.file.proofs.Readers.{lt-or-le}
 use Rattle.state.specs.State.{State}
 use Rattle.state.specs.Ops as State
@@ -54,12 +54,10 @@ module _ {T : Tables} (W : Sound T) where
   field-of t x f e = field-child (Child T t) (typeAt T t) x f (W .children t (has-fields t x f e)) e
 
   room-field : (i t c : ℕ) → Child T t c → PathRoom T (fieldPath i) c
-  unfolding fieldPath
-  room-field i t c h = record { known = h .in-types; short = omega (arith, W .shallow c (h .in-types)) }
+  room-field i t c h = let f = fits-field T W i t c h in record { known = f .in-types; short = f .short }
 
   room-then : (p : FieldPath) (i t c : ℕ) → PathRoom T p t → Child T t c → PathRoom T (then p i) c
-  unfolding then
-  room-then p i t c r h = record { known = h .in-types; short = omega (arith, length-append (p .steps) (i ∷ []), r .short, h .less-deep) }
+  room-then p i t c r h = let f = fits-then T W p i t c (record { in-types = r .known; short = r .short }) h in record { known = f .in-types; short = f .short }
 
   pub alternative-child : (t x : ℕ) (alts : List Alternative) (alt : Alternative) → t < length (T .types) → unionTy (typeAt T t) ≡ some alts → alternativeOf alts x ≡ some alt → Child T t (alt .type)
   unfolding alternativeOf
@@ -67,7 +65,7 @@ module _ {T : Tables} (W : Sound T) where
 
   -- a union with an alternative is at least two deep, so its path has room for a step
   pub union-room : (p : FieldPath) (t x : ℕ) (alts : List Alternative) (alt : Alternative) → PathRoom T p t → unionTy (typeAt T t) ≡ some alts → alternativeOf alts x ≡ some alt → length (p .steps) < stepLimit
-  union-room p t x alts alt r e g = let c = alternative-child t x alts alt (r .known) e g in omega (arith, r .short, c .less-deep, W .positive (alt .type) (c .in-types))
+  union-room p t x alts alt r e g = let c = alternative-child t x alts alt (r .known) e g in holds-further _ _ (r .short) _ (W .positive (alt .type) (c .in-types)) (c .less-deep)
 
   abbrev Given : Option Slot → Type 0
   Given o = (s : Slot) → o ≡ some s → SlotRoom T s

@@ -4,11 +4,10 @@ use mathlib.Core.List.{List, [], _∷_}
 use mathlib.Core.Option.{Option, none, some}
 use mathlib.Core.Path.{_≡_, refl, sym, subst}
 use Prim.Native.Nat.{ℕ, suc, _≤_}
-use native.Mathlib.Omega.{arith}
 use lib.Dec.{eqb}
-use lib.ListN.{length, length-append}
+use lib.ListN.{length}
 use Rattle.rules.specs.Base.{Each, done, more, _whenSome_}
-use Rattle.rules.specs.Limits.{stepLimit}
+use Rattle.rules.specs.Limits.{depthLimit, stepLimit}
 use Rattle.rules.specs.File.{Tables, FieldTy, Alternative, Ty, FieldPath, Slot, Binding, typeAt, predicateAt, recordTy, unionTy, childTypes, fieldPath, then}
 use Rattle.rules.specs.Constant.{Const, constant, lookup, constNode}
 use Rattle.rules.specs.Lookup.{FieldAt, fieldFrom, fieldOf, slotAt, rowField, rowValue, foldedField, foldedSlot, hoistedSlot}
@@ -17,8 +16,10 @@ use Rattle.rules.specs.Walk.{narrowing, key}
 use Rattle.rules.proofs.Cases.{by-test, some≢none, some-injective, bind-some}
 use Rattle.rules.proofs.Each.{each-last, each-unmap}
 use Rattle.rules.proofs.Sound.{Fits, Child, SlotOk, BindingOk, Sound}
+use Rattle.rules.proofs.Grown as Grown
+use Rattle.rules.proofs.Grown.{accepted-deep, holds-steps}
 
--- a path that a record of fifteen steps holds
+-- a path that the record of a path holds
 abbrev pub Short : FieldPath → Type 0
 Short p = length (p .steps) ≤ stepLimit
 
@@ -78,15 +79,13 @@ field-child P ty x f h e =
 
 module _ (T : Tables) (S : Sound T) where
   pub fits-short : (p : FieldPath) (t : ℕ) → Fits T p t → Short p
-  fits-short p t h = omega (arith, h .short, S .positive t (h .in-types))
+  fits-short p t h = holds-steps _ _ (h .short) (S .positive t (h .in-types))
 
   pub fits-field : (i t c : ℕ) → Child T t c → Fits T (fieldPath i) c
-  unfolding fieldPath
-  fits-field i t c h = record { in-types = h .in-types; short = omega (arith, S .shallow c (h .in-types)) }
+  fits-field i t c h = Grown.fits-field depthLimit T (accepted-deep T S) i t c h
 
   pub fits-then : (p : FieldPath) (i t c : ℕ) → Fits T p t → Child T t c → Fits T (then p i) c
-  unfolding then
-  fits-then p i t c f h = record { in-types = h .in-types; short = omega (arith, length-append (p .steps) (i ∷ []), f .short, h .less-deep) }
+  fits-then p i t c f h = Grown.fits-then depthLimit T (accepted-deep T S) p i t c f h
 
   pub slot-at : (a : ℕ) (place : ℕ → FieldPath) (found : Option FieldAt) → ((f : FieldAt) → found ≡ some f → Fits T (place (f .index)) (f .type)) → (s : Slot) → slotAt a place found ≡ some s → SlotOk T s
   unfolding slotAt _whenSome_

@@ -7,8 +7,9 @@ pub mod Scalars
 pub mod Sentences
 -- What demand 3 reaches, of the record alone.
 pub mod AddsUp
--- What an accepted file's tables give, and the induction over the walk.
+-- What an accepted file's tables give, a path grown inside their types, for any limit of depth, and the induction over the walk.
 pub mod Sound
+pub mod Grown
 pub mod Keeps
 -- What a state that no operation changes keeps: itself.
 pub mod Idle

@@ -1,4 +1,4 @@
--- In an accepted file no path of the walk needs more than fifteen steps: not of an event, not of a select, not of a binding.
+-- In an accepted file no path of the walk needs more steps than a path holds: not of an event, not of a select, not of a binding.
 use Prim.Native.Nat.{ℕ, _<_}
 use lib.ListN.{length}
 use Rattle.rules.specs.Base.{Each, done, more}

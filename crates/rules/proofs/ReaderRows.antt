@@ -1,9 +1,10 @@
 -- The plan reader by computing: each byte that has no meaning, each rule broken. A row is a plan's bytes, how many and as one number in hex, the first byte first,
 -- and what the call gives for them. Crate doors has the plans of the door table.
-use mathlib.Core.List.{List, [], _∷_}
+use mathlib.Core.List.{List, [], _∷_, _++_}
 use mathlib.Core.Path.{_≡_, refl}
 use Prim.Native.Nat.{ℕ, zero, suc, _/_, _%_}
 use Rattle.rules.specs.Base.{openBase}
+use Rattle.rules.specs.Limits.{stepLimit}
 use Rattle.rules.specs.File.{openFile}
 use Rattle.rules.specs.Read.{openRead}
 use Rattle.rules.specs.Lookup.{openLookup}
@@ -55,10 +56,10 @@ early-nodes : read (bytes 16 0x01000200000002000002006162050006) ≡ Outcome.ref
 unfolding openRows
 early-nodes = refl
 
--- fifteen steps, and none of them there
-early-fifteen-steps : read (bytes 15 0x01000100000000000000000100000f) ≡ Outcome.refused 16
+-- as many steps as a path holds, and none of them there
+early-most-steps : read (bytes 14 0x0100010000000000000000010000 ++ (stepLimit ∷ [])) ≡ Outcome.refused 16
 unfolding openRows
-early-fifteen-steps = refl
+early-most-steps = refl
 
 -- a rule broken in a plan that ends early: checked last
 early-cut-and-broken : read (bytes 16 0x01000100000000000000000000000000) ≡ Outcome.refused 16
@@ -97,8 +98,8 @@ unknown-anchor : read (bytes 19 0x01000100000000000000000100000000000002) ≡ Ou
 unfolding openRows
 unknown-anchor = refl
 
--- sixteen steps, refused at their count
-unknown-steps : read (bytes 15 0x010001000000000000000001000010) ≡ Outcome.refused 17
+-- one step more, refused at its count
+unknown-steps : read (bytes 14 0x0100010000000000000000010000 ++ (suc stepLimit ∷ [])) ≡ Outcome.refused 17
 unfolding openRows
 unknown-steps = refl
 

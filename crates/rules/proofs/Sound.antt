@@ -44,10 +44,13 @@ passed-all T e =
     let h = fault-passed _ _ T (g .1) in
     record { numbers = a .0; lower = b .0; distinct = c .0; shallow = d .0; once = f .0; consts = g .0; paths = h .0 }
 
--- a path at a type: the type is the file's, and there is room for every step below it
-pub record Fits (T : Tables) (p : FieldPath) (t : ℕ) : Type 0 where
+-- a path at a type: the type is the file's, and there is room for every step below it, for any limit of a type's depth
+pub record FitsIn (limit : ℕ) (T : Tables) (p : FieldPath) (t : ℕ) : Type 0 where
   pub in-types : t < length (T .types)
-  pub short : length (p .steps) + depth T t ≤ depthLimit
+  pub short : length (p .steps) + depth T t ≤ limit
+
+abbrev pub Fits : Tables → FieldPath → ℕ → Type 0
+Fits T p t = FitsIn depthLimit T p t
 
 -- a child of type t
 pub record Child (T : Tables) (t c : ℕ) : Type 0 where

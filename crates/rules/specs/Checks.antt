@@ -109,7 +109,7 @@ typeDistinct (Ty.Union alts) = both (distinct (map (λ a. a .name) alts)) (disti
 unfoldable pub typesDistinct : Tables → Bool
 typesDistinct T = all typeDistinct (T .types)
 
--- 11: "type deeper than 16"
+-- 11: "type deeper than" the limit
 unfoldable pub typesShallow : Tables → Bool
 typesShallow T = all (λ d. leb d depthLimit) (depths T)
 
@@ -129,7 +129,7 @@ slotConstant T (Slot.Const n) = isConstant T n
 unfoldable pub constsConstant : Tables → Bool
 constsConstant T = all (λ b. slotConstant T (b .slot)) (T .bindings)
 
--- 14: "Field binding with steps + depth of its type above 16, or fetched path above 15 steps"
+-- 14: "Field binding with steps + depth of its type above" the limit, "or fetched path above" the steps that a path holds
 unfoldable pub slotFits : Tables → Slot → Bool
 slotFits T (Slot.Row a p) = true
 slotFits T (Slot.Key a t) = true

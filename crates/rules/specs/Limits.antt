@@ -1,4 +1,4 @@
--- The limits of document 01, one definition each.
+-- The limits of document 01, one definition each; request [6] has the types' depth and the paths' steps.
 use Prim.Native.Nat.{ℕ}
 
 -- "Rule file": "At most 32,768 bytes."
@@ -13,13 +13,13 @@ workLimit = 65536
 abbrev pub planLimit : ℕ
 planLimit = 16384
 
--- "Refusals": type deeper than 16
+-- [6]: "types of depth 32"
 abbrev pub depthLimit : ℕ
-depthLimit = 16
+depthLimit = 32
 
--- "Shapes of flatten.rs to recast": a path holds fifteen steps
+-- [6]: "a path holds 31 steps everywhere"
 abbrev pub stepLimit : ℕ
-stepLimit = 15
+stepLimit = 31
 
 -- "Rule file": how many records each section may have
 abbrev pub nameLimit : ℕ

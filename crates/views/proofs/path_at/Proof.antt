@@ -3,13 +3,14 @@ use mathlib.Core.Path.{_≡_, refl, sym, _∙_}
 use lib.Seq.{sets}
 use Prim.Native.Nat.{_≤_, _-_, _+_, _*_}
 use lib.ListN.{length, take, length-set}
+use Rattle.rules.specs.Limits.{stepLimit}
 use Rattle.views.specs.Views.{run, long, PathInside}
 use Rattle.views.proofs.PathsAt.{none-copied, copied, holds, all-left, left, none-left, whole}
 use Rattle.views.proofs.path_at.Statement.{statement}
 use Rattle.views.proofs.path_at.Tie as tie
 
 abbrev Inv-loop : tie.InvT-loop
-Inv-loop file at field count steps₀ i₀ steps i = (take i steps ≡ run (long file) 4 i (at + 3)) × (i ≤ count) × (length steps ≡ 15) × (sets steps₀ 0 (run (long file) 4 count (at + 3)) ≡ sets steps i (run (long file) 4 (count - i) (at + 3 + 4 * i)))
+Inv-loop file at field count steps₀ i₀ steps i = (take i steps ≡ run (long file) 4 i (at + 3)) × (i ≤ count) × (length steps ≡ stepLimit) × (sets steps₀ 0 (run (long file) 4 count (at + 3)) ≡ sets steps i (run (long file) 4 (count - i) (at + 3 + 4 * i)))
 
 abbrev μ-loop : tie.MeasureT-loop
 μ-loop file at field count steps₀ i₀ steps i = count - i
