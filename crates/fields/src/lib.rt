@@ -97,7 +97,7 @@ fn path_is(file: &[u8], at: usize, path: FieldPath) -> bool
     if word_at(file, at) != wide16(path.field) {
         return false;
     }
-    let n = path.count;
+    let n = path.count as usize;
     if wide(file[at + 2]) != n {
         return false;
     }

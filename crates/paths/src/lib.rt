@@ -13,7 +13,7 @@ pub struct PredicateId(pub u16);
 // The steps past `count` are of no meaning.
 pub struct FieldPath {
     pub steps: [u32; FieldPath::STEP_LIMIT],
-    pub count: usize,
+    pub count: u16,
     pub field: u16,
 }
 
@@ -41,7 +41,7 @@ impl FieldPath {
     {
         let mut p = self;
         let n = p.count;
-        p.steps[n] = idx;
+        p.steps[n as usize] = idx;
         p.count = n + 1;
         p
     }
@@ -63,12 +63,12 @@ impl FieldPath {
         if self.field != other.field {
             return false;
         }
-        let n = self.count;
-        if n != other.count {
+        if self.count != other.count {
             return false;
         }
         let a = self.steps;
         let b = other.steps;
+        let n = self.count as usize;
         let mut i = 0;
         while i < n {
             if a[i] != b[i] {

@@ -77,11 +77,11 @@ pub fn put_tag(buf: &mut [u8], at: usize, disc: u32)
 pub fn within(p: FieldPath) -> FieldPath
     ensures { λ r. ⌜ (pathOf r ≡ pathOf p) × (r .count ≤ stepLimit) × (r ≡ cut p) ⌝ }
 {
-    if p.count <= FieldPath::STEP_LIMIT {
+    if p.count as usize <= FieldPath::STEP_LIMIT {
         return p;
     }
     let mut q = p;
-    q.count = FieldPath::STEP_LIMIT;
+    q.count = FieldPath::STEP_LIMIT as u16;
     q
 }
 
@@ -90,7 +90,7 @@ pub fn path_size(p: FieldPath) -> usize
     ensures { λ r. ⌜ (r ≡ length (Plan.path (pathOf p))) × (r ≤ longestPath) ⌝ }
 {
     let q = within(p);
-    3 + 4 * q.count
+    3 + 4 * (q.count as usize)
 }
 
 // Writes a path, and gives where it ends.
@@ -102,7 +102,7 @@ pub fn put_path(buf: &mut [u8], at: usize, p: FieldPath) -> usize
         ) ⌝ }
 {
     let q = within(p);
-    let n = q.count;
+    let n = q.count as usize;
     let steps = q.steps;
     put16(buf, at, wide16(q.field));
     put8(buf, at + 2, n as u8);

@@ -369,7 +369,7 @@ pub fn path_at(file: &[u8], at: usize) -> FieldPath
     }
     FieldPath {
         steps,
-        count,
+        count: count as u16,
         field,
     }
 }

@@ -25,6 +25,9 @@ wide16-requires c κs = tt
 returns : tie.Need-returns Inv-loop μ-loop
 returns c = fields-differ _ _ _ (λ e. c .if1 .taken (c .before .before .word-at .ensures .0 ∙ e ∙ sym (c .before .wide16 .ensures)))
 
+cast-n : tie.Need-cast-n Inv-loop μ-loop
+cast-n c = search needs
+
 add-wide : tie.Need-add-wide Inv-loop μ-loop
 unfolding PathInside
 add-wide c = omega arith
@@ -38,7 +41,7 @@ wide-requires c κs = tt
 
 returns-2 : tie.Need-returns-2 Inv-loop μ-loop
 returns-2 c =
-    let b = c .before .before .before in
+    let b = c .before .before .before .before in
     counts-differ _ _ _ stepLimit (search needs) (search needs) (sym (b .before .before .word-at .ensures .0) ∙ b .if1 .left ∙ b .before .wide16 .ensures) (λ e. c .if2 .taken (c .before .wide .ensures .0 ∙ e))
 
 loop-holds : tie.Need-loop-holds Inv-loop μ-loop
@@ -68,7 +71,7 @@ array-read-if3 c = omega arith
 returns-3 : tie.Need-returns-3 Inv-loop μ-loop
 returns-3 c =
     let l = c .before .before .before in
-    let b = l .before .before .before .before .before in
+    let b = l .before .before .before .before .before .before in
     steps-decide _ _ _ _ (sym (b .before .before .word-at .ensures .0) ∙ b .if1 .left ∙ b .before .wide16 .ensures) (sym (l .before .before .before .wide .ensures .0) ∙ l .before .before .if2 .left)
     (l .loop .inv .0 ∙ same-stop _ _ _ _ stepLimit (l .loop .inv .2) (search needs) _ (c .before .before .loop-test .taken) (λ e. c .if3 .taken (c .before .long-at .ensures ∙ e)))
 
@@ -86,7 +89,7 @@ loop-again c =
 returns-4 : tie.Need-returns-4 Inv-loop μ-loop
 returns-4 c =
     let l = c .before in
-    let b = l .before .before .before .before .before in
+    let b = l .before .before .before .before .before .before in
     steps-decide _ _ _ _ (sym (b .before .before .word-at .ensures .0) ∙ b .if1 .left ∙ b .before .wide16 .ensures) (sym (l .before .before .before .wide .ensures .0) ∙ l .before .before .if2 .left)
     (l .loop .inv .0 ∙ same-end _ _ _ _ stepLimit (l .loop .inv .2) (search needs) _ (c .loop-test .left))
 
@@ -99,6 +102,7 @@ path-is-spec =
     word-at-requires
     wide16-requires
     returns
+    cast-n
     add-wide
     shared-slice-read-wide
     wide-requires

@@ -10,6 +10,9 @@ use Rattle.records.proofs.path_size.Tie as tie
 within-requires : tie.Need-within-requires
 within-requires c κs = search needs
 
+cast-result : tie.Need-cast-result
+cast-result c = search needs
+
 mul-result : tie.Need-mul-result
 mul-result c = search needs
 
@@ -20,4 +23,4 @@ returns : tie.Need-returns
 returns c = (path-size (c .before .within .result) (search needs) (c .before .within .ensures .1) ∙ ap (λ q. length (Plan.path q)) (c .before .within .ensures .0), omega (arith, c .before .within .ensures .1))
 
 pub path-size-spec : {M : Type 1} → statement M
-path-size-spec = tie.close (tie.spec within-requires mul-result add-result returns)
+path-size-spec = tie.close (tie.spec within-requires cast-result mul-result add-result returns)

@@ -20,6 +20,9 @@ abbrev μ-loop : tie.MeasureT-loop
 within-requires : tie.Need-within-requires Inv-loop μ-loop
 within-requires c κs = search needs
 
+cast-n : tie.Need-cast-n Inv-loop μ-loop
+cast-n c = search needs
+
 wide16-requires : tie.Need-wide16-requires Inv-loop μ-loop
 wide16-requires c κs = search needs
 
@@ -30,7 +33,7 @@ add-put8 : tie.Need-add-put8 Inv-loop μ-loop
 add-put8 c = omega arith
 
 cast-put8 : tie.Need-cast-put8 Inv-loop μ-loop
-cast-put8 c = omega (arith, c .before .before .before .before .before .before .before .within .ensures .1)
+cast-put8 c = omega (arith, c .before .before .before .before .before .before .before .before .within .ensures .1)
 
 put8-requires : tie.Need-put8-requires Inv-loop μ-loop
 put8-requires c κs = search needs
@@ -67,7 +70,7 @@ loop-again c =
     let l = c .before .before .before .before .before in (
       omega arith,
       c .before .before .put32 .kept .0 ∙ l .loop .inv .1,
-      l .loop .inv .2 ∙ steps-more _ _ _ _ _ _ (let d = c .before .before .before .before .before .before .before .before .before .before .before .before .before .before .before in search needs) (c .before .before .before .before .before .before .before .before .before .before .before .before .before .before .before .before .within .ensures .1) (c .before .before .before .before .loop-test .taken) (c .before .before .put32 .ensures),
+      l .loop .inv .2 ∙ steps-more _ _ _ _ _ _ (let d = c .before .before .before .before .before .before .before .before .before .before .before .before .before .before .before in search needs) (c .before .before .before .before .before .before .before .before .before .before .before .before .before .before .before .before .before .within .ensures .1) (c .before .before .before .before .loop-test .taken) (c .before .before .put32 .ensures),
     )
 
 add-result : tie.Need-add-result Inv-loop μ-loop
@@ -84,9 +87,9 @@ same-length c = c .before .loop .inv .1 ∙ c .before .before .before .before .p
 
 returns : tie.Need-returns Inv-loop μ-loop
 returns c =
-    let q = c .before .before .before .before .before .before .before .before .before .before .before .before .within in
-    let at = c .before .before .before .before .before .before .before .before .before .before .before .before .before .before .args .at in
-    let s : 3 + 4 * q .result .count ≡ length (Plan.path (pathOf (c .before .before .before .before .before .before .before .before .before .before .before .before .before .before .args .p))) = path-size (q .result) (search needs) (q .ensures .1) ∙ ap (λ p. length (Plan.path p)) (q .ensures .0) in (
+    let q = c .before .before .before .before .before .before .before .before .before .before .before .before .before .within in
+    let at = c .before .before .before .before .before .before .before .before .before .before .before .before .before .before .before .args .at in
+    let s : 3 + 4 * q .result .count ≡ length (Plan.path (pathOf (c .before .before .before .before .before .before .before .before .before .before .before .before .before .before .before .args .p))) = path-size (q .result) (search needs) (q .ensures .1) ∙ ap (λ p. length (Plan.path p)) (q .ensures .0) in (
       omega arith,
       omega (arith, q .ensures .1),
       path-put (q .result) _ at _ _ _ _ _ _ (search needs) (q .ensures .1) (q .ensures .0) (c .before .before .before .before .before .before .before .before .before .wide16 .ensures) (c .before .before .before .before .before .before .before .before .put16 .ensures) (c .before .before .before .before .put8 .ensures) (c .loop-test .left) (c .before .loop .inv .2),
@@ -99,6 +102,7 @@ put-path-spec =
     Inv-loop
     μ-loop
     within-requires
+    cast-n
     wide16-requires
     put16-requires
     add-put8

@@ -68,6 +68,9 @@ loop-again c =
     let l = c .before .before in
     (copied _ _ _ _ _ (omega (arith, l .before .wide .ensures)) (c .long-at .ensures) (l .loop .inv .0), omega arith, simp length-set (l .loop .inv .2), l .loop .inv .3 ∙ left _ _ _ _ _ _ (omega arith) (c .long-at .ensures))
 
+cast-t19 : tie.Need-cast-t19 Inv-loop μ-loop
+cast-t19 c = omega arith
+
 returns : tie.Need-returns Inv-loop μ-loop
 returns c =
     let l = c .before in
@@ -95,4 +98,5 @@ path-at-spec =
     add-i
     loop-less
     loop-again
+    cast-t19
     returns)

@@ -10,6 +10,9 @@ use Rattle.paths.proofs.FieldPath.then.Tie as tie
 use Rattle.paths.proofs.FieldPath.then.Reads as reads
 use Rattle.paths.proofs.FieldPath.then.Lts as lts
 
+cast-p : tie.Need-cast-p
+cast-p c = search needs
+
 mul-p : tie.Need-mul-p
 mul-p c = search needs
 
@@ -26,4 +29,4 @@ returns c =
     (record { is = ap (λ (s : List ℕ). record { field = a .field; steps = s }) (then-steps (a .steps) (a .count) (c .args .idx) (search needs)); count = then-count (a .steps) (a .count) (c .args .idx) (search needs) }, refl)
 
 pub then-spec : {M : Type 1} → statement M
-then-spec = tie.close (tie.spec mul-p element-write-p add-p returns)
+then-spec = tie.close (tie.spec cast-p mul-p element-write-p add-p returns)
