@@ -18,20 +18,14 @@ use Rattle.rules.specs.Walk.{FieldWalk, narrowBy, constrain, unresolved, partia
 use Rattle.rules.proofs.Cases.{some≢none}
 use Rattle.rules.proofs.BottomUp.{at-place}
 use Rattle.rules.proofs.Each.{each-first}
-use Rattle.rules.proofs.Idle.{idle-fieldNode}
 use Rattle.rules.proofs.Keeps.{union-children}
 use Rattle.rules.proofs.Sound.{Sound, Child}
 use Rattle.state.specs.State.{State}
 use Rattle.state.specs.Ops.{ops, bind, narrow, closer}
-use Rattle.state.proofs.Stopped.{stopped}
 use Rattle.file.proofs.Readers.{lt-or-le}
 use Rattle.field_cases.specs.Pieces.{Lower}
 use Rattle.field_cases.specs.FieldCases as Begin
-use Rattle.field_cases.specs.FieldCases.{isInjection, Start, piecesStart, readStart, placeStart, variableStart, nodeStart, start, Meeting, meeting, Payload, Choosing, namedChoice, onlyChoice, alternativeChoice, choosing, injectFields, injectAt}
-
--- a walk of the types below that leaves a state as it is once the plan is too long, as every walk does
-pub record StaysWhenOver (below : FieldWalk State) : Type 0 where
-  pub is : (s : State) → s .over ≡ true → (n t : ℕ) (path : File.FieldPath) → below n t path s ≡ s
+use Rattle.field_cases.specs.FieldCases.{isInjection, Start, piecesStart, readStart, variableStart, nodeStart, start, Meeting, meeting, Payload, Choosing, namedChoice, onlyChoice, alternativeChoice, choosing, injectFields, injectAt}
 
 -- a Var is resolved by its name
 module _ (T : Tables) (n x : ℕ) (v : nodeAt T n ≡ Node.Var x) where
@@ -58,12 +52,11 @@ module _ (T : Tables) (n x : ℕ) (v : nodeAt T n ≡ Node.Var x) where
   var-resolved s = var-below (length (T .nodes)) var-inside s
 
 module _ (T : Tables) (a : ℕ) (below : FieldWalk State) where
-  -- `field`, past its match on the pattern
+  -- `field` of a pattern that is no union value, past its match on the pattern
   unfoldable pub finish : Start → ℕ → ℕ → File.FieldPath → State
   finish (Start.Done s) n t path = s
   finish (Start.Matched slot s) n t path = matched (ops T) T a below n slot t path s
   finish (Start.Partial s) n t path = partial (ops T) T a below n t path s
-  finish (Start.Inject s) n t path = injectAt T a below n t path s
 
   module _ (n t : ℕ) (path : File.FieldPath) (s : State) where
     abbrev done : Start → State
@@ -91,24 +84,9 @@ module _ (T : Tables) (a : ℕ) (below : FieldWalk State) where
             ap (λ (o : Option File.Slot). readAnswer (ops T) T a below n o t path s s) (sym e)
             ∙ ap (λ (r : Answer State). readAnswer (ops T) T a below n (r .slot) t path s (r .walk)) (sym (var-resolved T n x v s))
 
-    -- an injection or a read
-    abbrev either : Bool → State
-    either b = elim b [ true ↦ injectAt T a below n t path s | false ↦ read (ops T) T a below n t path s ]
-
-    place-finished : done (placeStart T n t s) ≡ either (isInjection (recordFields (nodeAt T n)) (unionTy (typeAt T t)))
-    unfolding placeStart finish
-    place-finished = go (isInjection (recordFields (nodeAt T n)) (unionTy (typeAt T t)))
-      where
-        go : (b : Bool) → done (elim b [ true ↦ Start.Inject s | false ↦ readStart T n s ]) ≡ either b
-        go true = refl
-        go false = read-finished
-
-    abbrev by-pairs : Option (List FieldPattern) → State
-    by-pairs o = either (isInjection o (unionTy (typeAt T t)))
-
-    reads : recordFields (nodeAt T n) ≡ none → done (placeStart T n t s) ≡ read (ops T) T a below n t path s
-    unfolding isInjection
-    reads e = place-finished ∙ ap by-pairs e
+    -- `field`, past its test for a union value
+    abbrev either : Bool → Start → State
+    either b x = elim b [ true ↦ injectAt T a below n t path s | false ↦ done x ]
 
     -- `injectAt` is `inject` of a record against a union
     module _ (fs : List FieldPattern) (e : recordFields (nodeAt T n) ≡ some fs) where
@@ -121,42 +99,40 @@ module _ (T : Tables) (a : ℕ) (below : FieldWalk State) where
       abbrev opens-as : Option (List Alternative) → State
       opens-as o = elim o [ some alts ↦ inject (ops T) T a below fs alts n t path s | none ↦ read (ops T) T a below n t path s ]
 
-      either-is : (o : Option (List Alternative)) → unionTy (typeAt T t) ≡ o → either (isInjection (some fs) o) ≡ opens-as o
+      record-finished : (o : Option (List Alternative)) → unionTy (typeAt T t) ≡ o → either (isInjection (some fs) o) (readStart T n s) ≡ opens-as o
       unfolding isInjection
-      either-is none g = refl
-      either-is (some alts) g = inject-is alts g
+      record-finished none g = read-finished
+      record-finished (some alts) g = inject-is alts g
 
-      record-finished : done (placeStart T n t s) ≡ fieldNode (ops T) T a below (Node.Record fs) n t path s
-      unfolding fieldNode
-      record-finished = place-finished ∙ ap by-pairs e ∙ either-is (unionTy (typeAt T t)) refl
-
-    node-finished : (node : Node) → nodeAt T n ≡ node → done (nodeStart T a node n t path s) ≡ fieldNode (ops T) T a below node n t path s
-    unfolding nodeStart fieldNode finish ranged recordFields
-    node-finished (Node.Int bytes) e = reads (ap recordFields e)
-    node-finished (Node.Str x) e = reads (ap recordFields e)
-    node-finished (Node.Bytes bytes) e = reads (ap recordFields e)
+    node-finished : (node : Node) → nodeAt T n ≡ node → either (isInjection (recordFields node) (unionTy (typeAt T t))) (nodeStart T a node n t path s) ≡ fieldNode (ops T) T a below node n t path s
+    unfolding nodeStart fieldNode finish ranged recordFields isInjection
+    node-finished (Node.Int bytes) e = read-finished
+    node-finished (Node.Str x) e = read-finished
+    node-finished (Node.Bytes bytes) e = read-finished
     node-finished (Node.Var x) e = variable-finished x e
     node-finished Node.Wildcard e = refl
     node-finished Node.Never e = refl
     node-finished (Node.Prefix x) e = refl
     node-finished (Node.Fuzzy x d y) e = refl
-    node-finished (Node.Record fs) e = record-finished fs (ap recordFields e)
-    node-finished (Node.Access x i) e = reads (ap recordFields e)
-    node-finished (Node.Value i) e = reads (ap recordFields e)
-    node-finished (Node.Select x i) e = reads (ap recordFields e)
+    node-finished (Node.Record fs) e = record-finished fs (ap recordFields e) (unionTy (typeAt T t)) refl
+    node-finished (Node.Access x i) e = read-finished
+    node-finished (Node.Value i) e = read-finished
+    node-finished (Node.Select x i) e = read-finished
     node-finished Node.Disjunction e = refl
-    node-finished Node.Subquery e = reads (ap recordFields e)
-    node-finished (Node.Fact p i) e = reads (ap recordFields e)
-    node-finished Node.Arith e = reads (ap recordFields e)
-    node-finished Node.Error e = reads (ap recordFields e)
+    node-finished Node.Subquery e = read-finished
+    node-finished (Node.Fact p i) e = read-finished
+    node-finished Node.Arith e = read-finished
+    node-finished Node.Error e = read-finished
 
-    pub start-finished : StaysWhenOver below → finish (start T a n t path s) n t path ≡ fieldNode (ops T) T a below (nodeAt T n) n t path s
-    unfolding start finish
-    start-finished rest = go (s .over) refl
-      where
-        go : (o : Bool) → s .over ≡ o → done (elim o [ true ↦ Start.Done s | false ↦ nodeStart T a (nodeAt T n) n t path s ]) ≡ fieldNode (ops T) T a below (nodeAt T n) n t path s
-        go true e = sym (idle-fieldNode (ops T) T s (stopped T s e) a below (rest .is s e) (nodeAt T n) n t path)
-        go false e = node-finished (nodeAt T n) refl
+    told : (b : Bool) → isInjection (recordFields (nodeAt T n)) (unionTy (typeAt T t)) ≡ b → either b (start T a n t path s) ≡ fieldNode (ops T) T a below (nodeAt T n) n t path s
+    unfolding start
+    told b e = ap (λ (x : Bool). either x (nodeStart T a (nodeAt T n) n t path s)) (sym e) ∙ node-finished (nodeAt T n) refl
+
+    pub injection-finished : isInjection (recordFields (nodeAt T n)) (unionTy (typeAt T t)) ≡ true → injectAt T a below n t path s ≡ fieldNode (ops T) T a below (nodeAt T n) n t path s
+    injection-finished e = told true e
+
+    pub start-finished : isInjection (recordFields (nodeAt T n)) (unionTy (typeAt T t)) ≡ false → finish (start T a n t path s) n t path ≡ fieldNode (ops T) T a below (nodeAt T n) n t path s
+    start-finished e = told false e
 
   -- `matched`, past its match on the slot: a Const without bytes is opened
   unfoldable pub opened : Meeting → ℕ → File.FieldPath → State

@@ -30,7 +30,7 @@ use Rattle.walk.specs.Walk.{walkState, listsOf}
 use Rattle.walk.specs.declared.Walk.{Walk}
 use Rattle.walk.proofs.Parts.{lists-of}
 use Rattle.slots.proofs.Tidy.{tidy-there}
-use Rattle.field_cases.specs.FieldCases.{isInjection, still, Start, readStart, placeStart, variableStart, nodeStart, start}
+use Rattle.field_cases.specs.FieldCases.{isInjection, still, Start, readStart, variableStart, nodeStart, start}
 
 -- a name looked up, whatever the level
 pub looked-up : (T : Tables) (x : ℕ) (m : MaybeSlot) (w : Walk) (l : Lists) (work plan : List ℕ) → l ≡ listsOf w → ((level : Level) (g : Target) (p : List ℕ) → IsSlot (ops T .lookup (stateWith l level g work p) x) m) → slotOption m ≡ ops T .lookup (walkState T w work plan) x
@@ -75,58 +75,42 @@ module _ (f : List ℕ) (o : Option (List FieldPattern)) (u : Option (List Alter
     unfolding isInjection
     record-and-union j from g = ap (isInjection (some (run (patternAt f) 4 i at))) (subst (SeenRun f (alternativeAt f) 8 u) g l .is) ∙ as-some
 
--- an injection or a read
-module _ (T : Tables) (n t : ℕ) (s₀ : State) (b : Bool) (k : b ≡ isInjection (recordFields (nodeAt T n)) (unionTy (typeAt T t))) where
-  abbrev either : Bool → Start
-  either x = elim x [ true ↦ Start.Inject s₀ | false ↦ readStart T n s₀ ]
-
-  pub place-injection : b ≡ true → Start.Inject s₀ ≡ placeStart T n t s₀
-  unfolding placeStart
-  place-injection e = ap either (sym e ∙ k)
-
-  pub place-read : b ≡ false → (x : Start) → x ≡ readStart T n s₀ → x ≡ placeStart T n t s₀
-  unfolding placeStart
-  place-read e x q = q ∙ ap either (sym e ∙ k)
-
--- the kinds that are injections or reads
-placed-as : (T : Tables) (a : ℕ) (f : List ℕ) (v : NodeView) (n t : ℕ) (path : File.FieldPath) (s : State) → OneOf (0 ∷ 1 ∷ 2 ∷ 8 ∷ 9 ∷ 10 ∷ 11 ∷ 13 ∷ 14 ∷ 15 ∷ 16 ∷ []) (tagOf NodeViews.the-type v) → placeStart T n t s ≡ nodeStart T a (nodeOf f v) n t path s
+-- the kinds that are read
+read-as : (T : Tables) (a : ℕ) (f : List ℕ) (v : NodeView) (n t : ℕ) (path : File.FieldPath) (s : State) → OneOf (0 ∷ 1 ∷ 2 ∷ 8 ∷ 9 ∷ 10 ∷ 11 ∷ 13 ∷ 14 ∷ 15 ∷ 16 ∷ []) (tagOf NodeViews.the-type v) → readStart T n s ≡ nodeStart T a (nodeOf f v) n t path s
 unfolding nodeStart
-placed-as T a f (Nv.Int at) n t path s w = refl
-placed-as T a f (Nv.Str x) n t path s w = refl
-placed-as T a f (Nv.Bytes i at) n t path s w = refl
-placed-as T a f (Nv.Var x) n t path s w = absurd (miss (0 ∷ 1 ∷ 2 ∷ 8 ∷ 9 ∷ 10 ∷ 11 ∷ 13 ∷ 14 ∷ 15 ∷ 16 ∷ []) 3 tt w)
-placed-as T a f Nv.Wildcard n t path s w = absurd (miss (0 ∷ 1 ∷ 2 ∷ 8 ∷ 9 ∷ 10 ∷ 11 ∷ 13 ∷ 14 ∷ 15 ∷ 16 ∷ []) 4 tt w)
-placed-as T a f Nv.Never n t path s w = absurd (miss (0 ∷ 1 ∷ 2 ∷ 8 ∷ 9 ∷ 10 ∷ 11 ∷ 13 ∷ 14 ∷ 15 ∷ 16 ∷ []) 5 tt w)
-placed-as T a f (Nv.Prefix x) n t path s w = absurd (miss (0 ∷ 1 ∷ 2 ∷ 8 ∷ 9 ∷ 10 ∷ 11 ∷ 13 ∷ 14 ∷ 15 ∷ 16 ∷ []) 6 tt w)
-placed-as T a f (Nv.Fuzzy x d y) n t path s w = absurd (miss (0 ∷ 1 ∷ 2 ∷ 8 ∷ 9 ∷ 10 ∷ 11 ∷ 13 ∷ 14 ∷ 15 ∷ 16 ∷ []) 7 tt w)
-placed-as T a f (Nv.Record i at) n t path s w = refl
-placed-as T a f (Nv.Access x i) n t path s w = refl
-placed-as T a f (Nv.Value i) n t path s w = refl
-placed-as T a f (Nv.Select x i) n t path s w = refl
-placed-as T a f Nv.Disjunction n t path s w = absurd (miss (0 ∷ 1 ∷ 2 ∷ 8 ∷ 9 ∷ 10 ∷ 11 ∷ 13 ∷ 14 ∷ 15 ∷ 16 ∷ []) 12 tt w)
-placed-as T a f Nv.Subquery n t path s w = refl
-placed-as T a f (Nv.Fact p i) n t path s w = refl
-placed-as T a f Nv.Arith n t path s w = refl
-placed-as T a f Nv.Error n t path s w = refl
+read-as T a f (Nv.Int at) n t path s w = refl
+read-as T a f (Nv.Str x) n t path s w = refl
+read-as T a f (Nv.Bytes i at) n t path s w = refl
+read-as T a f (Nv.Var x) n t path s w = absurd (miss (0 ∷ 1 ∷ 2 ∷ 8 ∷ 9 ∷ 10 ∷ 11 ∷ 13 ∷ 14 ∷ 15 ∷ 16 ∷ []) 3 tt w)
+read-as T a f Nv.Wildcard n t path s w = absurd (miss (0 ∷ 1 ∷ 2 ∷ 8 ∷ 9 ∷ 10 ∷ 11 ∷ 13 ∷ 14 ∷ 15 ∷ 16 ∷ []) 4 tt w)
+read-as T a f Nv.Never n t path s w = absurd (miss (0 ∷ 1 ∷ 2 ∷ 8 ∷ 9 ∷ 10 ∷ 11 ∷ 13 ∷ 14 ∷ 15 ∷ 16 ∷ []) 5 tt w)
+read-as T a f (Nv.Prefix x) n t path s w = absurd (miss (0 ∷ 1 ∷ 2 ∷ 8 ∷ 9 ∷ 10 ∷ 11 ∷ 13 ∷ 14 ∷ 15 ∷ 16 ∷ []) 6 tt w)
+read-as T a f (Nv.Fuzzy x d y) n t path s w = absurd (miss (0 ∷ 1 ∷ 2 ∷ 8 ∷ 9 ∷ 10 ∷ 11 ∷ 13 ∷ 14 ∷ 15 ∷ 16 ∷ []) 7 tt w)
+read-as T a f (Nv.Record i at) n t path s w = refl
+read-as T a f (Nv.Access x i) n t path s w = refl
+read-as T a f (Nv.Value i) n t path s w = refl
+read-as T a f (Nv.Select x i) n t path s w = refl
+read-as T a f Nv.Disjunction n t path s w = absurd (miss (0 ∷ 1 ∷ 2 ∷ 8 ∷ 9 ∷ 10 ∷ 11 ∷ 13 ∷ 14 ∷ 15 ∷ 16 ∷ []) 12 tt w)
+read-as T a f Nv.Subquery n t path s w = refl
+read-as T a f (Nv.Fact p i) n t path s w = refl
+read-as T a f Nv.Arith n t path s w = refl
+read-as T a f Nv.Error n t path s w = refl
 
--- the pattern by its kind, while the plan is not too long
-module _ (f : List ℕ) (T : Tables) (a n t : ℕ) (path : File.FieldPath) (s₀ : State) (live : s₀ .over ≡ false) (v : NodeView) (k : SeenNode f (nodeAt T n) v) where
+-- the pattern by its kind
+module _ (f : List ℕ) (T : Tables) (a n t : ℕ) (path : File.FieldPath) (s₀ : State) (v : NodeView) (k : SeenNode f (nodeAt T n) v) where
   abbrev whole : Start
   whole = start T a n t path s₀
 
-  abbrev by-over : Bool → Start
-  by-over o = elim o [ true ↦ Start.Done s₀ | false ↦ nodeStart T a (nodeAt T n) n t path s₀ ]
-
   seen-as : (u : NodeView) → v ≡ u → nodeStart T a (nodeOf f u) n t path s₀ ≡ whole
   unfolding start
-  seen-as u e = ap (λ x. nodeStart T a x n t path s₀) (ap (nodeOf f) (sym e) ∙ k .is) ∙ ap by-over (sym live)
+  seen-as u e = ap (λ x. nodeStart T a x n t path s₀) (ap (nodeOf f) (sym e) ∙ k .is)
 
   pub as-var : (x : ℕ) → v ≡ Nv.Var x → (r : Start) → r ≡ variableStart T a x t path s₀ → r ≡ whole
   unfolding nodeStart
   as-var x e r q = q ∙ seen-as (Nv.Var x) e
 
-  pub as-place : OneOf (0 ∷ 1 ∷ 2 ∷ 8 ∷ 9 ∷ 10 ∷ 11 ∷ 13 ∷ 14 ∷ 15 ∷ 16 ∷ []) (tagOf NodeViews.the-type v) → (r : Start) → r ≡ placeStart T n t s₀ → r ≡ whole
-  as-place w r q = q ∙ placed-as T a f v n t path s₀ w ∙ seen-as v refl
+  pub as-read : OneOf (0 ∷ 1 ∷ 2 ∷ 8 ∷ 9 ∷ 10 ∷ 11 ∷ 13 ∷ 14 ∷ 15 ∷ 16 ∷ []) (tagOf NodeViews.the-type v) → (r : Start) → r ≡ readStart T n s₀ → r ≡ whole
+  as-read w r q = q ∙ read-as T a f v n t path s₀ w ∙ seen-as v refl
 
   pub as-wildcard : v ≡ Nv.Wildcard → (s : State) → s ≡ skip s₀ → Start.Done s ≡ whole
   unfolding nodeStart
@@ -148,12 +132,3 @@ module _ (f : List ℕ) (T : Tables) (a n t : ℕ) (path : File.FieldPath) (s₀
     pub as-fuzzy : (x d : ℕ) (y : Anchor) → v ≡ Nv.Fuzzy x d y → Start.Done s ≡ whole
     unfolding nodeStart
     as-fuzzy x d y e = ap Start.Done (q a still) ∙ seen-as (Nv.Fuzzy x d y) e
-
--- whether the plan is too long
-pub over-is : (T : Tables) (w : Walk) (work plan : List ℕ) → walkState T w work plan .over ≡ w .level .over
-unfolding walkState stateOf
-over-is T w work plan = refl
-
-pub over-done : (T : Tables) (a n t : ℕ) (path : File.FieldPath) (s : State) → s .over ≡ true → Start.Done s ≡ start T a n t path s
-unfolding start
-over-done T a n t path s e = ap (λ (o : Bool). elim o [ true ↦ Start.Done s | false ↦ nodeStart T a (nodeAt T n) n t path s ]) (sym e)

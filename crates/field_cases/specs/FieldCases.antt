@@ -33,18 +33,16 @@ isInjection (some fields) (some alts) = true
 abbrev pub still : FieldWalk State
 still n t path s = s
 
--- what `field` goes on with, and from which state
+-- what `field` goes on with where the pattern is no union value, and from which state
 pub data Start : Type 0 where
   Done : State → Start
   Matched : File.Slot → State → Start
   Partial : State → Start
-  Inject : State → Start
 
 abbrev pub startWith : Next → File.Slot → State → Start
 startWith Nx.Done slot s = Start.Done s
 startWith Nx.Matched slot s = Start.Matched slot s
 startWith Nx.Partial slot s = Start.Partial s
-startWith Nx.Inject slot s = Start.Inject s
 
 -- the answer r of the code, with s as its state
 abbrev pub startOf : Begun → State → Start
@@ -55,7 +53,6 @@ abbrev pub slotBeside : Next → Slot → Slot
 slotBeside Nx.Done slot = noSlot .slot
 slotBeside Nx.Matched slot = tidySlot slot
 slotBeside Nx.Partial slot = noSlot .slot
-slotBeside Nx.Inject slot = noSlot .slot
 
 -- the answer that goes on with nothing
 abbrev pub doneWith : Walk → Begun
@@ -76,14 +73,6 @@ module _ (T : Tables) where
       let a = resolve (ops T) T n s in
       elim (a .slot) [ some slot ↦ Start.Matched slot (a .walk) | none ↦ piecesStart n s (a .walk) ]
 
-  -- an injection or a read
-  unfoldable pub placeStart : ℕ → ℕ → State → Start
-  placeStart n t s =
-      elim (isInjection (recordFields (nodeAt T n)) (unionTy (typeAt T t))) [
-        | true ↦ Start.Inject s
-        | false ↦ readStart n s
-      ]
-
   -- a variable is bound while it is new, before its constraints are read; else it is matched where it was bound
   unfoldable pub variableStart : ℕ → ℕ → ℕ → File.FieldPath → State → Start
   variableStart address x t path s =
@@ -93,28 +82,27 @@ module _ (T : Tables) where
       ]
 
   unfoldable pub nodeStart : ℕ → Node → ℕ → ℕ → File.FieldPath → State → Start
-  nodeStart address (Node.Int bytes) n t path s = placeStart n t s
-  nodeStart address (Node.Str x) n t path s = placeStart n t s
-  nodeStart address (Node.Bytes bytes) n t path s = placeStart n t s
+  nodeStart address (Node.Int bytes) n t path s = readStart n s
+  nodeStart address (Node.Str x) n t path s = readStart n s
+  nodeStart address (Node.Bytes bytes) n t path s = readStart n s
   nodeStart address (Node.Var x) n t path s = variableStart address x t path s
   nodeStart address Node.Wildcard n t path s = Start.Done (skip s)
   nodeStart address Node.Never n t path s = Start.Done (report n Code.NyiNever (skip s))
   nodeStart address (Node.Prefix x) n t path s = Start.Done (ranged (ops T) T address still n t path s)
   nodeStart address (Node.Fuzzy x d a) n t path s = Start.Done (ranged (ops T) T address still n t path s)
-  nodeStart address (Node.Record fs) n t path s = placeStart n t s
-  nodeStart address (Node.Access x base) n t path s = placeStart n t s
-  nodeStart address (Node.Value base) n t path s = placeStart n t s
-  nodeStart address (Node.Select x base) n t path s = placeStart n t s
+  nodeStart address (Node.Record fs) n t path s = readStart n s
+  nodeStart address (Node.Access x base) n t path s = readStart n s
+  nodeStart address (Node.Value base) n t path s = readStart n s
+  nodeStart address (Node.Select x base) n t path s = readStart n s
   nodeStart address Node.Disjunction n t path s = Start.Done (report n Code.NyiDisjunction (skip s))
-  nodeStart address Node.Subquery n t path s = placeStart n t s
-  nodeStart address (Node.Fact p key) n t path s = placeStart n t s
-  nodeStart address Node.Arith n t path s = placeStart n t s
-  nodeStart address Node.Error n t path s = placeStart n t s
+  nodeStart address Node.Subquery n t path s = readStart n s
+  nodeStart address (Node.Fact p key) n t path s = readStart n s
+  nodeStart address Node.Arith n t path s = readStart n s
+  nodeStart address Node.Error n t path s = readStart n s
 
-  -- `field`; once the plan is too long nothing changes any more
+  -- `field` of a pattern that is no union value
   unfoldable pub start : ℕ → ℕ → ℕ → File.FieldPath → State → Start
-  start address n t path s =
-      elim (s .over) [ true ↦ Start.Done s | false ↦ nodeStart address (nodeAt T n) n t path s ]
+  start address n t path s = nodeStart address (nodeAt T n) n t path s
 
 -- what `matched` comes to: the node whose pieces are still to be matched, if any, and the state
 pub record Meeting : Type 0 where

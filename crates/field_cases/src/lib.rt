@@ -19,7 +19,7 @@ ghost use Rattle.tables.specs.Tables.{pairsIn, SeenRun};
 ghost use Rattle.walk.specs.Walk.{walkState};
 ghost use Rattle.field_cases.specs.Pieces.{Fits, fieldsFor, Pieced};
 ghost use Rattle.field_cases.specs.FieldCases.{isInjection, startOf, slotBeside, doneWith};
-ghost use Rattle.field_cases.specs.FieldCases.{piecesStart, readStart, variableStart, placeStart, start};
+ghost use Rattle.field_cases.specs.FieldCases.{piecesStart, readStart, variableStart, start};
 ghost use Rattle.field_cases.specs.FieldCases.{meetingOf, meeting, choosingOf, alternativeChoice, choosing};
 use constrain::constrain;
 use constrain::narrow;
@@ -51,7 +51,6 @@ pub enum Next {
     Done,
     Matched,
     Partial,
-    Inject,
 }
 
 // The slot is that of Matched; beside anything else it has no meaning, and is that of `nothing`.
@@ -284,7 +283,7 @@ fn begin_variable(
 }
 
 // Whether a pattern is a union value: a Record where the field is a union.
-fn is_injection(file: &[u8], index: &[u16], node: usize, ty: usize) -> bool
+pub fn is_injection(file: &[u8], index: &[u16], node: usize, ty: usize) -> bool
     requires { ⌜ Indexed (now file) (now index) ⌝ }
     requires { ⌜ ty < length (tablesOf (now file) .types) ⌝ }
     ensures { λ r. ⌜ (
@@ -302,38 +301,7 @@ fn is_injection(file: &[u8], index: &[u16], node: usize, ty: usize) -> bool
     }
 }
 
-// An injection, or a read.
-fn begin_place(
-    file: &[u8],
-    index: &[u16],
-    work: &mut [u8],
-    node: usize,
-    ty: usize,
-    w: Walk,
-) -> Begun
-    requires { ⌜ AcceptedFile (now file) (now index) ⌝ }
-    requires { ⌜ ty < length (tablesOf (now file) .types) ⌝ }
-    ensures starts { λ r. ⌜ (
-        (plan : List ℕ) →
-        let T = tablesOf (now (file .entry)) in
-        let before = walkState T w (now (work .entry)) plan in
-        let after = walkState T (r .walk) (now (work .exit)) plan in
-        startOf r after ≡ placeStart T node ty before
-        ) ⌝ }
-    ensures unset { λ r. ⌜ r .slot ≡ slotBeside (r .next) (r .slot) ⌝ }
-{
-    if is_injection(file, index, node, ty) {
-        let slot = Slot::plain(SlotKind::Const(0));
-        return Begun {
-            next: Next::Inject,
-            slot,
-            walk: w,
-        };
-    }
-    begin_read(file, index, work, node, w)
-}
-
-// `field`, by the pattern's kind. Once the plan is too long nothing changes any more, and the walk ends at once.
+// `field` of a pattern that is no union value, by the pattern's kind.
 pub fn begin(
     file: &[u8],
     index: &[u16],
@@ -355,10 +323,6 @@ pub fn begin(
         ) ⌝ }
     ensures unset { λ r. ⌜ r .slot ≡ slotBeside (r .next) (r .slot) ⌝ }
 {
-    let level = w.level;
-    if level.over {
-        return done(w);
-    }
     match node_of(file, index, node) {
         NodeView::Var(x) => begin_variable(file, index, work, plan, x, ty, address, path, w),
         NodeView::Wildcard => done(w.skip()),
@@ -366,7 +330,7 @@ pub fn begin(
         NodeView::Prefix(_) => done(ranged(file, index, work, plan, node, ty, path, w)),
         NodeView::Fuzzy(_, _, _) => done(ranged(file, index, work, plan, node, ty, path, w)),
         NodeView::Disjunction => done(w.diagnose(work, node, Code::NyiDisjunction, true)),
-        _ => begin_place(file, index, work, node, ty, w),
+        _ => begin_read(file, index, work, node, w),
     }
 }
 

@@ -1,13 +1,14 @@
 -- What each member of the cycle ends in, from what it began with and what the member that it called gives.
 use Prim.Native.Nat.{ℕ, zero, suc, _≤_, _<_}
 use mathlib.Core.Path.{_≡_, sym, ap, _∙_}
+use mathlib.Core.Bool.{Bool, true, false}
 use mathlib.Core.List.{List}
 use native.Mathlib.Omega.{arith}
 use lib.ListN.{length}
 use Rattle.rules.specs.File as File
-use Rattle.rules.specs.File.{Tables, then, payload}
+use Rattle.rules.specs.File.{Tables, typeAt, nodeAt, recordFields, unionTy, then, payload}
 use Rattle.rules.specs.Events.{Narrowing}
-use Rattle.rules.specs.Walk.{FieldWalk, eachField, matched, partial, fieldBelow}
+use Rattle.rules.specs.Walk.{FieldWalk, eachField, matched, partial, fieldNode, fieldBelow}
 use Rattle.state.specs.State.{State}
 use Rattle.state.specs.Ops.{ops, narrow, skip, closer}
 use Rattle.paths.specs.Paths.{pathOf, Holds}
@@ -16,12 +17,15 @@ use Rattle.slots.specs.Slots.{slotOf}
 use Rattle.tables.specs.Tables.{foundOption}
 use Rattle.tables.specs.declared.Found.{Found}
 use Rattle.tables.specs.declared.Found.the-variants as Fo
+use Rattle.seek.specs.Seek.{stateOf}
+use Rattle.walk.specs.Walk.{walkState}
+use Rattle.walk.specs.declared.Walk.{Walk}
 use Rattle.field_cases.specs.Pieces.{Lower, patternsOf, fieldsFor}
 use Rattle.rules.proofs.Sound.{Sound}
 use Rattle.rules.proofs.Idle.{idle-fieldBelow}
 use Rattle.state.proofs.Stopped.{stopped}
-use Rattle.field_cases.specs.FieldCases.{injectAt, Start, startWith, startOf, start, Meeting, meetingOf, meeting, Choosing, payloadOf, choosingOf, choosing}
-use Rattle.field_cases.proofs.Finishes.{StaysWhenOver, finish, start-finished, opened, meeting-finished, injected, choosing-finished, choosing-lower}
+use Rattle.field_cases.specs.FieldCases.{isInjection, injectAt, Start, startWith, startOf, start, Meeting, meetingOf, meeting, Choosing, payloadOf, choosingOf, choosing}
+use Rattle.field_cases.proofs.Finishes.{finish, injection-finished, start-finished, opened, meeting-finished, injected, choosing-finished, choosing-lower}
 use Rattle.field_cases.specs.declared.Next.{Next}
 use Rattle.field_cases.specs.declared.Next.the-variants as Nx
 use Rattle.field_cases.specs.declared.Choice.{Choice}
@@ -36,34 +40,44 @@ use Rattle.key.proofs.Going.{Going, going-end}
 abbrev below : Tables → ℕ → ℕ → FieldWalk State
 below T a m = fieldBelow (ops T) T a m
 
-resting : (T : Tables) (a m : ℕ) → StaysWhenOver (below T a m)
-resting T a m = record { is = λ s h. idle-fieldBelow (ops T) T s (stopped T s h) a m }
+-- `field`, once the plan is too long
+pub field-over : (T : Tables) (a n t : ℕ) (path : File.FieldPath) (w : Walk) (work plan : List ℕ) → w .level .over ≡ true → Walks T a n t path (walkState T w work plan) (walkState T w work plan)
+unfolding walkState stateOf
+field-over T a n t path w work plan e =
+    let s = walkState T w work plan in
+    record { is = λ limit h. sym (idle-fieldBelow (ops T) T s (stopped T s e) a limit n t path) }
 
--- `field`
-module _ (T : Tables) (a n t : ℕ) (path : File.FieldPath) (s₀ s₁ : State) (r : Begun) (b : startOf r s₁ ≡ start T a n t path s₀) where
-  at-limit : (s₂ : State) → ((m : ℕ) → t ≤ m → s₂ ≡ finish T a (below T a m) (startOf r s₁) n t path) → (limit : ℕ) → t < limit → s₂ ≡ fieldBelow (ops T) T a limit n t path s₀
+-- `field`, by whether the pattern is a union value
+module _ (T : Tables) (a n t : ℕ) (path : File.FieldPath) (s₀ : State) (told : Bool) (k : told ≡ isInjection (recordFields (nodeAt T n)) (unionTy (typeAt T t))) where
+  above : (s : State) → ((m : ℕ) → t ≤ m → s ≡ fieldNode (ops T) T a (below T a m) (nodeAt T n) n t path s₀) → Walks T a n t path s₀ s
   unfolding fieldBelow
-  at-limit s₂ e zero h = absurd (omega arith)
-  at-limit s₂ e (suc m) h = e m (omega arith) ∙ ap (λ (x : Start). finish T a (below T a m) x n t path) b ∙ start-finished T a (below T a m) n t path s₀ (resting T a m)
+  above s e = record { is = go }
+    where
+      go : (limit : ℕ) → t < limit → s ≡ fieldBelow (ops T) T a limit n t path s₀
+      go zero h = absurd (omega arith)
+      go (suc m) h = e m (omega arith)
 
-  abbrev by-next : ℕ → Next → State
-  by-next m x = finish T a (below T a m) (startWith x (slotOf (r .slot)) s₁) n t path
+  pub field-inject : told ≡ true → (s : State) → Gives T a t (λ g. injectAt T a g n t path s₀) s → Walks T a n t path s₀ s
+  field-inject e s g = above s (λ m h. g .is m h ∙ injection-finished T a (below T a m) n t path s₀ (sym k ∙ e))
 
-  pub field-done : r .next ≡ Nx.Done → Walks T a n t path s₀ s₁
-  unfolding finish
-  field-done e = record { is = at-limit s₁ (λ m h. sym (ap (by-next m) e)) }
+  module _ (no : told ≡ false) (s₁ : State) (r : Begun) (b : startOf r s₁ ≡ start T a n t path s₀) where
+    begun : (s₂ : State) → ((m : ℕ) → t ≤ m → s₂ ≡ finish T a (below T a m) (startOf r s₁) n t path) → Walks T a n t path s₀ s₂
+    begun s₂ e = above s₂ (λ m h. e m h ∙ ap (λ (x : Start). finish T a (below T a m) x n t path) b ∙ start-finished T a (below T a m) n t path s₀ (sym k ∙ no))
 
-  pub field-matched : r .next ≡ Nx.Matched → (s₂ : State) → Gives T a t (λ g. matched (ops T) T a g n (slotOf (r .slot)) t path s₁) s₂ → Walks T a n t path s₀ s₂
-  unfolding finish
-  field-matched e s₂ g = record { is = at-limit s₂ (λ m h. g .is m h ∙ sym (ap (by-next m) e)) }
+    abbrev by-next : ℕ → Next → State
+    by-next m x = finish T a (below T a m) (startWith x (slotOf (r .slot)) s₁) n t path
 
-  pub field-partial : r .next ≡ Nx.Partial → (s₂ : State) → Gives T a t (λ g. partial (ops T) T a g n t path s₁) s₂ → Walks T a n t path s₀ s₂
-  unfolding finish
-  field-partial e s₂ g = record { is = at-limit s₂ (λ m h. g .is m h ∙ sym (ap (by-next m) e)) }
+    pub field-done : r .next ≡ Nx.Done → Walks T a n t path s₀ s₁
+    unfolding finish
+    field-done e = begun s₁ (λ m h. sym (ap (by-next m) e))
 
-  pub field-inject : r .next ≡ Nx.Inject → (s₂ : State) → Gives T a t (λ g. injectAt T a g n t path s₁) s₂ → Walks T a n t path s₀ s₂
-  unfolding finish
-  field-inject e s₂ g = record { is = at-limit s₂ (λ m h. g .is m h ∙ sym (ap (by-next m) e)) }
+    pub field-matched : r .next ≡ Nx.Matched → (s₂ : State) → Gives T a t (λ g. matched (ops T) T a g n (slotOf (r .slot)) t path s₁) s₂ → Walks T a n t path s₀ s₂
+    unfolding finish
+    field-matched e s₂ g = begun s₂ (λ m h. g .is m h ∙ sym (ap (by-next m) e))
+
+    pub field-partial : r .next ≡ Nx.Partial → (s₂ : State) → Gives T a t (λ g. partial (ops T) T a g n t path s₁) s₂ → Walks T a n t path s₀ s₂
+    unfolding finish
+    field-partial e s₂ g = begun s₂ (λ m h. g .is m h ∙ sym (ap (by-next m) e))
 
 -- `matched`
 module _ (T : Tables) (a n : ℕ) (slot : File.Slot) (t : ℕ) (path : File.FieldPath) (s₀ s₁ : State) (r : Met) (b : meetingOf r s₁ ≡ meeting T a n slot t path s₀) where

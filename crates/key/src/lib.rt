@@ -17,6 +17,7 @@ use field_cases::Choice;
 use field_cases::Next;
 use field_cases::begin;
 use field_cases::choose;
+use field_cases::is_injection;
 use field_cases::meet;
 use field_cases::pairs_of;
 use field_cases::piece_at;
@@ -37,7 +38,8 @@ use views::field_ty_at;
 use views::node_of;
 use walk::Walk;
 
-// One key field: seek, splice, residual, or capture.
+// One key field: seek, splice, residual, or capture. Once the plan is too long nothing changes any more, and the walk ends at once. A
+// union value is told before anything is begun: `begin` then keeps a frame of its own, which is gone when the walk goes deeper.
 pub fn field(
     file: &[u8],
     index: &[u16],
@@ -58,6 +60,13 @@ pub fn field(
         Walks T (address .0) node ty (pathOf path) before after
         ) ⌝ }
 {
+    let level = w.level;
+    if level.over {
+        return w;
+    }
+    if is_injection(file, index, node, ty) {
+        return inject(file, index, work, plan, node, ty, address, path, w);
+    }
     let b = begin(file, index, work, plan, node, ty, address, path, w);
     let next = b.next;
     match next {
@@ -75,7 +84,6 @@ pub fn field(
             b.walk,
         ),
         Next::Partial => partial(file, index, work, plan, node, ty, address, path, b.walk),
-        Next::Inject => inject(file, index, work, plan, node, ty, address, path, b.walk),
     }
 }
 

@@ -20,6 +20,7 @@ use Rattle.key.proofs.partial.Kinds as partial-kinds
 use Rattle.key.proofs.+field+inject+matched+partial.Lts-partial as partial-lts
 use Rattle.field_cases.proofs.begin.Reads as begin-reads
 use Rattle.field_cases.proofs.choose.Reads as choose-reads
+use Rattle.field_cases.proofs.is_injection.Reads as is-injection-reads
 use Rattle.field_cases.proofs.meet.Reads as meet-reads
 use Rattle.field_cases.proofs.piece_at.Reads as piece-at-reads
 use Rattle.field_cases.proofs.pieces.Reads as pieces-reads
@@ -31,7 +32,7 @@ use Rattle.walk.proofs.Walk.tag.Reads as tag-reads
 use Rattle.key.proofs.+field+inject+matched+partial.{statement}
 use Rattle.key.proofs.+field+inject+matched+partial.Tie.{close}
 use Rattle.key.proofs.+field+inject+matched+partial.Proof.Base.{μ-field, μ-inject, μ-matched, μ-partial, field-at, field-below, inject-at, inject-below, matched-at, matched-below, partial-at, partial-below, field-claims, inject-claims, matched-claims, partial-claims}
-use Rattle.key.proofs.+field+inject+matched+partial.Proof.Field.{field-begin-requires, field-enum-told, field-enum-told-2, field-matched-requires, field-enum-told-3, field-partial-requires, field-enum-told-4, field-inject-requires, field-same-length, field-same-length-2, field-returns, field-same-length-3, field-same-length-4, field-returns-2, field-same-length-5, field-same-length-6, field-returns-3, field-same-length-7, field-same-length-8, field-returns-4}
+use Rattle.key.proofs.+field+inject+matched+partial.Proof.Field.{field-returns, field-is-injection-requires, field-inject-requires, field-same-length, field-same-length-2, field-returns-2, field-begin-requires, field-enum-told, field-enum-told-2, field-matched-requires, field-enum-told-3, field-partial-requires, field-same-length-3, field-same-length-4, field-returns-3, field-same-length-5, field-same-length-6, field-returns-4, field-same-length-7, field-same-length-8, field-returns-5}
 use Rattle.key.proofs.+field+inject+matched+partial.Proof.Inject.{inject-choose-requires, inject-enum-known-choice, inject-enum-told, inject-same-length, inject-same-length-2, inject-returns, inject-payload-requires, inject-tag-requires, inject-field-requires, inject-closer-requires, inject-same-length-3, inject-same-length-4, inject-returns-2}
 use Rattle.key.proofs.+field+inject+matched+partial.Proof.Matched.{matched-meet-requires, matched-enum-known-opens, matched-enum-told, matched-same-length, matched-same-length-2, matched-returns, matched-partial-requires, matched-same-length-3, matched-same-length-4, matched-returns-2}
 use Rattle.key.proofs.+field+inject+matched+partial.Proof.Partial.{partial-Inv-loop, partial-μ-loop, partial-pieces-requires, partial-skip-requires, partial-loop-holds, partial-piece-at-requires, partial-cast-step, partial-add-i, partial-enum-known-pattern, partial-then-requires, partial-field-requires, partial-loop-less, partial-loop-again, partial-enum-told, partial-loop-less-2, partial-loop-again-2, partial-same-length, partial-same-length-2, partial-returns}
@@ -41,26 +42,27 @@ pub +field+inject+matched+partial-spec : {M : Type 1} → statement M
     close μ-field μ-inject μ-matched μ-partial (λ t. field-lts.spec (field-claims t)
     (field-at t)
     field.Post
+    (field-returns t)
+    (field-is-injection-requires t)
+    (field-inject-requires t)
+    (field-same-length t)
+    (field-same-length-2 t)
+    (field-returns-2 t)
     (field-begin-requires t)
     (field-enum-told t)
     (field-enum-told-2 t)
     (field-matched-requires t)
     (field-enum-told-3 t)
     (field-partial-requires t)
-    (field-enum-told-4 t)
-    (field-inject-requires t)
-    (field-same-length t)
-    (field-same-length-2 t)
-    (field-returns t)
     (field-same-length-3 t)
     (field-same-length-4 t)
-    (field-returns-2 t)
+    (field-returns-3 t)
     (field-same-length-5 t)
     (field-same-length-6 t)
-    (field-returns-3 t)
+    (field-returns-4 t)
     (field-same-length-7 t)
     (field-same-length-8 t)
-    (field-returns-4 t))
+    (field-returns-5 t))
     (λ t. inject-lts.spec (inject-claims t)
     (inject-at t)
     inject.Post

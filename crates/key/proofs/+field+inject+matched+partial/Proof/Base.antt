@@ -22,6 +22,7 @@ use Rattle.walk.proofs.Walk.skip.Reads as skip-reads
 use Rattle.walk.proofs.Walk.tag.Reads as tag-reads
 use Rattle.field_cases.proofs.begin.Reads as begin-reads
 use Rattle.field_cases.proofs.choose.Reads as choose-reads
+use Rattle.field_cases.proofs.is_injection.Reads as is-injection-reads
 use Rattle.field_cases.proofs.meet.Reads as meet-reads
 
 abbrev pub μ-field : Measures 4 field-kinds.ps ℕ
@@ -61,7 +62,7 @@ abbrev pub partial-below : ℕ → In 4 partial-kinds.ps
 partial-below t = and 4 partial-kinds.ps (falls 4 partial-kinds.ps _<_ μ-partial t) partial.Pre
 
 abbrev pub field-claims : ℕ → field-lts.Claims
-field-claims t = (begin-reads.Asked, begin-reads.Learnt, matched-below t, matched.Post, partial-below t, partial.Post, inject-below t, inject.Post)
+field-claims t = (is-injection-reads.Asked, is-injection-reads.Learnt, inject-below t, inject.Post, begin-reads.Asked, begin-reads.Learnt, matched-below t, matched.Post, partial-below t, partial.Post)
 
 abbrev pub inject-claims : ℕ → inject-lts.Claims
 inject-claims t = (choose-reads.Asked, choose-reads.Learnt, payload-reads.Asked, payload-reads.Learnt, tag-reads.Asked, tag-reads.Learnt, field-below t, field.Post, closer-reads.Asked, closer-reads.Learnt)
