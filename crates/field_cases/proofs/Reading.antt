@@ -8,10 +8,10 @@ use types.Run.{OneOf, miss}
 use denote.Enum.Declared.{tagOf}
 use lib.Dec.{eqb}
 use borrow.Author.Tests.{eq-eqb, ne-eqb}
-use Rattle.rules.specs.File.{Tables, Node, FieldPattern, nodeAt, recordFields}
+use Rattle.rules.specs.File.{Tables, Node, FieldPattern, nodeAt, isConstant, recordFields}
 use Rattle.rules.specs.Events.{Code}
 use Rattle.rules.specs.Resolve as ResolveRules
-use Rattle.rules.specs.Resolve.{resolve}
+use Rattle.rules.specs.Resolve.{resolve, give}
 use Rattle.rules.specs.Walk.{deferred, unresolved}
 use Rattle.state.specs.State.{State}
 use Rattle.state.specs.Ops.{ops, report, skip}
@@ -19,8 +19,9 @@ use Rattle.views.specs.Views.{nodeOf, patternAt, SeenNode}
 use Rattle.views.specs.declared.NodeView.{NodeView}
 use Rattle.views.specs.declared.NodeView.the-variants as Nv
 use Rattle.views.proofs.NodeView as NodeViews
-use Rattle.slots.specs.Slots.{slotOf, maybe, noSlot}
+use Rattle.slots.specs.Slots.{slotOf, maybe, noSlot, plainSlot}
 use Rattle.slots.specs.declared.Slot.{Slot}
+use Rattle.slots.specs.declared.SlotKind.the-variants as Sk
 use Rattle.tables.specs.Tables.{SeenRun}
 use Rattle.tables.specs.declared.Run.{Run}
 use Rattle.tables.specs.declared.Run.the-variants as Ru
@@ -28,6 +29,8 @@ use Rattle.seek.specs.Seek.{stateOf}
 use Rattle.lists.specs.declared.Lists.{Lists}
 use Rattle.resolve.specs.Resolved.{given, Answers}
 use Rattle.resolve.specs.declared.Answer.{Answer}
+use Rattle.resolve.proofs.Steps.{Lower}
+use Rattle.resolve.proofs.Answers.{resolve-constant}
 use Rattle.walk.specs.Walk.{walkState, listsOf, withLists}
 use Rattle.walk.proofs.Parts.{lists-of, lists-are}
 use Rattle.walk.specs.declared.Walk.{Walk}
@@ -137,6 +140,14 @@ module _ (T : Tables) (n : ℕ) where
     pub pieces-none : run ≡ Ru.Nothing → (s′ : State) → s′ ≡ unresolved (ops T) T n before s → Start.Done s′ ≡ piecesStart T n before s
     unfolding piecesStart
     pieces-none e s′ q = ap Start.Done q ∙ ap by-fields (subst (SeenRun f (patternAt f) 4 (recordFields (nodeAt T n))) e k .is)
+
+  -- a constant is its own location
+  pub read-constant : Lower T → (s : State) (slot : Slot) → slot ≡ plainSlot (Sk.Const n) → isConstant T n ≡ true → Start.Matched (slotOf slot) s ≡ readStart T n s
+  unfolding readStart give
+  read-constant low s slot e k =
+      ap (λ (x : Slot). Start.Matched (slotOf x) s) e
+      ∙ ap (λ (x : ResolveRules.Answer State). elim (x .slot) [ some y ↦ Start.Matched y (x .walk) | none ↦ piecesStart T n s (x .walk) ])
+      (sym (resolve-constant T low n s k))
 
   module _ (w r : Walk) (l : Lists) (ans : Answer) (work work′ plan : List ℕ) (el : l ≡ listsOf w) (er : r ≡ withLists w (ans .lists)) (k : Answers (resolve (ops T) T n) l work ans work′) where
     abbrev by-answer : ResolveRules.Answer State → Start

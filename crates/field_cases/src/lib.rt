@@ -29,6 +29,7 @@ use lists::Code;
 use lists::lookup;
 use paths::Address;
 use paths::FieldPath;
+use resolve::constant_node;
 use resolve::resolve;
 use slots::Slot;
 use slots::SlotKind;
@@ -219,7 +220,7 @@ fn begin_pieces(
     done(unresolved(file, index, work, node, mark, w))
 }
 
-// A read: matched where it resolves.
+// A read: matched where it resolves. A constant is its own location, and needs no list.
 fn begin_read(file: &[u8], index: &[u16], work: &mut [u8], node: usize, w: Walk) -> Begun
     requires { ⌜ AcceptedFile (now file) (now index) ⌝ }
     ensures starts { λ r. ⌜ (
@@ -231,6 +232,14 @@ fn begin_read(file: &[u8], index: &[u16], work: &mut [u8], node: usize, w: Walk)
         ) ⌝ }
     ensures unset { λ r. ⌜ r .slot ≡ slotBeside (r .next) (r .slot) ⌝ }
 {
+    if constant_node(file, index, node) {
+        let slot = Slot::plain(SlotKind::Const(node));
+        return Begun {
+            next: Next::Matched,
+            slot,
+            walk: w,
+        };
+    }
     let a = resolve(file, index, work, node, w.lists());
     let after = a.lists;
     let mark = w.ends;

@@ -597,7 +597,8 @@ fn read_past(
     }
 }
 
-fn constant_node(file: &[u8], index: &[u16], node: usize) -> bool
+// Whether a node is constant, which the checks have noted in the index.
+pub fn constant_node(file: &[u8], index: &[u16], node: usize) -> bool
     requires { ⌜ AcceptedFile (now file) (now index) ⌝ }
     ensures { λ r. ⌜ r ≡ isConstant (tablesOf (now (file .entry))) node ⌝ }
 {
