@@ -37,8 +37,8 @@ extern "C" {
 #define SINALVENTO_MAX_PLAN 16384
 /* The fewest bytes that a compile's work area may have; the plan reader takes any. */
 #define SINALVENTO_MIN_WORK 65536
-/* A thread's stack of so many bytes is enough for any call (128 KiB). */
-#define SINALVENTO_STACK 131072
+/* A thread's stack of so many bytes is enough for any call (256 KiB). */
+#define SINALVENTO_STACK 262144
 
 /* Why a file (1 to 15) or a plan (15 to 18) was refused. Places run downwards. */
 enum sinalvento_refusal {

@@ -74,7 +74,7 @@
 //! # Memory, stack and time
 //!
 //! A compile allocates nothing and keeps nothing: all it uses is what it is
-//! lent, and the caller's stack, of which 128 KiB are enough for every file
+//! lent, and the caller's stack, of which 256 KiB are enough for every file
 //! (measured, not proved).
 //!
 //! Everyday files take microseconds, the largest ones less than a millisecond.
