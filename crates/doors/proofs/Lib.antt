@@ -1,3 +1,4 @@
 pub mod Doors
 pub mod ReadBack
 pub mod Names
+pub mod OwnFields

@@ -39,7 +39,7 @@ abbrev pub NoRoom : Outcome → Type 0
 NoRoom (Outcome.planned plan) = Reader.outcome plan (length plan - 1) ≡ Outcome.refused 15
 NoRoom (Outcome.refused n) = Unit {0}
 
-unfoldable openRows : Unit {0}
+unfoldable pub openRows : Unit {0}
 unfolding openHex openRules openDemand3 openReader read cuts again
 openRows = tt
 

@@ -1,3 +1,4 @@
 pub mod Hex
 pub mod Doors
 pub mod Names
+pub mod OwnFields

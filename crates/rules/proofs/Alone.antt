@@ -56,6 +56,7 @@ alone T address M =
       constants = λ m n t k p a s e h r. tt;
       registers = λ m n at p a s h h′ r. tt;
       facts = λ m n p a s h r. tt;
+      own-fields = λ m at p a s h h′ r. tt;
       tags = λ m d p a s h r. tt;
       closers = λ m a s r. tt;
     }

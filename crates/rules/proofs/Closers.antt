@@ -34,6 +34,7 @@ opens (Narrowing.RegisterField address at) building opened = opened
 opens (Narrowing.FactId address) building opened = opened
 opens (Narrowing.Prefix prefix) building opened = opened
 opens (Narrowing.Fuzzy x distance anchor) building opened = opened
+opens (Narrowing.OwnField at) building opened = opened
 
 -- "Closer: one part of byte 00 if building held before its tag and still holds, else nothing."
 abbrev closes : ℕ → List Bool → SeekBuilder → Tagged
@@ -146,6 +147,7 @@ module _ (T : Tables) where
         constants = paired-constant;
         registers = λ m a at p. record { same = λ k. refl; meet = λ k. (tt, tt) };
         facts = λ m a p. record { same = λ k. refl; meet = λ k. (tt, tt) };
+        own-fields = λ m at p. record { same = λ k. refl; meet = λ k. (tt, tt) };
         unions = paired-union;
       }
 

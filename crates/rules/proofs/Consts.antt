@@ -58,12 +58,13 @@ consts-keeps T =
       binds = λ y slot w e ok c x. const-snoc (w .lists .bindings) (record { name = y; slot = slot }) x e c;
       constrains = λ y w x. refl;
       selects = λ a p d w h x. refl;
-      reports = λ n c w x. refl;
+      reports = λ n c h w x. refl;
       skips = λ w x. refl;
       bounds = λ y t w x. refl;
       constants = λ m n t c p w e h x. refl;
       registers = λ m a at p w h h′ x. refl;
       facts = λ m a p w h x. refl;
+      own-fields = λ m at p w h h′ x. refl;
       unions = λ m d p w w′ h g. g;
     }
 
@@ -177,6 +178,7 @@ now-runs T address =
       constants = λ m n t k p a c e s r. now-meet T (Event.narrow m p (narrowing k)) a c r;
       registers = λ m n at p a c s s′ r. now-meet T (Event.narrow m p (Narrowing.RegisterField n at)) a c r;
       facts = λ m n p a c s r. now-meet T (Event.narrow m p (Narrowing.FactId n)) a c r;
+      own-fields = λ m at p a c s s′ r. now-meet T (Event.narrow m p (Narrowing.OwnField at)) a c r;
       tags = λ m d p a c s r. now-meet T (Event.narrow m p (Narrowing.Tag d)) a c r;
       closers = λ m a c r. now-meet T (Event.closer m) a c r;
     }

@@ -22,6 +22,7 @@ pub record Claim (P : List Event → Type 0) : Type 0 where
   pub constants : (m : ℕ) (p : FieldPath) (c : Const) → P (Event.narrow m p (narrowing c) ∷ [])
   pub registers : (m a : ℕ) (at p : FieldPath) → P (Event.narrow m p (Narrowing.RegisterField a at) ∷ [])
   pub facts : (m a : ℕ) (p : FieldPath) → P (Event.narrow m p (Narrowing.FactId a) ∷ [])
+  pub own-fields : (m : ℕ) (at p : FieldPath) → P (Event.narrow m p (Narrowing.OwnField at) ∷ [])
   pub unions : (m d : ℕ) (p : FieldPath) (es : List Event) → P es → P (Event.narrow m p (Narrowing.Tag d) ∷ (es ++ (Event.closer m ∷ [])))
 
 -- from one walk to another
@@ -70,12 +71,13 @@ module _ (P : List Event → Type 0) (C : Claim P) where
         binds = λ x slot w e ok c. emits-none w _ refl;
         constrains = λ x w. emits-none w _ refl;
         selects = λ a p d w s. emits-none w _ refl;
-        reports = λ n c w. emits-none w _ refl;
+        reports = λ n c h w. emits-none w _ refl;
         skips = λ w. emits-one w Event.skip (C .skips);
         bounds = emits-bound;
         constants = λ m n t c p w e s. emits-one w _ (C .constants m p c);
         registers = λ m a at p w s s′. emits-one w _ (C .registers m a at p);
         facts = λ m a p w s. emits-one w _ (C .facts m a p);
+        own-fields = λ m at p w s s′. emits-one w _ (C .own-fields m at p);
         unions = λ m d p w w′ s h. emits-union m d p w w′ h;
       }
 

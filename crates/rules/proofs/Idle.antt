@@ -192,7 +192,7 @@ module _ {S : Type 0} (o : Ops S) (T : Tables) (s : S) (I : Idle o s) where
     idle-matched n (Slot.Row from p) t path = by-test (λ w. w ≡ s) (refersTo p (factTy (typeAt T t))) (λ e. I .narrow n path _) (λ e. I .report n _)
     idle-matched n (Slot.Key from ty) t path = reported n Code.NyiWholeKey
     idle-matched n (Slot.Derived from) t path = reported n Code.NyiValueMatch
-    idle-matched n (Slot.Field from at ty) t path = by-test (λ w. w ≡ s) (eqb from address) (λ e. I .report n _) (λ e. I .narrow n path _)
+    idle-matched n (Slot.Field from at ty) t path = by-test (λ w. w ≡ s) (eqb from address) (λ e. I .narrow n path _) (λ e. I .narrow n path _)
     idle-matched n (Slot.Value from ty) t path = I .report n _
     idle-matched n (Slot.Const folded) t path = by-option (λ w. w ≡ s) (o .constant s folded t) (λ e. idle-partial folded t path) (λ c e. idle-narrowBy n c path)
 

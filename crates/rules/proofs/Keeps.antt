@@ -29,6 +29,20 @@ narrow n path x w = emit (Event.narrow n path x) w
 abbrev pub skip : Walk → Walk
 skip w = emit Event.skip w
 
+-- The codes that a walk reports: request [8], "diagnostic 4 is no longer made".
+abbrev pub Reported : Code → Type 0
+Reported Code.NyiDisjunction = Unit {0}
+Reported Code.NyiFactField = Unit {0}
+Reported Code.NyiNever = Unit {0}
+Reported Code.NyiRepeatedVariable = ⊥
+Reported Code.NyiValueField = Unit {0}
+Reported Code.NyiValueMatch = Unit {0}
+Reported Code.NyiWholeKey = Unit {0}
+Reported Code.RejectTypeMismatch = Unit {0}
+Reported Code.RejectUnionArity = Unit {0}
+Reported Code.RejectUnknownAlternative = Unit {0}
+Reported Code.RejectUnresolvedAccess = Unit {0}
+
 -- what has to be shown of a relation for each primitive of the walk
 pub record Keeps (T : Tables) (R : Walk → Walk → Type 0) : Type 0 where
   pub same : (w : Walk) → R w w
@@ -36,12 +50,13 @@ pub record Keeps (T : Tables) (R : Walk → Walk → Type 0) : Type 0 where
   pub binds : (x : ℕ) (slot : Slot) (w : Walk) → lookup (w .lists .bindings) x ≡ none → SlotOk T slot → constNode slot ≡ none → R w (bind x slot w)
   pub constrains : (x : ℕ) (w : Walk) → R w (constrained x w)
   pub selects : (a : ℕ) (p : FieldPath) (d : ℕ) (w : Walk) → Short p → R w (select a p d w)
-  pub reports : (n : ℕ) (c : Code) (w : Walk) → R w (report n c w)
+  pub reports : (n : ℕ) (c : Code) → Reported c → (w : Walk) → R w (report n c w)
   pub skips : (w : Walk) → R w (skip w)
   pub bounds : (x t : ℕ) (w : Walk) → R w (skip (emit (Event.bound x t) w))
   pub constants : (m n t : ℕ) (c : Const) (p : FieldPath) (w : Walk) → constant T n t ≡ some c → Short p → R w (narrow m p (narrowing c) w)
   pub registers : (m a : ℕ) (at p : FieldPath) (w : Walk) → Short at → Short p → R w (narrow m p (Narrowing.RegisterField a at) w)
   pub facts : (m a : ℕ) (p : FieldPath) (w : Walk) → Short p → R w (narrow m p (Narrowing.FactId a) w)
+  pub own-fields : (m : ℕ) (at p : FieldPath) (w : Walk) → Short at → Short p → R w (narrow m p (Narrowing.OwnField at) w)
   pub unions : (m d : ℕ) (p : FieldPath) (w w′ : Walk) → Short p → R (narrow m p (Narrowing.Tag d) w) w′ → R w (emit (Event.closer m) w′)
 
 -- Children of a type, by the forms that the walk asks for.

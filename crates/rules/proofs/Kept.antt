@@ -13,7 +13,7 @@ use Rattle.rules.specs.File.{Tables, FieldPath, Anchor, CompareOp, Compa
 use Rattle.rules.specs.Constant.{term}
 use Rattle.rules.specs.Lookup.{sameSteps, samePath}
 use Rattle.rules.specs.Events.{Narrowing, Event}
-use Rattle.rules.specs.Placement.{SeekKeyPart, Part, Residual, Guide, Range, RangeEdge, Edges, SeekBuilder, new, withPart, withResidual, withGuide, withRange, withEdges, withCloser, fall, placePart, placePrefix, rangeAt, attachable, placeFuzzy, placeNarrowing, placeCloser, takeHi, takeLo, takeEdge, sided, foldFrom, placeBound, place, placeAll}
+use Rattle.rules.specs.Placement.{SeekKeyPart, Part, Residual, Guide, Range, RangeEdge, Edges, SeekBuilder, new, withPart, withResidual, withGuide, withRange, withEdges, withCloser, fall, placePart, placePrefix, rangeAt, attachable, placeFuzzy, placeOwn, placeNarrowing, placeCloser, takeHi, takeLo, takeEdge, sided, foldFrom, placeBound, place, placeAll}
 use Rattle.rules.specs.Levels.{narrowings}
 use Rattle.rules.specs.Demand3.{buildingAfter, beforeFall, madeBy, partsOf, closersOf, closersIn, number, edges, Kept}
 use Rattle.rules.proofs.Cases.{by-test, ways, by-option, true≢false, some≢none, some-injective, eqb-eq, both-left, both-right}
@@ -193,13 +193,14 @@ unfolding placePart
 steady-part-or made b s part path op = by-test Steady (b .building) (λ e. steady-part b s _) (λ e. steady-residual b s _)
 
 steady-narrowing : (made : ℕ) (b : SeekBuilder) → Steady b → (path : FieldPath) (x : Narrowing) → Steady (placeNarrowing made path x b)
-unfolding placeNarrowing placePrefix placeFuzzy
+unfolding placeNarrowing placePrefix placeFuzzy placeOwn
 steady-narrowing made b s path (Narrowing.Bytes bytes) = steady-part-or made b s _ path _
 steady-narrowing made b s path (Narrowing.Tag disc) = steady-part-or made b s _ path _
 steady-narrowing made b s path (Narrowing.RegisterField a at) = steady-part-or made b s _ path _
 steady-narrowing made b s path (Narrowing.FactId a) = steady-part-or made b s _ path _
 steady-narrowing made b s path (Narrowing.Prefix bytes) = by-test Steady (b .building) (λ e. steady-range b s _ e) (λ e. steady-residual b s _)
 steady-narrowing made b s path (Narrowing.Fuzzy x d a) = by-test Steady (attachable b path) (λ e. steady-guide b s _ e) (λ e. steady-residual b s _)
+steady-narrowing made b s path (Narrowing.OwnField at) = steady-fall _ (steady-residual b s _)
 
 -- What a level has placed, counted.
 pub filled : SeekBuilder → ℕ
@@ -229,6 +230,10 @@ counts-fuzzy made b path x distance anchor =
     (λ e. omega (arith, ap number (attach b path e .0)))
     (λ e. omega (arith, length-append (b .residuals) (record { path = path; op = Narrowing.Fuzzy x distance anchor; node = made } ∷ [])))
 
+counts-own : (made : ℕ) (b : SeekBuilder) (path at : FieldPath) → Counts 1 b (placeOwn made path at b)
+unfolding placeOwn withResidual fall filled
+counts-own made b path at = omega (arith, length-append (b .residuals) (record { path = path; op = Narrowing.OwnField at; node = made } ∷ []))
+
 counts-narrowing : (made : ℕ) (b : SeekBuilder) (s : Steady b) (path : FieldPath) (x : Narrowing) → Counts 1 b (placeNarrowing made path x b)
 unfolding placeNarrowing
 counts-narrowing made b s path (Narrowing.Bytes bytes) = counts-part made _ path _ b
@@ -237,6 +242,7 @@ counts-narrowing made b s path (Narrowing.RegisterField a at) = counts-part made
 counts-narrowing made b s path (Narrowing.FactId a) = counts-part made _ path _ b
 counts-narrowing made b s path (Narrowing.Prefix bytes) = counts-prefix made b s path bytes
 counts-narrowing made b s path (Narrowing.Fuzzy x d a) = counts-fuzzy made b path x d a
+counts-narrowing made b s path (Narrowing.OwnField at) = counts-own made b path at
 
 steady-close : (made : ℕ) (b : SeekBuilder) → Steady b → Steady (placeCloser made b)
 unfolding placeCloser
@@ -297,13 +303,14 @@ unfolding placePart withPart withResidual
 fallen-part made part path op b h = by-test (Fallen b) (b .building) (λ e. absurd (true≢false (sym e ∙ h))) (λ e. record { building = h; parts = refl; closers = refl })
 
 fallen-narrowing : (made : ℕ) (path : FieldPath) (x : Narrowing) (b : SeekBuilder) → b .building ≡ false → Fallen b (placeNarrowing made path x b)
-unfolding placeNarrowing placePrefix placeFuzzy withResidual withGuide fall
+unfolding placeNarrowing placePrefix placeFuzzy placeOwn withResidual withGuide fall
 fallen-narrowing made path (Narrowing.Bytes bytes) b h = fallen-part made _ path _ b h
 fallen-narrowing made path (Narrowing.Tag disc) b h = fallen-part made _ path _ b h
 fallen-narrowing made path (Narrowing.RegisterField a at) b h = fallen-part made _ path _ b h
 fallen-narrowing made path (Narrowing.FactId a) b h = fallen-part made _ path _ b h
 fallen-narrowing made path (Narrowing.Prefix bytes) b h = by-test (Fallen b) _ (λ e. absurd (true≢false (sym e ∙ h))) (λ e. record { building = h; parts = refl; closers = refl })
 fallen-narrowing made path (Narrowing.Fuzzy x d a) b h = by-test (Fallen b) (attachable b path) (λ e. record { building = refl; parts = refl; closers = refl }) (λ e. record { building = h; parts = refl; closers = refl })
+fallen-narrowing made path (Narrowing.OwnField at) b h = record { building = refl; parts = refl; closers = refl }
 
 fallen-closer : (made : ℕ) (b : SeekBuilder) → b .building ≡ false → Fallen b (placeCloser made b)
 fallen-closer made b h = subst (Fallen b) (sym (closer-fallen made b h)) (record { building = h; parts = refl; closers = refl })
@@ -353,13 +360,14 @@ makes-none : (b b′ : SeekBuilder) → b′ .parts ≡ b .parts → b′ .close
 makes-none b b′ e c = record { on = λ q. e ∙ sym (append-nil (b .parts)); fell = λ q. e; on-closers = λ q. omega (arith, c); fell-closers = λ q. c }
 
 makes-narrowing : (made : ℕ) (b : SeekBuilder) → b .building ≡ true → (path : FieldPath) (x : Narrowing) → Makes (partsOf (Event.narrow made path x)) (closersOf (Event.narrow made path x)) b (placeNarrowing made path x b)
-unfolding partsOf closersOf placeNarrowing placePrefix placeFuzzy withResidual withRange withGuide fall
+unfolding partsOf closersOf placeNarrowing placePrefix placeFuzzy placeOwn withResidual withRange withGuide fall
 makes-narrowing made b h path (Narrowing.Bytes bytes) = makes-part made b h _ path _
 makes-narrowing made b h path (Narrowing.Tag disc) = makes-part made b h _ path _
 makes-narrowing made b h path (Narrowing.RegisterField a at) = makes-part made b h _ path _
 makes-narrowing made b h path (Narrowing.FactId a) = makes-part made b h _ path _
 makes-narrowing made b h path (Narrowing.Prefix bytes) = by-test (Makes [] 0 b) (b .building) (λ e. makes-none b _ refl refl) (λ e. makes-none b _ refl refl)
 makes-narrowing made b h path (Narrowing.Fuzzy x d a) = by-test (Makes [] 0 b) (attachable b path) (λ e. makes-none b _ refl refl) (λ e. makes-none b _ refl refl)
+makes-narrowing made b h path (Narrowing.OwnField at) = makes-none b _ refl refl
 
 makes-skip : (b : SeekBuilder) → Makes (partsOf Event.skip) (closersOf Event.skip) b (fall b)
 unfolding partsOf closersOf fall

@@ -37,6 +37,8 @@ pub mod Kept
 pub mod Demand3
 -- A closer and its tag.
 pub mod Closers
+-- Diagnostic 4.
+pub mod Repeats
 -- What later code leans on.
 pub mod Paths
 -- The plan reader.

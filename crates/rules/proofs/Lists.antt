@@ -91,11 +91,12 @@ adds-keeps T =
       binds = λ x slot w e ok c. adds-binding (w .lists) _ (record { name = x; slot = slot }) (unbound (w .lists .bindings) x e) refl (onwards-same _) (onwards-same _) (onwards-same _);
       constrains = λ x w. adds-others (w .lists) _ refl (onwards-one (w .lists .constrained) x) (onwards-same _) (onwards-same _);
       selects = λ a p d w s. adds-others (w .lists) _ refl (onwards-same _) (onwards-one (w .lists .selects) (record { address = a; path = p; disc = d })) (onwards-same _);
-      reports = λ n c w. adds-others (w .lists) _ refl (onwards-same _) (onwards-same _) (onwards-one (w .lists .diagnostics) (record { node = n; code = c }));
+      reports = λ n c h w. adds-others (w .lists) _ refl (onwards-same _) (onwards-same _) (onwards-one (w .lists .diagnostics) (record { node = n; code = c }));
       skips = λ w. adds-same (w .lists);
       bounds = λ x t w. adds-same (w .lists);
       constants = λ m n t c p w e s. adds-same (w .lists);
       registers = λ m a at p w s s′. adds-same (w .lists);
       facts = λ m a p w s. adds-same (w .lists);
+      own-fields = λ m at p w s s′. adds-same (w .lists);
       unions = λ m d p w w′ s h. h;
     }

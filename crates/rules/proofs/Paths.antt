@@ -18,6 +18,7 @@ NarrowingShort (Narrowing.RegisterField a at) = Short at
 NarrowingShort (Narrowing.FactId a) = Unit {0}
 NarrowingShort (Narrowing.Prefix bytes) = Unit {0}
 NarrowingShort (Narrowing.Fuzzy x d a) = Unit {0}
+NarrowingShort (Narrowing.OwnField at) = Short at
 
 abbrev pub EventShort : Event → Type 0
 EventShort (Event.narrow n p x) = Short p × NarrowingShort x
@@ -60,12 +61,13 @@ short-keeps T =
       binds = λ x slot w e ok c s. record { events = s .events; selects = s .selects };
       constrains = λ x w s. record { events = s .events; selects = s .selects };
       selects = λ a p d w h s. record { events = s .events; selects = each-append (s .selects) (more h done) };
-      reports = λ n c w s. record { events = s .events; selects = s .selects };
+      reports = λ n c h w s. record { events = s .events; selects = s .selects };
       skips = λ w. emits Event.skip w tt;
       bounds = λ x t w s. emits Event.skip _ tt (emits (Event.bound x t) w tt s);
       constants = λ m n t c p w e h. emits-constant m c p w h;
       registers = λ m a at p w h h′. emits _ w (h′, h);
       facts = λ m a p w h. emits _ w (h, tt);
+      own-fields = λ m at p w h h′. emits _ w (h′, h);
       unions = λ m d p w w′ h g s. emits (Event.closer m) w′ tt (g (emits _ w (h, tt) s));
     }
 

@@ -49,6 +49,7 @@ narrowing-fits (Narrowing.RegisterField a p) h s = (h .0, path-fits p (h .1) s)
 narrowing-fits (Narrowing.FactId a) h s = h
 narrowing-fits (Narrowing.Prefix bytes) h s = tt
 narrowing-fits (Narrowing.Fuzzy x d a) h s = h
+narrowing-fits (Narrowing.OwnField p) h s = path-fits p h s
 
 event-fits : (e : Event) → EventWithin e → EventShort e → EventFits e
 event-fits (Event.narrow n p x) h s = (h .0, path-fits p (h .1) (s .0), narrowing-fits x (h .2) (s .1))

@@ -175,7 +175,7 @@ steady-guide =
     steady-pure _) done))
 
 steady-op : Steady Reader.op
-unfolding Reader.op Reader.bytesOp Reader.prefixOp Reader.registerOp Reader.factOp Reader.tagOp Reader.fuzzyOp
+unfolding Reader.op Reader.bytesOp Reader.prefixOp Reader.registerOp Reader.factOp Reader.tagOp Reader.fuzzyOp Reader.ownOp
 steady-op =
     steady-kind
     (more (steady-bind _ steady-text λ bytes. steady-pure _)
@@ -183,7 +183,8 @@ steady-op =
     (more (steady-bind _ steady-u16 λ a. steady-bind _ steady-path λ p. steady-pure _)
     (more (steady-bind _ steady-u16 λ a. steady-pure _)
     (more (steady-bind _ steady-u32 λ d. steady-pure _)
-    (more (steady-bind _ steady-u16 λ x. steady-bind _ steady-u8 λ d. steady-bind _ steady-anchor λ a. steady-pure _) done))))))
+    (more (steady-bind _ steady-u16 λ x. steady-bind _ steady-u8 λ d. steady-bind _ steady-anchor λ a. steady-pure _)
+    (more (steady-bind _ steady-path λ p. steady-pure _) done)))))))
 
 steady-residual : Steady Reader.residual
 unfolding Reader.residual

@@ -7,7 +7,7 @@ use lib.ListN.{length}
 use Rattle.rules.specs.Base.{Each, done, more}
 use Rattle.rules.specs.File.{Tables, FieldPath, CompareOp, Comparison}
 use Rattle.rules.specs.Events.{Narrowing, Event}
-use Rattle.rules.specs.Placement.{SeekKeyPart, Part, Residual, Guide, Range, Edges, SeekBuilder, new, withPart, withResidual, withGuide, withRange, withEdges, withCloser, fall, placePart, placePrefix, attachable, placeFuzzy, placeNarrowing, placeCloser, takeHi, takeLo, takeEdge, sided, foldFrom, placeBound, place, placeAll}
+use Rattle.rules.specs.Placement.{SeekKeyPart, Part, Residual, Guide, Range, Edges, SeekBuilder, new, withPart, withResidual, withGuide, withRange, withEdges, withCloser, fall, placePart, placePrefix, attachable, placeFuzzy, placeOwn, placeNarrowing, placeCloser, takeHi, takeLo, takeEdge, sided, foldFrom, placeBound, place, placeAll}
 use Rattle.rules.proofs.Cases.{by-test, by-option}
 use Rattle.rules.proofs.Each.{Perhaps, nothing, just, each-snoc}
 use Rattle.rules.proofs.ReaderReads.{PathFits, KeyFits, PartFits, RangeFits, GuideFits, ResidualFits, NarrowingFits}
@@ -69,7 +69,7 @@ place-part n key path op b l h p k g =
     either Made (b .building) (with-part _ b (record { key = h; node = l }) g) (with-residual _ b (record { path = p; op = k; node = l }) g)
 
 place-narrowing : (n : ℕ) (path : FieldPath) (x : Narrowing) (b : SeekBuilder) → n < 65536 → PathFits path → NarrowingFits x → Made b → Made (placeNarrowing n path x b)
-unfolding placeNarrowing placePrefix placeFuzzy
+unfolding placeNarrowing placePrefix placeFuzzy placeOwn
 place-narrowing n path (Narrowing.Bytes bytes) b l p h g = place-part n (SeekKeyPart.Bytes bytes) path (Narrowing.Bytes bytes) b l tt p tt g
 place-narrowing n path (Narrowing.Tag disc) b l p h g = place-part n (SeekKeyPart.Bytes _) path (Narrowing.Tag disc) b l tt p h g
 place-narrowing n path (Narrowing.RegisterField address at) b l p h g = place-part n (SeekKeyPart.RegisterField address at) path (Narrowing.RegisterField address at) b l h p h g
@@ -78,6 +78,7 @@ place-narrowing n path (Narrowing.Prefix prefix) b l p h g =
     either Made (b .building) (falls _ (with-range _ b (record { path = p; node = l }) g)) (with-residual _ b (record { path = p; op = tt; node = l }) g)
 place-narrowing n path (Narrowing.Fuzzy x distance anchor) b l p h g =
     either Made (attachable b path) (falls _ (with-guide _ b (record { path = p; term = h; node = l }) g)) (with-residual _ b (record { path = p; op = h; node = l }) g)
+place-narrowing n path (Narrowing.OwnField at) b l p h g = falls _ (with-residual _ b (record { path = p; op = h; node = l }) g)
 
 place-closer : (n : ℕ) (b : SeekBuilder) → n < 65536 → Made b → Made (placeCloser n b)
 unfolding placeCloser

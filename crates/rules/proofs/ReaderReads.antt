@@ -78,6 +78,7 @@ NarrowingFits (Narrowing.RegisterField a p) = (a < 65536) × PathFits p
 NarrowingFits (Narrowing.FactId a) = a < 65536
 NarrowingFits (Narrowing.Prefix bytes) = Unit {0}
 NarrowingFits (Narrowing.Fuzzy x distance a) = x < 65536
+NarrowingFits (Narrowing.OwnField p) = PathFits p
 
 pub record ResidualFits (r : Residual) : Type 0 where
   pub path : PathFits (r .path)
@@ -302,7 +303,7 @@ takes-guide (just {x = g} h) =
     (last _ (takes-u16 (g .node) (h .node)) (λ rest. refl)))))))
 
 takes-op : (x : Narrowing) → NarrowingFits x → Takes Reader.op (Plan.op x) x
-unfolding Reader.op Plan.op Reader.bytesOp Reader.prefixOp Reader.registerOp Reader.factOp Reader.tagOp Reader.fuzzyOp Plan.fuzzy pure
+unfolding Reader.op Plan.op Reader.bytesOp Reader.prefixOp Reader.registerOp Reader.factOp Reader.tagOp Reader.fuzzyOp Reader.ownOp Plan.fuzzy pure
 takes-op (Narrowing.Bytes bytes) h = takes-kind _ 0 (last _ (takes-text bytes) (λ rest. refl))
 takes-op (Narrowing.Tag d) h = takes-kind _ 4 (last _ (takes-u32 d h) (λ rest. refl))
 takes-op (Narrowing.RegisterField a p) h = takes-kind _ 2 (step _ (takes-u16 a (h .0)) (last _ (takes-path p (h .1)) (λ rest. refl)))
@@ -310,6 +311,7 @@ takes-op (Narrowing.FactId a) h = takes-kind _ 3 (last _ (takes-u16 a h) (λ res
 takes-op (Narrowing.Prefix bytes) h = takes-kind _ 1 (last _ (takes-text bytes) (λ rest. refl))
 takes-op (Narrowing.Fuzzy x distance a) h =
     takes-kind _ 5 (step _ (takes-u16 x h) (step _ (takes-u8 distance) (last _ (takes-anchor a) (λ rest. refl))))
+takes-op (Narrowing.OwnField p) h = takes-kind _ 6 (last _ (takes-path p h) (λ rest. refl))
 
 takes-residual : (r : Residual) → ResidualFits r → Takes Reader.residual (Plan.residual r) r
 unfolding Reader.residual Plan.residual pure

@@ -49,6 +49,16 @@ row-nodes : read (bytes 72 0x020002000000020000020061620500060100000000000400000
 unfolding openRows
 row-nodes = refl
 
+-- request [8]: op 6 and the other path, here with a step of 7, made by node 9
+row-own-field : read (bytes 37 0x01000100000000000000000001000100000600000107000000090000000000000000000000) ≡ Outcome.planned (bytes 37 0x01000100000000000000000001000100000600000107000000090000000000000000000000)
+unfolding openRows
+row-own-field = refl
+
+-- a diagnostic of code 4, which the compile no longer makes
+row-repeat : read (bytes 13 0x00000000000000000100000004) ≡ Outcome.planned (bytes 13 0x00000000000000000100000004)
+unfolding openRows
+row-repeat = refl
+
 -- 16
 
 -- two parts, and the second one's node is cut
@@ -88,8 +98,8 @@ unknown-guide : read (bytes 12 0x010000000000000000000002) ≡ Outcome.refused 1
 unfolding openRows
 unknown-guide = refl
 
--- an op of 6
-unknown-op : read (bytes 18 0x010001000000000000000000010000000006) ≡ Outcome.refused 17
+-- an op of 7
+unknown-op : read (bytes 18 0x010001000000000000000000010000000007) ≡ Outcome.refused 17
 unfolding openRows
 unknown-op = refl
 

@@ -33,6 +33,7 @@ NarrowingWithin (Narrowing.RegisterField a p) = (a < 65536) × PathWithin p
 NarrowingWithin (Narrowing.FactId a) = a < 65536
 NarrowingWithin (Narrowing.Prefix bytes) = Unit {0}
 NarrowingWithin (Narrowing.Fuzzy x distance a) = x < 65536
+NarrowingWithin (Narrowing.OwnField p) = PathWithin p
 
 abbrev pub EventWithin : Event → Type 0
 EventWithin (Event.narrow n p x) = (n < 65536) × PathWithin p × NarrowingWithin x
@@ -467,7 +468,7 @@ module _ (T : Tables) (N : TablesWithin T) where
     matches n (Slot.Row from q) t p w l r g v = either Within (refersTo q (factTy (typeAt T t))) (emits (Event.narrow n p (Narrowing.FactId from)) w (l, g, r) v) (reports n Code.RejectTypeMismatch w l v)
     matches n (Slot.Key from ty) t p w l r g v = reports n _ _ l (skips w v)
     matches n (Slot.Derived from) t p w l r g v = reports n _ _ l (skips w v)
-    matches n (Slot.Field from at ty) t p w l r g v = either Within (eqb from address) (reports n Code.NyiRepeatedVariable w l v) (emits (Event.narrow n p (Narrowing.RegisterField from at)) w (l, g, r) v)
+    matches n (Slot.Field from at ty) t p w l r g v = either Within (eqb from address) (emits (Event.narrow n p (Narrowing.OwnField at)) w (l, g, r .1) v) (emits (Event.narrow n p (Narrowing.RegisterField from at)) w (l, g, r) v)
     matches n (Slot.Value from ty) t p w l r g v = reports n _ w l v
     matches n (Slot.Const folded) t p w l r g v = by-perhaps Within (constant-within folded t) (partials folded t p w g v) (λ c q. narrows n c p w l q g v)
 

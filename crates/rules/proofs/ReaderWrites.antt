@@ -257,7 +257,7 @@ item-guide =
     or none-left)
 
 item-op : Item Reader.op Plan.op Any
-unfolding Reader.op Plan.op Reader.bytesOp Reader.prefixOp Reader.registerOp Reader.factOp Reader.tagOp Reader.fuzzyOp Plan.fuzzy Plan.u16
+unfolding Reader.op Plan.op Reader.bytesOp Reader.prefixOp Reader.registerOp Reader.factOp Reader.tagOp Reader.fuzzyOp Reader.ownOp Plan.fuzzy Plan.u16
 item-op =
     item-kind
     ((item item-text λ bytes _. made _ (refl, tt))
@@ -266,6 +266,7 @@ item-op =
     or (item item-u16 λ a _. made _ (refl, tt))
     or (item item-u32 λ d _. made _ (refl, tt))
     or (item item-u16 λ x _. item item-u8 λ distance _. item item-anchor λ a _. made _ (refl, tt))
+    or (item item-path λ p _. made _ (refl, tt))
     or none-left)
 
 item-residual : Item Reader.residual Plan.residual Any

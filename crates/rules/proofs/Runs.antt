@@ -20,7 +20,7 @@ use Rattle.rules.proofs.Cases.{by-test, true≢false, some≢none, some
 use Rattle.rules.proofs.Choices.{by-test₂, by-option₂}
 use Rattle.rules.proofs.Each.{each-imply, each-append, each-first}
 use Rattle.rules.proofs.Sound.{Fits, Child, SlotOk, BindingOk, Sound}
-use Rattle.rules.proofs.Keeps.{Keeps, Short, narrow, skip, record-children, union-children, field-child, fits-short, fits-field, fits-then, slot-at, row-field, row-value, folded-slot, lookup-ok, hoisted-ok}
+use Rattle.rules.proofs.Keeps.{Keeps, Short, Reported, narrow, skip, record-children, union-children, field-child, fits-short, fits-field, fits-then, slot-at, row-field, row-value, folded-slot, lookup-ok, hoisted-ok}
 use Rattle.rules.proofs.Idle.{Idle, Rests, Stays, idle-next, idle-dereference, idle-row, idle-fieldSlot, idle-value, idle-selectSlot, idle-matched, idle-readAnswer, idle-variable, idle-fieldBelow, idle-field, idle-wholeFields, idle-wholeVariable}
 
 -- What is known of the walk's own paths and of the names that it binds: P and N, however the tables give them.
@@ -53,6 +53,7 @@ pub record Sim (T : Tables) (P : FieldPath → Type 0) (N : ℕ → Type 0) {C :
   pub constants : (m n t : ℕ) (k : Const) (p : FieldPath) (a : Walk) (c : C) → constant T n t ≡ some k → Short p → R a c → R (narrow m p (narrowing k) a) (o .narrow m p (narrowing k) c)
   pub registers : (m n : ℕ) (at p : FieldPath) (a : Walk) (c : C) → Short at → Short p → R a c → R (narrow m p (Narrowing.RegisterField n at) a) (o .narrow m p (Narrowing.RegisterField n at) c)
   pub facts : (m n : ℕ) (p : FieldPath) (a : Walk) (c : C) → Short p → R a c → R (narrow m p (Narrowing.FactId n) a) (o .narrow m p (Narrowing.FactId n) c)
+  pub own-fields : (m : ℕ) (at p : FieldPath) (a : Walk) (c : C) → Short at → Short p → R a c → R (narrow m p (Narrowing.OwnField at) a) (o .narrow m p (Narrowing.OwnField at) c)
   pub tags : (m d : ℕ) (p : FieldPath) (a : Walk) (c : C) → Short p → R a c → R (narrow m p (Narrowing.Tag d) a) (o .narrow m p (Narrowing.Tag d) c)
   pub closers : (m : ℕ) (a : Walk) (c : C) → R a c → R (emit (Event.closer m) a) (o .closer m c)
 
@@ -89,9 +90,9 @@ module _ (T : Tables) (S : Sound T) (P : FieldPath → Type 0) (N : ℕ → Type
       record { grew = K .next a b d (p .grew) (q .grew); fit = q .fit; rel = q .rel; still = λ s. q .still (p .still s) }
 
   -- One operation each.
-  goes-report : (n : ℕ) (code : Code) (a : Walk) (c : C) → Goes a (report n code a) c (o .report n code c)
+  goes-report : (n : ℕ) (code : Code) → Reported code → (a : Walk) (c : C) → Goes a (report n code a) c (o .report n code c)
   unfolding report
-  goes-report n code a c f r = record { grew = K .reports n code a; fit = f; rel = sim .reports n code a c r; still = λ h. ap stopped (sim .idle c h .report n code) ∙ h }
+  goes-report n code h a c f r = record { grew = K .reports n code h a; fit = f; rel = sim .reports n code a c r; still = λ e. ap stopped (sim .idle c e .report n code) ∙ e }
 
   goes-skip : (a : Walk) (c : C) → Goes a (skip a) c (o .skip c)
   unfolding emit
@@ -138,6 +139,10 @@ module _ (T : Tables) (S : Sound T) (P : FieldPath → Type 0) (N : ℕ → Type
   unfolding emit
   goes-fact m n p a c s f r = record { grew = K .facts m n p a s; fit = f; rel = sim .facts m n p a c s r; still = λ h. ap stopped (sim .idle c h .narrow m p (Narrowing.FactId n)) ∙ h }
 
+  goes-own : (m : ℕ) (at p : FieldPath) (a : Walk) (c : C) → Short at → Short p → Goes a (narrow m p (Narrowing.OwnField at) a) c (o .narrow m p (Narrowing.OwnField at) c)
+  unfolding emit
+  goes-own m at p a c s s′ f r = record { grew = K .own-fields m at p a s s′; fit = f; rel = sim .own-fields m at p a c s s′ r; still = λ h. ap stopped (sim .idle c h .narrow m p (Narrowing.OwnField at)) ∙ h }
+
   -- a tag, its payload, its closer
   goes-union : (m d : ℕ) (p : FieldPath) (a a′ : Walk) (c c′ : C) → Short p → Goes (narrow m p (Narrowing.Tag d) a) a′ (o .narrow m p (Narrowing.Tag d) c) c′ → Goes a (emit (Event.closer m) a′) c (o .closer m c′)
   unfolding emit
@@ -181,11 +186,11 @@ module _ (T : Tables) (S : Sound T) (P : FieldPath → Type 0) (N : ℕ → Type
   reads-some : (s : Slot) (a : Walk) (c : C) → SlotOk T s → Reads a (give (some s) a) c (give (some s) c)
   reads-some s a c ok = reads-give (some s) a c (λ s′ e. subst (SlotOk T) (some-injective s s′ e) ok)
 
-  reads-declined : (n : ℕ) (code : Code) (a : Walk) (c : C) → Reads a (declined (walkOps T) T n code a) c (declined o T n code c)
+  reads-declined : (n : ℕ) (code : Code) → Reported code → (a : Walk) (c : C) → Reads a (declined (walkOps T) T n code a) c (declined o T n code c)
   unfolding declined
-  reads-declined n code a c f r =
-      let g = goes-report n code a c f r in
-      record { grew = g .grew; fit = g .fit; rel = g .rel; still = g .still; ok = λ s e. absurd (some≢none s (sym e)); same = λ h. refl }
+  reads-declined n code h a c f r =
+      let g = goes-report n code h a c f r in
+      record { grew = g .grew; fit = g .fit; rel = g .rel; still = g .still; ok = λ s e. absurd (some≢none s (sym e)); same = λ q. refl }
 
   sync-reads : {L : Type 0} (a : Walk) (c : C) (l m : L) (x : Answer Walk) (g : L → Answer C) → (stopped c ≡ false → R a c → m ≡ l) → Reads a x c (g l) → (stopped c ≡ true → g m .walk ≡ c) → Reads a x c (g m)
   sync-reads a c l m x g same h rests f r = go (stopped c) refl
@@ -217,7 +222,7 @@ module _ (T : Tables) (S : Sound T) (P : FieldPath → Type 0) (N : ℕ → Type
 
   reads-fetched : (n p : ℕ) (register : Option ℕ) (a : Walk) (c : C) → p < length (T .predicates) → Reads a (fetchedRow (walkOps T) T n p register a) c (fetchedRow o T n p register c)
   unfolding fetchedRow
-  reads-fetched n p none a c h = reads-declined n Code.NyiFactField a c
+  reads-fetched n p none a c h = reads-declined n Code.NyiFactField tt a c
   reads-fetched n p (some r) a c h = reads-some (Slot.Row r (some p)) a c (λ q e. subst (λ x. x < length (T .predicates)) (some-injective p q e) h)
 
   reads-dereference : (n : ℕ) (s : Slot) (a : Walk) (c : C) → SlotOk T s → Reads a (dereference (walkOps T) T n s a) c (dereference o T n s c)
@@ -232,7 +237,7 @@ module _ (T : Tables) (S : Sound T) (P : FieldPath → Type 0) (N : ℕ → Type
   reads-dereference n (Slot.Value x t) a c ok =
       by-option₂ (λ (r : Resolver Walk) (r′ : Resolver C). Reads a (r a) c (r′ c)) (factTy (typeAt T t))
       (λ e. reads-some (Slot.Value x t) a c ok)
-      (λ p e. reads-declined n Code.NyiFactField a c)
+      (λ p e. reads-declined n Code.NyiFactField tt a c)
   reads-dereference n (Slot.Const x) a c ok = reads-some (Slot.Const x) a c ok
 
   reads-row : (x : ℕ) (s : Slot) (a : Walk) (c : C) → SlotOk T s → Reads a (fieldOfRow (walkOps T) T x s a) c (fieldOfRow o T x s c)
@@ -255,7 +260,7 @@ module _ (T : Tables) (S : Sound T) (P : FieldPath → Type 0) (N : ℕ → Type
       (λ e. reads-give _ a c (slot-at T S m (then path) (fieldOf (typeAt T t) x) (λ f q. fits-then T S path (f .index) t (f .type) ok (field-child (Child T t) (typeAt T t) x f (S .children t (ok .in-types)) q))))
       (λ p e. reads-next a c (dereference (walkOps T) T n (Slot.Field m path t)) (dereference o T n (Slot.Field m path t)) (fieldOfRow (walkOps T) T x) (fieldOfRow o T x)
       (reads-dereference n (Slot.Field m path t) a c ok) (reads-row x) (λ s d h. idle-row o T d (sim .idle d h) x s))
-  reads-field n (Slot.Value m t) x a c ok = reads-declined n Code.NyiValueField a c
+  reads-field n (Slot.Value m t) x a c ok = reads-declined n Code.NyiValueField tt a c
   reads-field n (Slot.Const m) x a c ok = reads-give _ a c (folded-slot T S m x)
 
   reads-value : (s : Slot) (a : Walk) (c : C) → SlotOk T s → Reads a (valueSlot (walkOps T) T s a) c (valueSlot o T s c)
@@ -276,15 +281,15 @@ module _ (T : Tables) (S : Sound T) (P : FieldPath → Type 0) (N : ℕ → Type
 
   reads-select : (n : ℕ) (s : Slot) (x : ℕ) (a : Walk) (c : C) → SlotOk T s → Reads a (selectSlot (walkOps T) T n s x a) c (selectSlot o T n s x c)
   unfolding selectSlot alternativeOf
-  reads-select n (Slot.Row m p) x a c ok = reads-declined n Code.NyiFactField a c
-  reads-select n (Slot.Key m t) x a c ok = reads-declined n Code.NyiFactField a c
-  reads-select n (Slot.Derived m) x a c ok = reads-declined n Code.NyiFactField a c
+  reads-select n (Slot.Row m p) x a c ok = reads-declined n Code.NyiFactField tt a c
+  reads-select n (Slot.Key m t) x a c ok = reads-declined n Code.NyiFactField tt a c
+  reads-select n (Slot.Derived m) x a c ok = reads-declined n Code.NyiFactField tt a c
   reads-select n (Slot.Field m path t) x a c ok =
       by-option₂ (λ (r : Resolver Walk) (r′ : Resolver C). Reads a (r a) c (r′ c)) (unionTy (typeAt T t))
-      (λ e. reads-declined n Code.NyiFactField a c)
+      (λ e. reads-declined n Code.NyiFactField tt a c)
       (λ alts e. reads-selected m path t _ a c ok (λ b q. each-first _ (union-children (Child T t) (typeAt T t) alts (S .children t (ok .in-types)) e) b q))
-  reads-select n (Slot.Value m t) x a c ok = reads-declined n Code.NyiFactField a c
-  reads-select n (Slot.Const m) x a c ok = reads-declined n Code.NyiFactField a c
+  reads-select n (Slot.Value m t) x a c ok = reads-declined n Code.NyiFactField tt a c
+  reads-select n (Slot.Const m) x a c ok = reads-declined n Code.NyiFactField tt a c
 
   -- a base read and dereferenced
   reads-base : (below : ℕ → Resolver Walk) (below′ : ℕ → Resolver C) → ((m : ℕ) (a : Walk) (c : C) → Reads a (below m a) c (below′ m c)) → (n base : ℕ) (g : Slot → Resolver Walk) (g′ : Slot → Resolver C) → ((s : Slot) (a : Walk) (c : C) → SlotOk T s → Reads a (g s a) c (g′ s c)) → ((s : Slot) (d : C) (h : stopped d ≡ true) → Rests o T d (sim .idle d h) (g′ s)) → (a : Walk) (c : C) → Reads a ((below base whenFound λ slot. (dereference (walkOps T) T n slot whenFound g)) a) c ((below′ base whenFound λ slot. (dereference o T n slot whenFound g′)) c)
@@ -349,7 +354,7 @@ module _ (T : Tables) (S : Sound T) (P : FieldPath → Type 0) (N : ℕ → Type
   unfolding constrainEach narrowBy
   goes-constraints [] t path a c s = goes-same a c
   goes-constraints (k ∷ ks) t path a c s =
-      goes-constant-or (k .node) (k .node) t path a _ c _ s (goes-skip a c and goes-report (k .node) Code.RejectTypeMismatch (skip a) (o .skip c))
+      goes-constant-or (k .node) (k .node) t path a _ c _ s (goes-skip a c and goes-report (k .node) Code.RejectTypeMismatch tt (skip a) (o .skip c))
       and goes-constraints ks t path _ _ s
 
   goes-constrain-by : (ks : List Constraint) (x t : ℕ) (path : FieldPath) (a : Walk) (c : C) → Short path → Goes a (constrainBy (walkOps T) T ks x t path a) c (constrainBy o T ks x t path c)
@@ -370,7 +375,7 @@ module _ (T : Tables) (S : Sound T) (P : FieldPath → Type 0) (N : ℕ → Type
       (λ (b : Bool). elim b [ true ↦ o .report n Code.RejectUnresolvedAccess (o .skip c) | false ↦ o .skip c ])
       (λ _ q r. sim .reported a a₀ c c₀ q (on q) r r₀)
       (by-test₂ (λ a′ c′. Goes a a′ c c′) (eqb (length (a .lists .diagnostics)) (length (a₀ .lists .diagnostics)))
-      (λ q. goes-skip a c and goes-report n Code.RejectUnresolvedAccess (skip a) (o .skip c))
+      (λ q. goes-skip a c and goes-report n Code.RejectUnresolvedAccess tt (skip a) (o .skip c))
       (λ q. goes-skip a c))
       (λ q. by-test (λ w. w ≡ c) (eqb (o .reported c) (o .reported c₀)) (λ _. ap (o .report n Code.RejectUnresolvedAccess) (sim .idle c q .skip) ∙ sim .idle c q .report n _) (λ _. sim .idle c q .skip)))
 
@@ -391,18 +396,19 @@ module _ (T : Tables) (S : Sound T) (P : FieldPath → Type 0) (N : ℕ → Type
     goes-matched : (n : ℕ) (slot : Slot) (t : ℕ) (path : FieldPath) (a : Walk) (c : C) → SlotOk T slot → Stands T P path t → Goes a (matched (walkOps T) T address below n slot t path a) c (matched o T address below′ n slot t path c)
     unfolding matched narrowBy
     goes-matched n (Slot.Row from p) t path a c ok s =
-        by-test₂ (λ a′ c′. Goes a a′ c c′) (refersTo p (factTy (typeAt T t))) (λ e. goes-fact n from path a c (stands-short path t s)) (λ e. goes-report n Code.RejectTypeMismatch a c)
-    goes-matched n (Slot.Key from ty) t path a c ok s = goes-skip a c and goes-report n Code.NyiWholeKey (skip a) (o .skip c)
-    goes-matched n (Slot.Derived from) t path a c ok s = goes-skip a c and goes-report n Code.NyiValueMatch (skip a) (o .skip c)
+        by-test₂ (λ a′ c′. Goes a a′ c c′) (refersTo p (factTy (typeAt T t))) (λ e. goes-fact n from path a c (stands-short path t s)) (λ e. goes-report n Code.RejectTypeMismatch tt a c)
+    goes-matched n (Slot.Key from ty) t path a c ok s = goes-skip a c and goes-report n Code.NyiWholeKey tt (skip a) (o .skip c)
+    goes-matched n (Slot.Derived from) t path a c ok s = goes-skip a c and goes-report n Code.NyiValueMatch tt (skip a) (o .skip c)
     goes-matched n (Slot.Field from at ty) t path a c ok s =
-        by-test₂ (λ a′ c′. Goes a a′ c c′) (eqb from address) (λ e. goes-report n Code.NyiRepeatedVariable a c) (λ e. goes-register n from at path a c (fits-short T S at ty ok) (stands-short path t s))
-    goes-matched n (Slot.Value from ty) t path a c ok s = goes-report n Code.NyiValueMatch a c
+        let short = fits-short T S at ty ok in
+        by-test₂ (λ a′ c′. Goes a a′ c c′) (eqb from address) (λ e. goes-own n at path a c short (stands-short path t s)) (λ e. goes-register n from at path a c short (stands-short path t s))
+    goes-matched n (Slot.Value from ty) t path a c ok s = goes-report n Code.NyiValueMatch tt a c
     goes-matched n (Slot.Const folded) t path a c ok s =
         goes-constant-or n folded t path a _ c _ (stands-short path t s) (goes-partial folded t path a c s)
 
     goes-alternative : (n : ℕ) (g : FieldPattern) (alt : Option Alternative) (t : ℕ) (path : FieldPath) (a : Walk) (c : C) → Stands T P path t → ((b : Alternative) → alt ≡ some b → Child T t (b .type)) → ((b : Alternative) → alt ≡ some b → P (payload path (b .disc))) → Goes a (injectAlternative (walkOps T) T address below n g alt path a) c (injectAlternative o T address below′ n g alt path c)
     unfolding injectAlternative payload
-    goes-alternative n g none t path a c s child within = goes-skip a c and goes-report n Code.RejectUnknownAlternative (skip a) (o .skip c)
+    goes-alternative n g none t path a c s child within = goes-skip a c and goes-report n Code.RejectUnknownAlternative tt (skip a) (o .skip c)
     goes-alternative n g (some alt) t path a c s child within =
         goes-union n (alt .disc) path a _ c _ (stands-short path t s)
         (B (g .node) (alt .type) (then path (alt .disc)) (narrow n path (Narrowing.Tag (alt .disc)) a) (o .narrow n path (Narrowing.Tag (alt .disc)) c)
@@ -410,7 +416,7 @@ module _ (T : Tables) (S : Sound T) (P : FieldPath → Type 0) (N : ℕ → Type
 
     goes-only : (n : ℕ) (g : Option FieldPattern) (alts : List Alternative) (t : ℕ) (path : FieldPath) (a : Walk) (c : C) → Stands T P path t → unionTy (typeAt T t) ≡ some alts → Goes a (injectOnly (walkOps T) T address below n g alts path a) c (injectOnly o T address below′ n g alts path c)
     unfolding injectOnly alternativeOf
-    goes-only n none alts t path a c s e = goes-skip a c and goes-report n Code.RejectUnionArity (skip a) (o .skip c)
+    goes-only n none alts t path a c s e = goes-skip a c and goes-report n Code.RejectUnionArity tt (skip a) (o .skip c)
     goes-only n (some g) alts t path a c s e =
         goes-alternative n g _ t path a c s
         (λ b q. each-first _ (union-children (Child T t) (typeAt T t) alts (S .children t (s .fits .in-types)) e) b q)
@@ -441,7 +447,7 @@ module _ (T : Tables) (S : Sound T) (P : FieldPath → Type 0) (N : ℕ → Type
     goes-ranged : Walks (ranged (walkOps T) T address below) (ranged o T address below′)
     unfolding ranged narrowBy
     goes-ranged n t path a c s =
-        goes-constant-or n n t path a _ c _ (stands-short path t s) (goes-report n Code.RejectTypeMismatch a c)
+        goes-constant-or n n t path a _ c _ (stands-short path t s) (goes-report n Code.RejectTypeMismatch tt a c)
 
     goes-variable : (x : ℕ) → N x → Walks (variable (walkOps T) T address below x) (variable o T address below′ x)
     unfolding variable
@@ -461,7 +467,7 @@ module _ (T : Tables) (S : Sound T) (P : FieldPath → Type 0) (N : ℕ → Type
     goes-node (Node.Bytes bytes) n t path a c e s = goes-read n t path a c s
     goes-node (Node.Var x) n t path a c e s = goes-variable x (numbers .names n x e) n t path a c s
     goes-node Node.Wildcard n t path a c e s = goes-skip a c
-    goes-node Node.Never n t path a c e s = goes-skip a c and goes-report n Code.NyiNever (skip a) (o .skip c)
+    goes-node Node.Never n t path a c e s = goes-skip a c and goes-report n Code.NyiNever tt (skip a) (o .skip c)
     goes-node (Node.Prefix x) n t path a c e s = goes-ranged n t path a c s
     goes-node (Node.Fuzzy x d k) n t path a c e s = goes-ranged n t path a c s
     goes-node (Node.Record fs) n t path a c e s =
@@ -469,7 +475,7 @@ module _ (T : Tables) (S : Sound T) (P : FieldPath → Type 0) (N : ℕ → Type
     goes-node (Node.Access x base) n t path a c e s = goes-read n t path a c s
     goes-node (Node.Value base) n t path a c e s = goes-read n t path a c s
     goes-node (Node.Select x base) n t path a c e s = goes-read n t path a c s
-    goes-node Node.Disjunction n t path a c e s = goes-skip a c and goes-report n Code.NyiDisjunction (skip a) (o .skip c)
+    goes-node Node.Disjunction n t path a c e s = goes-skip a c and goes-report n Code.NyiDisjunction tt (skip a) (o .skip c)
     goes-node Node.Subquery n t path a c e s = goes-read n t path a c s
     goes-node (Node.Fact p key′) n t path a c e s = goes-read n t path a c s
     goes-node Node.Arith n t path a c e s = goes-read n t path a c s

@@ -29,6 +29,7 @@ skipped =
       constants = λ m p c fs h. h;
       registers = λ m a at p fs h. h;
       facts = λ m a p fs h. h;
+      own-fields = λ m at p fs h. h;
       unions = λ m d p es a fs h. subst Skipped (sym (append-assoc es (Event.closer m ∷ []) fs)) (a (Event.closer m ∷ fs) h);
     }
 

@@ -22,7 +22,8 @@ use Rattle.rules.specs.Plan.{PlanLevel, Plan, planLevel, planBytes}
 unfoldable pub buildingAfter : Tables → List Event → ℕ → Bool
 buildingAfter T events i = placeAll T (take i events) new .building
 
--- "The fall is a level's first event after which building doesn't hold. Without one, all its events lie before the fall."
+-- "The fall is a level's first event after which building doesn't hold. Without one, all its events lie before the fall." It is a skip, a
+-- narrowing that became the range or the guide, or (request [8]) one by a field of the own row; it does not lie before itself.
 unfoldable pub beforeFall : Tables → SeekBuilder → List Event → List Event
 beforeFall T b [] = []
 beforeFall T b (e ∷ es) = elim (place T e b .building) [ true ↦ e ∷ beforeFall T (place T e b) es | false ↦ [] ]
@@ -31,7 +32,7 @@ beforeFall T b (e ∷ es) = elim (place T e b .building) [ true ↦ e ∷ before
 abbrev pub madeBy : ℕ → SeekKeyPart → List Part
 madeBy n key = record { key = key; node = n } ∷ []
 
--- the part of a "byte, tag, register and fact" narrowing and of a closer, with the event's node
+-- the part of a "byte, tag, register and fact" narrowing and of a closer, with the event's node; a field of the own row makes none
 unfoldable pub partsOf : Event → List Part
 partsOf (Event.narrow n path (Narrowing.Bytes bytes)) = madeBy n (SeekKeyPart.Bytes bytes)
 partsOf (Event.narrow n path (Narrowing.Tag disc)) = madeBy n (SeekKeyPart.Bytes (unionTag disc))
@@ -39,6 +40,7 @@ partsOf (Event.narrow n path (Narrowing.RegisterField address at)) = madeBy n (S
 partsOf (Event.narrow n path (Narrowing.FactId address)) = madeBy n (SeekKeyPart.RegisterFactId address)
 partsOf (Event.narrow n path (Narrowing.Prefix prefix)) = []
 partsOf (Event.narrow n path (Narrowing.Fuzzy x distance anchor)) = []
+partsOf (Event.narrow n path (Narrowing.OwnField at)) = []
 partsOf Event.skip = []
 partsOf (Event.closer n) = madeBy n (SeekKeyPart.Bytes term)
 partsOf (Event.bound x t) = []
@@ -97,7 +99,8 @@ pub record Kept (T : Tables) (events : List Event) (b : SeekBuilder) : Type 0 wh
   -- "edges = folded, at most 2"
   pub edges-folded : edges b ≡ length (b .edges .folded)
   pub edges-most : edges b ≤ 2
-  -- "narrowings on 01's walk = parts - closers + residuals + ranges + guides"
+  -- "narrowings on 01's walk = parts - closers + residuals + ranges + guides"; request [8]: "the sum that holds for every level now
+  -- includes" the fields of the own row, each a narrowing and a residual
   pub closers-most : b .closers ≤ length (b .parts)
   pub sum : narrowings events ≡ length (b .parts) - b .closers + length (b .residuals) + number (b .range) + number (b .guide)
 

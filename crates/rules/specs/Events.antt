@@ -6,7 +6,7 @@ use lib.ListN.{length}
 use Rattle.rules.specs.File.{Tables, Anchor, FieldPath, Slot, Binding}
 use Rattle.rules.specs.Constant.{Const, lookup, constant}
 
--- "Plan": the diagnostics' codes
+-- "Plan": the diagnostics' codes. Request [8]: NyiRepeatedVariable is made nowhere any more (proofs/Repeats.antt); it keeps its number.
 pub data Code : Type 0 where
   NyiDisjunction NyiFactField NyiNever NyiRepeatedVariable NyiValueField NyiValueMatch NyiWholeKey : Code
   RejectTypeMismatch RejectUnionArity RejectUnknownAlternative RejectUnresolvedAccess : Code
@@ -33,7 +33,8 @@ pub record Diagnostic : Type 0 where
   pub node : ℕ
   pub code : Code
 
--- "A narrowing has a path and is bytes, tag (disc), register field, fact id, prefix or fuzzy."
+-- "A narrowing has a path and is bytes, tag (disc), register field, fact id, prefix or fuzzy." Request [8]: or a field of the level's own
+-- row, which "asks for equal bytes at both paths"; it has the other path.
 pub data Narrowing : Type 0 where
   Bytes : List ℕ → Narrowing
   Tag : ℕ → Narrowing
@@ -41,6 +42,7 @@ pub data Narrowing : Type 0 where
   FactId : ℕ → Narrowing
   Prefix : List ℕ → Narrowing
   Fuzzy : ℕ → ℕ → Anchor → Narrowing
+  OwnField : FieldPath → Narrowing
 
 -- "the level's events in the order met, each a narrowing, a skip, a closer or a bound"; a bound has its Var's name and type. Request [2]: a
 -- narrowing has the number of the node that made it, a closer that of its union's record.

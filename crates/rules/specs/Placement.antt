@@ -189,6 +189,10 @@ placeFuzzy n path x distance anchor b =
       | false ↦ withResidual (record { path = path; op = Narrowing.Fuzzy x distance anchor; node = n }) b
     ]
 
+-- Request [8]: a field of the level's own row is "always .. a residual, and building falls there"
+unfoldable pub placeOwn : ℕ → FieldPath → FieldPath → SeekBuilder → SeekBuilder
+placeOwn n path at b = fall (withResidual (record { path = path; op = Narrowing.OwnField at; node = n }) b)
+
 unfoldable pub placeNarrowing : ℕ → FieldPath → Narrowing → SeekBuilder → SeekBuilder
 placeNarrowing n path (Narrowing.Bytes bytes) b = placePart n (SeekKeyPart.Bytes bytes) path (Narrowing.Bytes bytes) b
 placeNarrowing n path (Narrowing.Tag disc) b = placePart n (SeekKeyPart.Bytes (unionTag disc)) path (Narrowing.Tag disc) b
@@ -197,6 +201,7 @@ placeNarrowing n path (Narrowing.RegisterField address at) b =
 placeNarrowing n path (Narrowing.FactId address) b = placePart n (SeekKeyPart.RegisterFactId address) path (Narrowing.FactId address) b
 placeNarrowing n path (Narrowing.Prefix prefix) b = placePrefix n path prefix b
 placeNarrowing n path (Narrowing.Fuzzy x distance anchor) b = placeFuzzy n path x distance anchor b
+placeNarrowing n path (Narrowing.OwnField at) b = placeOwn n path at b
 
 -- "Closer: one part of byte 00 if building held before its tag and still holds, else nothing." Building never returns, so where it still
 -- holds it held before the tag: request [9], and proofs/Closers.antt.
@@ -315,6 +320,6 @@ seekKey b = seek (b .parts) (b .range) (b .edges .lo) (b .edges .hi)
 
 unfoldable pub openPlacement : Unit {0}
 unfolding new withPart withResidual withGuide withRange withEdges withCloser fall placePart placePrefix rangeAt attachable
-    placeFuzzy placeNarrowing placeCloser flipped isVar compared takeHi takeLo takeEdge sided foldFrom placeBound place placeAll
+    placeFuzzy placeOwn placeNarrowing placeCloser flipped isVar compared takeHi takeLo takeEdge sided foldFrom placeBound place placeAll
     asBytes joined nodesOf unranged seek seekKey
 openPlacement = tt

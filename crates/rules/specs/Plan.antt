@@ -128,7 +128,8 @@ unfoldable pub guide : Option Guide → List ℕ
 guide none = 0 ∷ []
 guide (some g) = 1 ∷ path (g .path) ++ fuzzy (g .term) (g .distance) (g .anchor) ++ u16 (g .node)
 
--- "u8 op: 0 bytes, 1 prefix, 2 address and path, 3 address, 4 u32 disc, 5 name, distance, anchor"
+-- "u8 op: 0 bytes, 1 prefix, 2 address and path, 3 address, 4 u32 disc, 5 name, distance, anchor"; request [8]: "Its op is 6, followed by
+-- the other path"
 unfoldable pub op : Narrowing → List ℕ
 op (Narrowing.Bytes bytes) = 0 ∷ text bytes
 op (Narrowing.Prefix bytes) = 1 ∷ text bytes
@@ -136,6 +137,7 @@ op (Narrowing.RegisterField address at) = 2 ∷ u16 address ++ path at
 op (Narrowing.FactId address) = 3 ∷ u16 address
 op (Narrowing.Tag disc) = 4 ∷ u32 disc
 op (Narrowing.Fuzzy x distance a) = 5 ∷ fuzzy x distance a
+op (Narrowing.OwnField at) = 6 ∷ path at
 
 unfoldable pub residual : Residual → List ℕ
 residual r = path (r .path) ++ op (r .op) ++ u16 (r .node)

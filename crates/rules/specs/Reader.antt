@@ -161,7 +161,7 @@ guideThat = do
 unfoldable pub guide : Reader (Option Guide)
 guide = kind (pure none ∷ guideThat ∷ [])
 
--- "u8 op: 0 bytes, 1 prefix, 2 address and path, 3 address, 4 u32 disc, 5 name, distance, anchor"
+-- "u8 op: 0 bytes, 1 prefix, 2 address and path, 3 address, 4 u32 disc, 5 name, distance, anchor", and request [8]'s 6, a path
 unfoldable pub bytesOp : Reader Narrowing
 bytesOp = do
   bytes ← text
@@ -195,8 +195,13 @@ fuzzyOp = do
   a ← anchor
   pure (Narrowing.Fuzzy x distance a)
 
+unfoldable pub ownOp : Reader Narrowing
+ownOp = do
+  p ← path
+  pure (Narrowing.OwnField p)
+
 unfoldable pub op : Reader Narrowing
-op = kind (bytesOp ∷ prefixOp ∷ registerOp ∷ factOp ∷ tagOp ∷ fuzzyOp ∷ [])
+op = kind (bytesOp ∷ prefixOp ∷ registerOp ∷ factOp ∷ tagOp ∷ fuzzyOp ∷ ownOp ∷ [])
 
 -- "Residuals, counted: path, u8 op"
 unfoldable pub residual : Reader Residual
@@ -287,7 +292,7 @@ readBack bytes out work = compiled (outcome bytes (length out)) (length out) (le
 unfoldable pub openReader : Unit {0}
 unfolding
     counted text steps path fieldSlot slot binding select code diagnostic bytesPart registerPart factPart partKey part edgeThat edge
-    prefixSeek compositeSeek rangeSeek boundedSeek seek guideThat guide bytesOp prefixOp registerOp factOp tagOp fuzzyOp op
+    prefixSeek compositeSeek rangeSeek boundedSeek seek guideThat guide bytesOp prefixOp registerOp factOp tagOp fuzzyOp ownOp op
     residual level plan numbered read closersAmongParts narrowingsSum edgesFolded seekKeeps levelRules judged
     finished outcome readBack
 openReader = tt

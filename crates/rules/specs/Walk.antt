@@ -139,7 +139,8 @@ module _ {S : Type 0} (o : Ops S) (T : Tables) where
     unfoldable pub partial : FieldWalk S
     partial n t path w = partialFields (recordFields (nodeAt T n)) (recordTy (typeAt T t)) path (skip w)
 
-    -- Rust `matched`
+    -- Rust `matched`. Request [8]: "a pattern at a path of the key .. that stands for a Field slot of its own row" narrows by that field;
+    -- which row is told by the address alone.
     unfoldable pub matched : ℕ → Slot → ℕ → FieldPath → S → S
     matched n (Slot.Row from p) t path w =
         elim (refersTo p (factTy (typeAt T t))) [
@@ -150,7 +151,7 @@ module _ {S : Type 0} (o : Ops S) (T : Tables) where
     matched n (Slot.Derived from) t path w = report n Code.NyiValueMatch (skip w)
     matched n (Slot.Field from at ty) t path w =
         elim (eqb from address) [
-          | true ↦ report n Code.NyiRepeatedVariable w
+          | true ↦ narrow n path (Narrowing.OwnField at) w
           | false ↦ narrow n path (Narrowing.RegisterField from at) w
         ]
     matched n (Slot.Value from ty) t path w = report n Code.NyiValueMatch w
