@@ -12,7 +12,7 @@ use Rattle.rules.specs.File.{Tables, FieldPath, Slot, Anchor}
 use Rattle.rules.specs.Constant.{Const, term}
 use Rattle.rules.specs.Events.{Code, Narrowing, Event, Lists, Walk, bind, constrained, select, report, emit}
 use Rattle.rules.specs.Walk.{narrowing}
-use Rattle.rules.specs.Placement.{SeekKeyPart, Part, Residual, Guide, Range, Edges, SeekBuilder, new, withPart, withResidual, withGuide, withRange, withEdges, withCloser, fall, placePart, placePrefix, attachable, placeFuzzy, placeNarrowing, placeCloser, placeBound, place, placeAll}
+use Rattle.rules.specs.Placement.{SeekKeyPart, Part, Residual, Guide, Range, Edges, SeekBuilder, new, withPart, withResidual, withGuide, withRange, withEdges, withCloser, fall, placePart, placePrefix, attachable, placeFuzzy, placeOwn, placeNarrowing, placeCloser, placeBound, place, placeAll}
 use Rattle.rules.specs.Levels.{narrowings}
 use Rattle.rules.specs.Plan as Plan
 use Rattle.rules.specs.Demand3.{number}
@@ -121,6 +121,17 @@ step-fuzzy n node path x d a b =
     by-test (Step n b (n + 1)) (attachable b path)
     (λ e. record { sane = sane-guide n (record { path = path; term = x; distance = d; anchor = a; node = node }) b (attaches b path e); weight = omega arith })
     (λ e. step-residual n (record { path = path; op = Narrowing.Fuzzy x d a; node = node }) b (refuses-guide n b path e))
+
+-- building falls with it, so it need not have fallen before
+sane-own : (n : ℕ) (r : Residual) (b : SeekBuilder) → Sane n b → Sane (n + 1) (fall (withResidual r b))
+unfolding fall withResidual
+sane-own n r b s = sane-residual n r (fall b) refl (sane-fall n b s)
+
+step-own : (n node : ℕ) (path at : FieldPath) (b : SeekBuilder) → Step n b (n + 1) (placeOwn node path at b)
+unfolding placeOwn fall weight
+step-own n node path at b =
+    let r : Residual = record { path = path; op = Narrowing.OwnField at; node = node } in
+    record { sane = sane-own n r b; weight = weight-residual r b }
 
 step-constant : (n node : ℕ) (path : FieldPath) (c : Const) (b : SeekBuilder) → Step n b (n + 1) (placeNarrowing node path (narrowing c) b)
 unfolding placeNarrowing narrowing
@@ -244,6 +255,10 @@ pub grew-fact : (T : Tables) (m a : ℕ) (path : FieldPath) (w : Walk) → Grew 
 unfolding placeNarrowing
 grew-fact T m a path w = grew-narrow T m path (Narrowing.FactId a) w (step-part (met w) m _ path _ (built T w))
 
+pub grew-own : (T : Tables) (m : ℕ) (at path : FieldPath) (w : Walk) → Grew T w (narrow m path (Narrowing.OwnField at) w)
+unfolding placeNarrowing
+grew-own T m at path w = grew-narrow T m path (Narrowing.OwnField at) w (step-own (met w) m path at (built T w))
+
 pub grew-tag : (T : Tables) (m d : ℕ) (path : FieldPath) (w : Walk) → Grew T w (narrow m path (Narrowing.Tag d) w)
 unfolding placeNarrowing
 grew-tag T m d path w = grew-narrow T m path (Narrowing.Tag d) w (step-part (met w) m _ path _ (built T w))
@@ -260,11 +275,12 @@ grew-keeps T =
       binds = λ x slot w e ok c. grew-bind T x slot w;
       constrains = grew-constrained T;
       selects = λ a p d w s. grew-select T a p d w;
-      reports = grew-report T;
+      reports = λ n c h w. grew-report T n c w;
       skips = grew-skip T;
       bounds = λ x t w. grew-next T w _ _ (grew-bound T x t w) (grew-skip T (emit (Event.bound x t) w));
       constants = λ m n t c p w e s. grew-constant T m c p w;
       registers = λ m a at p w s s′. grew-register T m a at p w;
       facts = λ m a p w s. grew-fact T m a p w;
+      own-fields = λ m at p w s s′. grew-own T m at p w;
       unions = λ m d p w w′ s g. grew-next T w _ _ (grew-tag T m d p w) (grew-next T _ _ _ g (grew-closer T m w′));
     }

@@ -13,13 +13,13 @@ use Rattle.rules.specs.Limits.{planLimit}
 use Rattle.rules.specs.File.{Tables, FieldPath, Anchor}
 use Rattle.rules.specs.Constant.{term}
 use Rattle.rules.specs.Events.{Narrowing, Lists, Walk}
-use Rattle.rules.specs.Placement.{SeekKeyPart, Part, Residual, Range, Guide, SeekBuilder, withPart, withResidual, withGuide, withRange, withEdges, withCloser, fall, placePart, placePrefix, attachable, placeFuzzy, placeNarrowing, placeCloser, placeBound}
+use Rattle.rules.specs.Placement.{SeekKeyPart, Part, Residual, Range, Guide, SeekBuilder, withPart, withResidual, withGuide, withRange, withEdges, withCloser, fall, placePart, placePrefix, attachable, placeFuzzy, placeOwn, placeNarrowing, placeCloser, placeBound}
 use Rattle.rules.specs.Plan as Plan
 use Rattle.rules.proofs.Cases.{by-test, true≢false, leb-le}
 use Rattle.rules.proofs.Choices.{by-test₂}
 use Rattle.state.specs.State.{Ends, Counts, counts, Level, Target, State, state, stop, unless, fits}
 use Rattle.state.specs.Ops as Ops
-use Rattle.state.specs.Ops.{append, appendCounted, recount, narrowed, grow, putMade, partAt, nodeAt, partPut, putPart, putResidual, narrowPart, narrowPrefix, narrowFuzzy, relevel, closed, close, boundLevel}
+use Rattle.state.specs.Ops.{append, appendCounted, recount, narrowed, grow, putMade, partAt, nodeAt, partPut, putPart, putResidual, narrowPart, narrowPrefix, narrowFuzzy, narrowOwn, relevel, closed, close, boundLevel}
 use Rattle.state.proofs.Seqs.{sets-append, sets-before, concatMap-snoc, length-snoc}
 use Rattle.state.proofs.Stopped.{unless-over, unless-live}
 use Rattle.state.proofs.Mem.{Mem}
@@ -250,9 +250,13 @@ module _ (T : Tables) (t : Target) (base : List ℕ) (l : Lists) (n : ℕ) (b : 
       (λ q. rel-residual (record { path = path; op = Narrowing.Fuzzy x d a; node = node })) s)
 
   -- "building falls"
-  pub rel-fall : Sane n (fall b) → RelAt T t base l n (fall b) (relevel Ops.fall c)
+  pub good-fall : Good T t base l n (fall b) (relevel Ops.fall c)
   unfolding relevel Ops.fall fall summary planAs
-  rel-fall s = of-good T t base l n (fall b) (relevel Ops.fall c) e s (record { mem = g .mem; level = ap Ops.fall (g .level); target = g .target; plan = g .plan })
+  good-fall = record { mem = g .mem; level = ap Ops.fall (g .level); target = g .target; plan = g .plan }
+
+  pub rel-fall : Sane n (fall b) → RelAt T t base l n (fall b) (relevel Ops.fall c)
+  unfolding relevel
+  rel-fall s = of-good T t base l n (fall b) (relevel Ops.fall c) e s good-fall
 
   bound-level : (x ty : ℕ) → boundLevel T x ty (summary n b) ≡ summary n (placeBound T x ty b)
   unfolding boundLevel placeBound summary withEdges Ops.withEdges
@@ -284,6 +288,12 @@ module _ (T : Tables) (t : Target) (base : List ℕ) (l : Lists) (n : ℕ) (b : 
       (λ h. rel-closer-part (record { key = SeekKeyPart.Bytes term; node = node }) (clean h))
       (λ h s′. of-good T t base l n b c e s′ g) s)
 
+-- "always as a residual, and building falls there"
+rel-own : (T : Tables) (t : Target) (base : List ℕ) (l : Lists) (n : ℕ) (b : SeekBuilder) (c : State) → c .over ≡ false → Good T t base l n b c → (node : ℕ) (path at : FieldPath) → Sane (n + 1) (placeOwn node path at b) → RelAt T t base l (n + 1) (placeOwn node path at b) (narrowOwn node path at c)
+unfolding placeOwn narrowOwn withResidual fall relevel
+rel-own T t base l n b c e g node path at s =
+    rel-residual T t base l n (fall b) (relevel Ops.fall c) e (good-fall T t base l n b c e g) (record { path = path; op = Narrowing.OwnField at; node = node }) s
+
 pub rel-narrowing : (T : Tables) (t : Target) (base : List ℕ) (l : Lists) (n : ℕ) (b : SeekBuilder) (c : State) → c .over ≡ false → Good T t base l n b c → Sane n b → (node : ℕ) (path : FieldPath) (x : Narrowing) → Sane (n + 1) (placeNarrowing node path x b) → RelAt T t base l (n + 1) (placeNarrowing node path x b) (Ops.narrowing node path x c)
 unfolding placeNarrowing Ops.narrowing
 rel-narrowing T t base l n b c e g s₀ node path (Narrowing.Bytes bytes) s = rel-place-part T t base l n b c e g node _ path _ (s₀ .clean) s
@@ -292,3 +302,4 @@ rel-narrowing T t base l n b c e g s₀ node path (Narrowing.RegisterField a at)
 rel-narrowing T t base l n b c e g s₀ node path (Narrowing.FactId a) s = rel-place-part T t base l n b c e g node _ path _ (s₀ .clean) s
 rel-narrowing T t base l n b c e g s₀ node path (Narrowing.Prefix prefix) s = rel-prefix T t base l n b c e g node path prefix s
 rel-narrowing T t base l n b c e g s₀ node path (Narrowing.Fuzzy x d a) s = rel-fuzzy T t base l n b c e g node path x d a s
+rel-narrowing T t base l n b c e g s₀ node path (Narrowing.OwnField at) s = rel-own T t base l n b c e g node path at s

@@ -32,7 +32,7 @@ use Rattle.state.proofs.Fitting.{all-fitting}
 use Rattle.state.proofs.Made.{binding-length}
 use Rattle.state.proofs.Mem.{mem-bind, mem-constrain, mem-select, mem-report, mem-lookup, same-reported}
 use Rattle.state.proofs.Sizes.{Sane}
-use Rattle.state.proofs.Growth.{built, met, built-emit, met-emit, listSize, Grew, grew-bind, grew-constrained, grew-select, grew-report, grew-skip, grew-bound, grew-constant, grew-register, grew-fact, grew-tag, grew-closer}
+use Rattle.state.proofs.Growth.{built, met, built-emit, met-emit, listSize, Grew, grew-bind, grew-constrained, grew-select, grew-report, grew-skip, grew-bound, grew-constant, grew-register, grew-fact, grew-own, grew-tag, grew-closer}
 use Rattle.state.proofs.Rel.{Good, RelAt, Rel, rel-stays, rel-unless, rel-append, rel-counted, rel-fall, rel-bound, rel-close, rel-narrowing}
 
 abbrev pub Name : ℕ → Type 0
@@ -189,6 +189,7 @@ module _ (T : Tables) (t : Target) (base : List ℕ) where
         constants = λ m n ty k p w c e s r. rel-narrow m p (narrowing k) w c (grew-constant T m k p w) r;
         registers = λ m n at p w c s s′ r. rel-narrow m p (Narrowing.RegisterField n at) w c (grew-register T m n at p w) r;
         facts = λ m n p w c s r. rel-narrow m p (Narrowing.FactId n) w c (grew-fact T m n p w) r;
+        own-fields = λ m at p w c s s′ r. rel-narrow m p (Narrowing.OwnField at) w c (grew-own T m at p w) r;
         tags = λ m d p w c s r. rel-narrow m p (Narrowing.Tag d) w c (grew-tag T m d p w) r;
         closers = rel-closer;
       }

@@ -60,6 +60,10 @@ recount c l = record { building = l .building; plain = l .plain; counts = c; gui
 unfoldable pub fall : Level → Level
 fall l = record { building = false; plain = l .plain; counts = l .counts; guide = l .guide; range = l .range; edges = l .edges }
 
+-- the level another, nothing written
+unfoldable pub relevel : (Level → Level) → State → State
+relevel f s = state (s .over) (s .ends) (f (s .level)) (s .target) (s .work) (s .plan)
+
 -- one narrowing more
 unfoldable pub narrowed : Counts → Counts
 narrowed c = counts (c .narrowings + 1) (c .closers) (c .parts) (c .residuals) (c .joined) (c .parted) (c .rest)
@@ -174,6 +178,11 @@ narrowFuzzy n path x distance anchor s =
       | false ↦ putResidual n path (Narrowing.Fuzzy x distance anchor) s
     ]
 
+-- Request [8]: a field of the level's own row is "always .. a residual, and building falls there". It falls first: a level that builds has
+-- no residual.
+unfoldable pub narrowOwn : ℕ → FieldPath → FieldPath → State → State
+narrowOwn n path at s = putResidual n path (Narrowing.OwnField at) (relevel fall s)
+
 unfoldable pub narrowing : ℕ → FieldPath → Narrowing → State → State
 narrowing n path (Narrowing.Bytes bytes) s = narrowPart n (SeekKeyPart.Bytes bytes) path (Narrowing.Bytes bytes) s
 narrowing n path (Narrowing.Tag disc) s = narrowPart n (SeekKeyPart.Bytes (unionTag disc)) path (Narrowing.Tag disc) s
@@ -182,13 +191,10 @@ narrowing n path (Narrowing.RegisterField address at) s =
 narrowing n path (Narrowing.FactId address) s = narrowPart n (SeekKeyPart.RegisterFactId address) path (Narrowing.FactId address) s
 narrowing n path (Narrowing.Prefix prefix) s = narrowPrefix n path prefix s
 narrowing n path (Narrowing.Fuzzy x distance anchor) s = narrowFuzzy n path x distance anchor s
+narrowing n path (Narrowing.OwnField at) s = narrowOwn n path at s
 
 unfoldable pub narrow : ℕ → FieldPath → Narrowing → State → State
 narrow n path x s = unless (narrowing n path x) s
-
--- the level another, nothing written
-unfoldable pub relevel : (Level → Level) → State → State
-relevel f s = state (s .over) (s .ends) (f (s .level)) (s .target) (s .work) (s .plan)
 
 unfoldable pub skip : State → State
 skip s = unless (relevel fall) s
@@ -253,7 +259,7 @@ ops T =
     }
 
 unfoldable pub openOps : Unit {0}
-unfolding append appendCounted bind constrained select report recount fall narrowed grow putMade partText isBytes withPart partAt partForm
-    nodeAt partPut putPart putResidual narrowPart withRange narrowPrefix attachable withGuide narrowFuzzy narrowing narrow relevel skip
+unfolding append appendCounted bind constrained select report recount fall relevel narrowed grow putMade partText isBytes withPart partAt partForm
+    nodeAt partPut putPart putResidual narrowPart withRange narrowPrefix attachable withGuide narrowFuzzy narrowOwn narrowing narrow skip
     closed close closer withEdges boundLevel bound roomy checkedSlot
 openOps = tt
