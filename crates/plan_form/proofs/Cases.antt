@@ -214,7 +214,7 @@ abbrev guideReaders : List (Reader (Option Guide))
 guideReaders = pure none ∷ Reader.guideThat ∷ []
 
 abbrev opReaders : List (Reader Narrowing)
-opReaders = Reader.bytesOp ∷ Reader.prefixOp ∷ Reader.registerOp ∷ Reader.factOp ∷ Reader.tagOp ∷ Reader.fuzzyOp ∷ []
+opReaders = Reader.bytesOp ∷ Reader.prefixOp ∷ Reader.registerOp ∷ Reader.factOp ∷ Reader.tagOp ∷ Reader.fuzzyOp ∷ Reader.ownOp ∷ []
 
 slots-same : (k : ℕ) → (k ≡ 3 → ⊥) → getD planSlots k (refuse 5) ≡ getD slotReaders k (refuse 5)
 slots-same zero n = refl
@@ -363,7 +363,11 @@ module _ (f : List ℕ) (p : ℕ) where
     unfolding Reader.op
     op-fuzzy e = holds opReaders 5 h (sym e) alike-fuzzy
 
-    pub op-bad : 5 < getD f p 0 → stepAt f Reader.op p ≡ Refused 5
+    pub op-own : getD f p 0 ≡ 6 → stepAt f Reader.op p ≡ stepAt f Reader.path (p + 1)
+    unfolding Reader.op Reader.ownOp
+    op-own e = holds opReaders 6 h (sym e) (alike-map _ (alike-refl Reader.path))
+
+    pub op-bad : 6 < getD f p 0 → stepAt f Reader.op p ≡ Refused 5
     unfolding Reader.op
     op-bad g = kind-bad f p opReaders (getD f p 0) h refl g
 

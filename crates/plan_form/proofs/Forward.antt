@@ -119,14 +119,15 @@ unfolding Reader.guide
 suffix-guide = suffix-kind (suffixes-more (suffix-pure _) (suffixes-more suffix-guideThat suffixes-none))
 
 pub suffix-op : Suffix Reader.op
-unfolding Reader.op Reader.bytesOp Reader.prefixOp Reader.registerOp Reader.factOp Reader.tagOp Reader.fuzzyOp
+unfolding Reader.op Reader.bytesOp Reader.prefixOp Reader.registerOp Reader.factOp Reader.tagOp Reader.fuzzyOp Reader.ownOp
 suffix-op =
     suffix-kind
     (suffixes-more (suffix-one _ suffix-text)
     (suffixes-more (suffix-one _ suffix-text)
     (suffixes-more (suffix-two _ suffix-u16 suffix-path)
     (suffixes-more (suffix-one _ suffix-u16)
-    (suffixes-more (suffix-one _ suffix-u32) (suffixes-more (suffix-three _ suffix-u16 suffix-u8 suffix-anchor) suffixes-none))))))
+    (suffixes-more (suffix-one _ suffix-u32)
+    (suffixes-more (suffix-three _ suffix-u16 suffix-u8 suffix-anchor) (suffixes-more (suffix-one _ suffix-path) suffixes-none)))))))
 
 pub suffix-residual : Suffix Reader.residual
 unfolding Reader.residual

@@ -236,7 +236,7 @@ pub fn guide_end(plan: &[u8], p: usize) -> Step
     }
 }
 
-// Where the op at p ends: bytes, prefix, address and path, address, disc, or name, distance and anchor.
+// Where the op at p ends: bytes, prefix, address and path, address, disc, name, distance and anchor, or a path of the same row.
 pub fn op_end(plan: &[u8], p: usize) -> Step
     requires { ⌜ p ≤ length (now plan) ⌝ }
     ensures { λ r. ⌜ r ≡ stepAt (now (plan .entry)) Reader.op p ⌝ }
@@ -250,6 +250,7 @@ pub fn op_end(plan: &[u8], p: usize) -> Step
         3 => fixed(plan, 2, p + 1),
         4 => fixed(plan, 4, p + 1),
         5 => fuzzy_end(plan, p + 1),
+        6 => path_end(plan, p + 1),
         _ => Step::Refused(5),
     }
 }

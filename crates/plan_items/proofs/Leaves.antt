@@ -2,6 +2,7 @@
 use Prim.Native.Nat.{ℕ, zero, suc, _+_, _*_, _≤_, _<_}
 use mathlib.Core.Path.{_≡_, refl, sym, ap, _∙_}
 use mathlib.Core.Bool.{Bool, true, false}
+use mathlib.Core.Logic.{⊎-elim}
 use mathlib.Core.List.{List, [], _∷_}
 use mathlib.Core.Option.{Option, none, some}
 use native.Mathlib.Omega.{arith}
@@ -16,7 +17,7 @@ use Rattle.rules.specs.Reader as Reader
 use Rattle.rules.specs.Events.{Narrowing}
 use Rattle.rules.specs.Placement.{SeekKeyPart, Part, Residual, Guide, RangeEdge}
 use Rattle.file.specs.Steps.{word, readAt}
-use Rattle.file.proofs.Readers.{refused-got, then-got, byte-in, kind-in, needs-fixed, needs-first, fixed-bytes, fixed-many, fixed-u32}
+use Rattle.file.proofs.Readers.{lt-or-le, refused-got, then-got, byte-in, kind-in, needs-fixed, needs-first, fixed-bytes, fixed-many, fixed-u32}
 use Rattle.file.proofs.Sections.{word-then}
 use Rattle.paths.specs.Paths.{pathOf, Holds}
 use Rattle.paths.specs.declared.FieldPath.{FieldPath}
@@ -307,7 +308,7 @@ module _ (f : List ℕ) (p : ℕ) (x : Found f Reader.guide p) where
 
 -- an op
 abbrev opReaders : List (Reader Narrowing)
-opReaders = Reader.bytesOp ∷ Reader.prefixOp ∷ Reader.registerOp ∷ Reader.factOp ∷ Reader.tagOp ∷ Reader.fuzzyOp ∷ []
+opReaders = Reader.bytesOp ∷ Reader.prefixOp ∷ Reader.registerOp ∷ Reader.factOp ∷ Reader.tagOp ∷ Reader.fuzzyOp ∷ Reader.ownOp ∷ []
 
 abbrev fuzzyMade : ℕ → ℕ → File.Anchor → Reader Narrowing
 fuzzyMade n d a = pure (Narrowing.Fuzzy n d a)
@@ -317,17 +318,20 @@ module _ (f : List ℕ) (p : ℕ) (x : Found f Reader.op p) where
   unfolding Reader.op
   op-inside = kind-inside f opReaders p x
 
-  pub op-known : getD f p 0 < 6
+  pub op-known : getD f p 0 < 7
   unfolding Reader.op
   op-known = kind-known f opReaders p x
 
-  pub bytes-text : getD f p 0 ≡ 0 → Found f Reader.text (p + 1)
+  bytes-text : getD f p 0 ≡ 0 → Found f Reader.text (p + 1)
   unfolding Reader.op Reader.bytesOp
   bytes-text e = found-first f Reader.text _ (p + 1) (kind-then f opReaders p x 0 e)
 
-  pub prefix-text : getD f p 0 ≡ 1 → Found f Reader.text (p + 1)
+  prefix-text : getD f p 0 ≡ 1 → Found f Reader.text (p + 1)
   unfolding Reader.op Reader.prefixOp
   prefix-text e = found-first f Reader.text _ (p + 1) (kind-then f opReaders p x 1 e)
+
+  pub op-text : getD f p 0 < 2 → Found f Reader.text (p + 1)
+  op-text h = ⊎-elim (λ g. bytes-text (omega arith)) (λ g. prefix-text (omega arith)) (lt-or-le (getD f p 0) 1)
 
   pub op-bytes : (t : TextView) → getD f p 0 ≡ 0 → readAt f Reader.text (p + 1) ≡ got (textOf f t) (drop (t .at + t .len) f) → readAt f Reader.op p ≡ got (Narrowing.Bytes (textOf f t)) (drop (t .at + t .len) f)
   unfolding Reader.op Reader.bytesOp readAt pure
@@ -379,6 +383,14 @@ module _ (f : List ℕ) (p : ℕ) (x : Found f Reader.op p) where
       → readAt f Reader.op p ≡ got (Narrowing.Fuzzy n d (anchorOf a)) (drop (p + 1 + 4) f)
   unfolding Reader.op Reader.fuzzyOp readAt pure
   op-fuzzy n d a e u v w = kind-reads f opReaders p x 5 e _ (p + 1 + 4) (fuzzy-reads f fuzzyMade (p + 1) (fuzzy-found e) n d a u v w)
+
+  pub op-own-path : getD f p 0 ≡ 6 → Found f Reader.path (p + 1)
+  unfolding Reader.op Reader.ownOp
+  op-own-path e = found-first f Reader.path _ (p + 1) (kind-then f opReaders p x 6 e)
+
+  pub op-own : (q : ℕ) → getD f p 0 ≡ 6 → readAt f Reader.path (p + 1) ≡ got (pathAt f (p + 1)) (drop q f) → readAt f Reader.op p ≡ got (Narrowing.OwnField (pathAt f (p + 1))) (drop q f)
+  unfolding Reader.op Reader.ownOp readAt pure
+  op-own q e g = kind-reads f opReaders p x 6 e _ q (then-got f Reader.path _ (p + 1) _ q g)
 
 -- a residual
 abbrev residualMade : File.FieldPath → Narrowing → ℕ → Residual

@@ -155,6 +155,11 @@ module _ (f : List ℕ) (p : ℕ) where
   unfolding narrowingItem byteAt
   op-fuzzy-view n d a e u v w = rw (u, v, w) (chosen f p 5 e (narrowingItems f (p + 1)) noNarrowing)
 
+  pub op-own-view : (o : ℕ) → getD f p 0 ≡ 6 → o ≡ pastPath f (p + 1)
+      → _≡_ {A = NarrowingItem} (record { narrowing = Nv.OwnField (p + 1); end = o }) (narrowingItem f p)
+  unfolding narrowingItem
+  op-own-view o e u = rw u (chosen f p 6 e (narrowingItems f (p + 1)) noNarrowing)
+
   -- a residual
   pub residual-view : (q : ℕ) (o : NarrowingItem) (n : ℕ) → q ≡ pastPath f p → o ≡ narrowingItem f q → n ≡ word f (o .end)
       → _≡_ {A = ResidualView} (record { path = p; op = o .narrowing; node = n; end = o .end + 2 }) (residualView f p)

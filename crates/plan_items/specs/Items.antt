@@ -83,6 +83,7 @@ narrowingOf f (Nv.RegisterField a path) = Narrowing.RegisterField (a .0) (pathAt
 narrowingOf f (Nv.FactId a) = Narrowing.FactId (a .0)
 narrowingOf f (Nv.Tag disc) = Narrowing.Tag disc
 narrowingOf f (Nv.Fuzzy x distance a) = Narrowing.Fuzzy x distance (anchorOf a)
+narrowingOf f (Nv.OwnField path) = Narrowing.OwnField (pathAt f path)
 
 abbrev pub residualOf : List ℕ → ResidualView → Residual
 residualOf f v = record { path = pathAt f (v .path); op = narrowingOf f (v .op); node = v .node }
@@ -161,6 +162,7 @@ NarrowingInside f (Nv.RegisterField a path) = Found f Reader.path path
 NarrowingInside f (Nv.FactId a) = Unit {0}
 NarrowingInside f (Nv.Tag disc) = Unit {0}
 NarrowingInside f (Nv.Fuzzy x distance a) = Unit {0}
+NarrowingInside f (Nv.OwnField path) = Found f Reader.path path
 
 pub record ResidualInside (f : List ℕ) (v : ResidualView) : Type 0 where
   pub path : Found f Reader.path (v .path)

@@ -95,6 +95,7 @@ narrowingItems f q =
     record { narrowing = Nv.FactId (addressAt f q); end = q + 2 } ∷
     record { narrowing = Nv.Tag (long f q); end = q + 4 } ∷
     record { narrowing = Nv.Fuzzy (word f q) (byteAt f (q + 2)) (anchorAt (byteAt f (q + 3))); end = q + 4 } ∷
+    record { narrowing = Nv.OwnField q; end = pastPath f q } ∷
     []
 
 abbrev pub noNarrowing : NarrowingItem

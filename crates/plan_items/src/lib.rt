@@ -87,7 +87,7 @@ pub struct GuideItem {
     pub end: usize,
 }
 
-// What a residual asks of the bytes at its path; RegisterField has the position of the register's path.
+// What a residual asks of the bytes at its path; RegisterField has the position of the register's path, OwnField that of the same row's.
 pub enum NarrowingView {
     Bytes(TextView),
     Prefix(TextView),
@@ -95,6 +95,7 @@ pub enum NarrowingView {
     FactId(Address),
     Tag(u32),
     Fuzzy(usize, u8, Anchor),
+    OwnField(usize),
 }
 
 // What a residual asks, and where it ends.
@@ -337,6 +338,30 @@ pub fn guide_at(plan: &[u8], p: usize) -> GuideItem
     }
 }
 
+// The op at p that is a text: 0 for bytes, 1 for a prefix.
+fn text_op(plan: &[u8], p: usize) -> NarrowingItem
+    requires { ⌜ Found (now plan) Reader.op p ⌝ }
+    requires { ⌜ getD (now plan) p 0 < 2 ⌝ }
+    ensures reads { λ r. ⌜ (
+        let bytes = now (plan .entry) in
+        readAt bytes Reader.op p ≡ got (narrowingOf bytes (r .narrowing)) (drop (r .end) bytes)
+        ) ⌝ }
+    ensures inside { λ r. ⌜ NarrowingInside (now (plan .entry)) (r .narrowing) ⌝ }
+    ensures view { λ r. ⌜ r ≡ narrowingItem (now (plan .entry)) p ⌝ }
+{
+    let text = text_at(plan, p + 1);
+    if plan[p] == 0 {
+        return NarrowingItem {
+            narrowing: NarrowingView::Bytes(text),
+            end: text.at + text.len,
+        };
+    }
+    NarrowingItem {
+        narrowing: NarrowingView::Prefix(text),
+        end: text.at + text.len,
+    }
+}
+
 // The op at p.
 fn op_at(plan: &[u8], p: usize) -> NarrowingItem
     requires { ⌜ Found (now plan) Reader.op p ⌝ }
@@ -349,20 +374,7 @@ fn op_at(plan: &[u8], p: usize) -> NarrowingItem
 {
     let q = p + 1;
     match plan[p] {
-        0 => {
-            let text = text_at(plan, q);
-            NarrowingItem {
-                narrowing: NarrowingView::Bytes(text),
-                end: text.at + text.len,
-            }
-        }
-        1 => {
-            let text = text_at(plan, q);
-            NarrowingItem {
-                narrowing: NarrowingView::Prefix(text),
-                end: text.at + text.len,
-            }
-        }
+        0 | 1 => text_op(plan, p),
         2 => {
             let address = Address(half_at(plan, q));
             let path = q + 2;
@@ -379,9 +391,13 @@ fn op_at(plan: &[u8], p: usize) -> NarrowingItem
             narrowing: NarrowingView::Tag(long_at(plan, q)),
             end: q + 4,
         },
-        _ => NarrowingItem {
+        5 => NarrowingItem {
             narrowing: NarrowingView::Fuzzy(word_at(plan, q), plan[q + 2], anchor_of(plan[q + 3])),
             end: q + 4,
+        },
+        _ => NarrowingItem {
+            narrowing: NarrowingView::OwnField(q),
+            end: path_past(plan, q),
         },
     }
 }

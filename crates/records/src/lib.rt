@@ -252,6 +252,22 @@ pub fn put_register(plan: &mut [u8], place: Place, kind: u8, address: Address, p
     put_path(plan, at + 3, path);
 }
 
+// Writes the op of a residual that is a field of the level's own row: 6, and the field's path.
+pub fn put_own_op(plan: &mut [u8], place: Place, path: FieldPath)
+    requires { ⌜ place .at ≤ reach ⌝ }
+    ensures { λ _. ⌜ (
+        let form = Plan.op (Narrowing.OwnField (pathOf path)) in
+        now (plan .exit) ≡ writtenAt place form (now (plan .entry))
+        ) ⌝ }
+{
+    if !place.write {
+        return;
+    }
+    let at = place.at;
+    put8(plan, at, 6);
+    put_path(plan, at + 1, path);
+}
+
 // Writes a part or the op of a residual that is the id of a register's fact: a kind and the register.
 pub fn put_fact(plan: &mut [u8], place: Place, kind: u8, address: Address)
     requires { ⌜ place .at ≤ 2 * reach ⌝ }

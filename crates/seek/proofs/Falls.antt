@@ -9,11 +9,12 @@ use Rattle.rules.specs.File as File
 use Rattle.rules.specs.File.{Tables, nameAt}
 use Rattle.rules.specs.Constant.{encodePrefix}
 use Rattle.rules.specs.Lookup.{samePath, sameSteps}
+use Rattle.rules.specs.Events.{Narrowing}
 use Rattle.rules.specs.Placement.{Guide, Range, rangeAt}
 use Rattle.rules.proofs.Cases.{both-left, both-right, eqb-eq, true≢false}
 use Rattle.state.specs.State as InState
 use Rattle.state.specs.State.{Ends, Level, State, state}
-use Rattle.state.specs.Ops.{grow, fall, relevel, skip, narrowed, attachable, withGuide, withRange}
+use Rattle.state.specs.Ops.{grow, fall, relevel, skip, narrowed, putResidual, attachable, withGuide, withRange, narrowOwn, narrowing, narrow}
 use Rattle.paths.specs.Paths.{pathOf}
 use Rattle.paths.specs.declared.FieldPath.{FieldPath}
 use Rattle.views.specs.Views.{anchorOf}
@@ -50,10 +51,20 @@ falls T b =
     let made : Option Guide → Option Range → Level = λ g r. record { building = false; plain = b .plain; counts = countsOf (b .counts); guide = g; range = r; edges = edgesOf T b } in
     ap (λ g. made g (rangeOf T (fell b))) (set-kept (b .building) (b .guide .set) _) ∙ ap (made (guideOf b)) (set-kept (b .building) (b .range .set) _)
 
+releveled : (b r : SeekBuilder) (T : Tables) (e : Ends) (w p : List ℕ) → r ≡ fell b → stateOf T r e w p ≡ relevel fall (stateOf T b e w p)
+unfolding stateOf relevel fell
+releveled b r T e w p er = ap (λ x. stateOf T x e w p) er ∙ ap (λ l. state (b .over) e l (targetOf (b .target)) w p) (falls T b)
+
 pub skips : (b r : SeekBuilder) (T : Tables) (e : Ends) (w p : List ℕ) → b .over ≡ false → r ≡ fell b → stateOf T r e w p ≡ skip (stateOf T b e w p)
-unfolding skip stateOf relevel fell
-skips b r T e w p h er =
-    ap (λ x. stateOf T x e w p) er ∙ ap (λ l. state (b .over) e l (targetOf (b .target)) w p) (falls T b) ∙ goes b T e w p (relevel fall) h
+unfolding skip
+skips b r T e w p h er = releveled b r T e w p er ∙ goes b T e w p (relevel fall) h
+
+-- a field of the level's own row: a residual of the level that fell
+pub as-own : (b r : SeekBuilder) (T : Tables) (e : Ends) (w p : List ℕ) (n : ℕ) (path at : File.FieldPath) (s : State) → b .over ≡ false → r ≡ fell b
+    → s ≡ putResidual n path (Narrowing.OwnField at) (stateOf T r e w p) → s ≡ narrow n path (Narrowing.OwnField at) (stateOf T b e w p)
+unfolding narrow narrowing narrowOwn
+as-own b r T e w p n path at s h er g =
+    g ∙ ap (putResidual n path (Narrowing.OwnField at)) (releveled b r T e w p er) ∙ goes b T e w p (narrowing n path (Narrowing.OwnField at)) h
 
 abbrev fellAs : SeekBuilder → Bool → Bool → SeekBuilder
 fellAs b x y =

@@ -66,6 +66,10 @@ pub register-op : (a : ℕ) (at : FieldPath) (n : ℕ) → n ≡ length (Plan.pa
 unfolding Plan.op Plan.u16
 register-op a at n e = omega arith
 
+pub own-op : (at : FieldPath) (n : ℕ) → n ≡ length (Plan.path at) → 1 + n ≡ length (Plan.op (Narrowing.OwnField at))
+unfolding Plan.op
+own-op at n e = omega arith
+
 pub text-size : (bytes : List ℕ) → length (Plan.partKey (SeekKeyPart.Bytes bytes)) ≡ length bytes + 3
 unfolding Plan.partKey Plan.text Plan.u16
 text-size bytes = omega arith

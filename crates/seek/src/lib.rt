@@ -16,6 +16,7 @@ use views::Anchor;
 mod bounds;
 mod guides;
 mod narrowings;
+mod own_fields;
 mod totals;
 mod values;
 

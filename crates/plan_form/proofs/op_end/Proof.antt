@@ -1,6 +1,6 @@
 use mathlib.Core.Path.{sym, _∙_}
 use native.Mathlib.Omega.{arith}
-use Rattle.plan_form.proofs.Cases.{op-cut, op-text, op-register, op-fact, op-tag, op-fuzzy, op-bad}
+use Rattle.plan_form.proofs.Cases.{op-cut, op-text, op-register, op-fact, op-tag, op-fuzzy, op-own, op-bad}
 use borrow.Author.Needs.{needs}
 use Rattle.plan_form.proofs.op_end.Statement.{statement}
 use Rattle.plan_form.proofs.op_end.Tie as tie
@@ -8,6 +8,7 @@ use Rattle.plan_form.proofs.op_end.Reads as reads
 use Rattle.plan_form.proofs.op_end.Lts as lts
 use Rattle.file.proofs.fixed.Reads as fixed-reads
 use Rattle.file.proofs.fuzzy_end.Reads as fuzzy-end-reads
+use Rattle.plan_form.proofs.path_end.Reads as path-end-reads
 use Rattle.plan_form.proofs.register_end.Reads as register-end-reads
 use Rattle.plan_form.proofs.text_end.Reads as text-end-reads
 
@@ -41,6 +42,12 @@ add-fuzzy-end c = search needs
 fuzzy-end-requires : tie.Need-fuzzy-end-requires
 fuzzy-end-requires c κs = search needs
 
+add-path-end : tie.Need-add-path-end
+add-path-end c = search needs
+
+path-end-requires : tie.Need-path-end-requires
+path-end-requires c κs = search needs
+
 add-text-end : tie.Need-add-text-end
 add-text-end c = search needs
 
@@ -60,10 +67,13 @@ returns-5 : tie.Need-returns-5
 returns-5 c = c .fuzzy-end .ensures ∙ sym (op-fuzzy _ _ (omega arith) (omega arith))
 
 returns-6 : tie.Need-returns-6
-returns-6 c = c .text-end .ensures ∙ sym (op-text _ _ (omega arith) (omega arith))
+returns-6 c = c .path-end .ensures ∙ sym (op-own _ _ (omega arith) (omega arith))
 
 returns-7 : tie.Need-returns-7
-returns-7 c = sym (op-bad _ _ (omega arith) (omega arith))
+returns-7 c = c .text-end .ensures ∙ sym (op-text _ _ (omega arith) (omega arith))
+
+returns-8 : tie.Need-returns-8
+returns-8 c = sym (op-bad _ _ (omega arith) (omega arith))
 
 pub op-end-spec : {M : Type 1} → statement M
 op-end-spec =
@@ -79,6 +89,8 @@ op-end-spec =
     fixed-requires-2
     add-fuzzy-end
     fuzzy-end-requires
+    add-path-end
+    path-end-requires
     add-text-end
     text-end-requires
     returns-2
@@ -86,4 +98,5 @@ op-end-spec =
     returns-4
     returns-5
     returns-6
-    returns-7)
+    returns-7
+    returns-8)
