@@ -63,9 +63,9 @@ module _ (T : Tables) (a : ℕ) (below : FieldWalk State) (n from t : ℕ) (path
 
   module _ (at : File.FieldPath) (u : ℕ) where
     abbrev own : Bool → State
-    own x = elim x [ true ↦ report n Code.NyiRepeatedVariable s₀ | false ↦ narrow n path (Narrowing.RegisterField from at) s₀ ]
+    own x = elim x [ true ↦ narrow n path (Narrowing.OwnField at) s₀ | false ↦ narrow n path (Narrowing.RegisterField from at) s₀ ]
 
-    pub field-own : from ≡ a → (s : State) → s ≡ report n Code.NyiRepeatedVariable s₀ → s ≡ matched (ops T) T a below n (File.Slot.Field from at u) t path s₀
+    pub field-own : from ≡ a → (s : State) → s ≡ narrow n path (Narrowing.OwnField at) s₀ → s ≡ matched (ops T) T a below n (File.Slot.Field from at u) t path s₀
     unfolding matched
     field-own e s g = g ∙ ap own (sym (eq-eqb _ _ e))
 

@@ -387,9 +387,8 @@ fn meet_row(
     w.diagnose(work, node, Code::RejectTypeMismatch, false)
 }
 
-// A register's field. The level's own register is the row at hand: reported, and building stays.
+// A register's field. The level's own register is the row at hand: its two fields are asked to be equal.
 fn meet_field(
-    work: &mut [u8],
     plan: &mut [u8],
     node: usize,
     from: Address,
@@ -399,15 +398,15 @@ fn meet_field(
     w: Walk,
 ) -> Walk
     ensures { λ r. ⌜ (
-        (T : File.Tables) (below : FieldWalk State) (ty t : ℕ) →
-        let before = walkState T w (now (work .entry)) (now (plan .entry)) in
-        let after = walkState T r (now (work .exit)) (now (plan .exit)) in
+        (T : File.Tables) (below : FieldWalk State) (ty t : ℕ) (work : List ℕ) →
+        let before = walkState T w work (now (plan .entry)) in
+        let after = walkState T r work (now (plan .exit)) in
         let slot = File.Slot.Field (from .0) (pathOf at) ty in
         after ≡ WalkRules.matched (ops T) T (address .0) below node slot t (pathOf path) before
         ) ⌝ }
 {
     if from.0 == address.0 {
-        return w.diagnose(work, node, Code::NyiRepeatedVariable, false);
+        return w.own_field(path, at, node, plan);
     }
     w.register_field(path, from, at, node, plan)
 }
@@ -481,7 +480,7 @@ pub fn meet(
         SlotKind::Row(a, p) => unopened(meet_row(file, index, work, plan, node, a, p, ty, path, w)),
         SlotKind::Key(_, _) => unopened(w.diagnose(work, node, Code::NyiWholeKey, true)),
         SlotKind::Derived(_) => unopened(w.diagnose(work, node, Code::NyiValueMatch, true)),
-        SlotKind::Field(a, _) => unopened(meet_field(work, plan, node, a, at, address, path, w)),
+        SlotKind::Field(a, _) => unopened(meet_field(plan, node, a, at, address, path, w)),
         SlotKind::Value(_, _) => unopened(w.diagnose(work, node, Code::NyiValueMatch, false)),
         SlotKind::Const(n) => meet_const(file, index, plan, node, n, ty, path, w),
     }

@@ -52,6 +52,7 @@ impl SeekBuilder {
         if self.over {
             return self;
         }
-        self.fallen().own_residual(path, at, node, plan)
+        let l = self.fallen();
+        l.own_residual(path, at, node, plan)
     }
 }

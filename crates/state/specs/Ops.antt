@@ -259,7 +259,7 @@ ops T =
     }
 
 unfoldable pub openOps : Unit {0}
-unfolding append appendCounted bind constrained select report recount fall relevel narrowed grow putMade partText isBytes withPart partAt partForm
-    nodeAt partPut putPart putResidual narrowPart withRange narrowPrefix attachable withGuide narrowFuzzy narrowOwn narrowing narrow skip
-    closed close closer withEdges boundLevel bound roomy checkedSlot
+unfolding append appendCounted bind constrained select report recount fall relevel narrowed grow putMade partText isBytes withPart partAt
+    partForm nodeAt partPut putPart putResidual narrowPart withRange narrowPrefix attachable withGuide narrowFuzzy narrowOwn narrowing
+    narrow skip closed close closer withEdges boundLevel bound roomy checkedSlot
 openOps = tt

@@ -106,6 +106,20 @@ impl Walk {
         self.placed(l)
     }
 
+    // A narrowing to a field of the level's own row.
+    pub fn own_field(self, path: FieldPath, at: FieldPath, node: usize, plan: &mut [u8]) -> Walk
+        ensures { λ r. ⌜ (
+            (T : Tables) (w : List ℕ) →
+            let before = walkState T self w (now (plan .entry)) in
+            let after = walkState T r w (now (plan .exit)) in
+            after ≡ Ops.narrow node (pathOf path) (Narrowing.OwnField (pathOf at)) before
+            ) ⌝ }
+    {
+        let level = self.level;
+        let l = level.own_field(path, at, node, plan);
+        self.placed(l)
+    }
+
     // A narrowing to the fact of a register.
     pub fn fact_id(self, path: FieldPath, address: Address, node: usize, plan: &mut [u8]) -> Walk
         ensures { λ r. ⌜ (

@@ -79,20 +79,17 @@ returns-3 c = settled-is _ _ _ _ _ (c .unopened3 .ensures) ∙ of-derived _ _ _ 
 same-length-5 : tie.Need-same-length-5
 same-length-5 c = search needs
 
+returns-4 : tie.Need-returns-4
+returns-4 c = settled-is _ _ _ _ _ (c .unopened4 .ensures) ∙ of-field _ _ _ _ _ _ (c .before .before .before .before .before .before .before .before .before .before .before .before .before .args .slot) _ _ (c .before .before .before .before .before .before .kind2 .given .1) _ (λ below i j. c .before .before .before .meet-field .ensures _ below i j _)
+
 same-length-6 : tie.Need-same-length-6
 same-length-6 c = search needs
-
-returns-4 : tie.Need-returns-4
-returns-4 c = settled-is _ _ _ _ _ (c .unopened4 .ensures) ∙ of-field _ _ _ _ _ _ (c .before .before .before .before .before .before .before .before .before .before .before .before .before .before .before .before .args .slot) _ _ (c .before .before .before .before .before .before .before .before .before .kind2 .given .1) _ (c .before .before .before .before .before .meet-field .ensures _)
-
-same-length-7 : tie.Need-same-length-7
-same-length-7 c = search needs
 
 returns-5 : tie.Need-returns-5
 returns-5 c = settled-is _ _ _ _ _ (c .unopened5 .ensures) ∙ of-value _ _ _ _ _ _ (c .before .before .before .before .before .before .before .before .before .before .before .before .args .slot) _ _ (c .before .before .before .before .before .enum-told3 .given .1) _ (c .before .before .before .diagnose3 .ensures _ _)
 
-same-length-8 : tie.Need-same-length-8
-same-length-8 c = search needs
+same-length-7 : tie.Need-same-length-7
+same-length-7 c = search needs
 
 returns-6 : tie.Need-returns-6
 returns-6 c = of-const _ _ _ _ _ _ (c .before .before .before .before .before .before .before .before .before .before .before .before .args .slot) _ (c .before .before .before .before .before .kind3 .given .1) _ (c .before .before .meet-const .ensures _ _)
@@ -126,9 +123,8 @@ meet-spec =
     same-length-4
     returns-3
     same-length-5
-    same-length-6
     returns-4
-    same-length-7
+    same-length-6
     returns-5
-    same-length-8
+    same-length-7
     returns-6)
