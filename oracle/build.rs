@@ -9,6 +9,8 @@
 mod count;
 #[path = "build/cut.rs"]
 mod cut;
+#[path = "build/later.rs"]
+mod later;
 #[path = "build/mutate.rs"]
 mod mutate;
 #[path = "build/note.rs"]
@@ -51,9 +53,10 @@ fn write_modules(out: &Path, cut: &cut::Cut) {
         &cut.module(|item| item.text.clone()),
     );
     write_counted(out, cut);
-    write(&out.join("noted.rs"), &note::module(cut));
+    let changed = later::changed(cut);
+    write(&out.join("noted.rs"), &note::module(&changed));
     if env::var_os("CARGO_FEATURE_MUTANTS").is_some() {
-        write_mutants(out, cut);
+        write_mutants(out, &changed);
     }
 }
 

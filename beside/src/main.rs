@@ -11,6 +11,7 @@ mod run;
 use std::process::ExitCode;
 
 use oracle::HAS_BODIES;
+use oracle::run::BY_RULE;
 
 use names::Names;
 use plans::Plans;
@@ -86,6 +87,9 @@ fn print(outcome: &Outcome) {
     }
     if outcome.left_out > 0 {
         println!("{} left out, too long for the bodies", outcome.left_out);
+    }
+    if let Some(count) = outcome.by_rule {
+        println!("{count} {BY_RULE}");
     }
     if outcome.noded > 0 {
         println!(

@@ -127,6 +127,7 @@ fn op(op: &ResidualOp) -> made::ResidualOp {
         ResidualOp::RegisterFact(address) => made::ResidualOp::RegisterFactId(*address),
         ResidualOp::Disc(disc) => made::ResidualOp::Disc(*disc),
         ResidualOp::Fuzzy(text) => made::ResidualOp::Fuzzy(fuzzy(*text)),
+        ResidualOp::OwnField(other) => made::ResidualOp::OwnField(path(other)),
     }
 }
 

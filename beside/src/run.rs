@@ -5,8 +5,9 @@ use std::collections::BTreeMap;
 use oracle::compile::hex;
 use oracle::draw;
 use oracle::file::{MAX_PLAN, MIN_WORK};
+use oracle::nodes::dropped;
 use oracle::rng::Rng;
-use oracle::run::{answer, base_answer};
+use oracle::run::{Reference, answer, reference};
 use oracle::shrink::shrink;
 
 use crate::call::{Answer, Call, Difference, Expected, Lengths, difference, expected};
@@ -29,23 +30,35 @@ pub struct Outcome {
     pub nodes_different: usize,
     /// Files that the bodies take too long for.
     pub left_out: usize,
+    /// Files that are left out beside the original Rust, and compared with the written
+    /// rule alone.
+    pub by_rule: Option<usize>,
     /// Calls by what was lent and by what is expected.
     pub calls: BTreeMap<String, usize>,
 }
 
-/// What the bodies answer to a file: the original ones, whose plans have no nodes,
-/// and the copy that notes these.
+/// What the bodies answer to a file: the copy that does what document 02 adds and notes
+/// the nodes, and the original ones, whose plans have none. Where these are no reference,
+/// it is the copy's answer without its nodes.
 struct Answers {
     with_nodes: Answer,
     base: Answer,
+    by_rule: bool,
 }
 
 impl Answers {
     /// None where the file costs them too much.
     fn to(file: &[u8]) -> Option<Self> {
+        let (with_nodes, reference) = (answer(file)?, reference(file)?);
+        let by_rule = reference == Reference::Rule;
+        let base = match reference {
+            Reference::Rust(base) => base,
+            Reference::Rule => with_nodes.as_deref().map_or_else(|&e| Err(e), dropped),
+        };
         Some(Self {
-            with_nodes: answer(file)?,
-            base: base_answer(file)?,
+            with_nodes,
+            base,
+            by_rule,
         })
     }
 }
@@ -57,7 +70,7 @@ pub struct Run {
 
 impl Run {
     pub fn files(&self, count: u64, mut report: impl FnMut(String)) -> Outcome {
-        let mut outcome = Outcome::default();
+        let (mut outcome, mut by_rule) = (Outcome::default(), 0);
         for index in 0..count {
             let file = draw::file(self.seed, index);
             let Some(answers) = Answers::to(&file) else {
@@ -65,6 +78,7 @@ impl Run {
                 continue;
             };
             outcome.compared += 1;
+            by_rule += usize::from(answers.by_rule);
             outcome.noded += usize::from(answers.with_nodes.is_ok());
             let rng = self.memory(index);
             count_calls(
@@ -82,6 +96,7 @@ impl Run {
                 report(self.shown(&file, index));
             }
         }
+        outcome.by_rule = Some(by_rule);
         outcome
     }
 
@@ -91,12 +106,12 @@ impl Run {
 
     /// The first difference, but one of the nodes alone only if there is no other.
     fn difference(&self, file: &[u8], answers: &Answers, mut rng: Rng) -> Option<Difference> {
-        let Answers { with_nodes, base } = answers;
+        let with_nodes = &answers.with_nodes;
         let found = lengths(with_nodes, &mut rng)
             .into_iter()
             .filter_map(|lengths| {
                 let answer = expected(file, with_nodes, lengths);
-                let expected = Expected::beside(&answer, base);
+                let expected = Expected::beside(&answer, &answers.base);
                 difference(self.compile, file, &expected, lengths, &mut rng)
             });
         found.min_by_key(Difference::is_of_nodes_alone)
@@ -235,6 +250,8 @@ mod tests {
         assert_eq!((outcome.compared, outcome.different), (400, 0));
         assert_eq!(outcome.nodes_different, 0);
         assert!(outcome.noded > 200, "{}", outcome.noded);
+        let by_rule = outcome.by_rule.expect("it was counted");
+        assert!((10..200).contains(&by_rule), "{by_rule}");
         assert!(shown.is_empty());
         for kind in ["exact", "one too short", "of 0 bytes", "longer"] {
             assert!(outcome.calls[&format!("plan buffer {kind}")] > 20, "{kind}");

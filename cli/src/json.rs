@@ -173,6 +173,7 @@ fn residual(residual: &Residual) -> Json {
         ResidualOp::RegisterFact(address) => members.push(("fact", number(*address))),
         ResidualOp::Disc(disc) => members.push(("disc", number(*disc))),
         ResidualOp::Fuzzy(near) => members.extend(fuzzy(*near)),
+        ResidualOp::OwnField(other) => members.push(("equals", path(other))),
     }
     members.push(("node", number(residual.node)));
     Object(members)

@@ -4,7 +4,12 @@ use std::path::PathBuf;
 use std::process::Command;
 use std::{env, fs};
 
-const ROOMS: [&str; 3] = ["locked-door", "weight-on-plate", "key-by-prefix"];
+const ROOMS: [&str; 4] = [
+    "locked-door",
+    "weight-on-plate",
+    "key-by-prefix",
+    "lock-equals-key",
+];
 
 fn file(room: &str, ending: &str) -> PathBuf {
     let examples = PathBuf::from(env!("CARGO_MANIFEST_DIR")).join("../examples");

@@ -15,7 +15,10 @@ pub enum Diagnostic {
     NyiFactField,
     /// A Never stands in a key.
     NyiNever,
-    /// A field of a row is held against another field of the same row.
+    /// A field of a row is held against another field of the same row. No compile makes
+    /// it any more, since such fields are tested
+    /// ([`OwnField`](crate::plan::ResidualOp::OwnField)); a plan of an earlier version may
+    /// have it, and is read.
     NyiRepeatedVariable,
     /// A field is read out of a value.
     NyiValueField,
@@ -99,7 +102,7 @@ impl Diagnostic {
                 "a pattern that nothing matches stands in a key: drop the level, or the pattern"
             }
             NyiRepeatedVariable => {
-                "a row's field cannot be held against another field of the same row yet: give the second one a name of its own"
+                "an earlier version could not test that two fields of one row are equal: compile the rules again, and they are"
             }
             NyiValueField => {
                 "a field cannot be read out of a fact's value yet: read it out of a key"

@@ -5,8 +5,8 @@ mod files;
 
 use std::collections::BTreeMap;
 
-use sinalvento::plan::{LevelRule, PlanFault, Seek};
-use sinalvento::rules::Node;
+use sinalvento::plan::{LevelRule, PlanFault, Residual, ResidualOp, Seek};
+use sinalvento::rules::Path;
 use sinalvento::{Buffers, MAX_PLAN, Plan, Refusal, RuleFile, compile, read_into, text};
 
 /// The plans of the fixed list's accepted files.
@@ -29,14 +29,10 @@ fn every_plan_is_opened_and_written_back() {
             assert_eq!(PlanFault::of(bytes), None);
             let rules = RuleFile::read(file).expect("it was read");
             let shown = plan.shown(&rules).to_string();
-            // A part that is no value is told as bytes, and so is a pattern of bytes.
-            let mut nodes = rules.nodes.iter();
-            let bytes = nodes.any(|node| matches!(node, Node::Bytes(_)));
-            assert!(bytes || !shown.contains("part: hex"), "{shown}");
+            assert!(!shown.contains("part: hex"), "{shown}");
             // Joined parts are told apart: each has its own node.
             assert!(!shown.contains("part: (node"), "{shown}");
-            let described = plan.described(&rules).to_string();
-            assert!(bytes || !described.contains("seek hex"), "{described}");
+            assert!(!plan.described(&rules).to_string().contains("seek hex"));
             count += 1;
         }
     });
@@ -306,6 +302,36 @@ fn joined_parts_are_told_apart() {
         assert_eq!(union, lines, "{rules}");
         assert!(last.starts_with("b = 1 (node "), "{rules}");
     }
+}
+
+/// "A door whose lock equals its key": by name, and by number without a rule file.
+#[test]
+fn equal_fields_of_one_row() {
+    let told = shown(
+        "predicate door: { key: Str, lock: union { open: Int, shut: Str } }
+         level door { key = k, lock = { shut = k } }",
+    );
+    let test = "residual: lock.shut equals key (node 1, line 2: k)";
+    assert!(told.contains(test), "{told}");
+
+    let mut plan = Plan::open(&files::d1_plan()).expect("a plan");
+    let path = |field, steps: &[u32]| Path {
+        field,
+        steps: steps.to_vec(),
+    };
+    plan.levels[0].narrowings += 1;
+    plan.levels[0].residuals.push(Residual {
+        path: path(1, &[]),
+        op: ResidualOp::OwnField(path(0, &[2])),
+        node: 7,
+    });
+    let bytes = plan.to_bytes();
+    assert_eq!(Plan::open(&bytes), Ok(plan.clone()));
+    let told = plan.to_string();
+    assert!(
+        told.contains("residual: [1] equals [0/2] (node 7)"),
+        "{told}"
+    );
 }
 
 /// Of a plan that no compile wrote the nodes are told though they fit nothing.

@@ -100,9 +100,14 @@ impl Cut {
             text.push('\n');
         }
         text.push_str("}\n");
-        text.push_str("include!(concat!(env!(\"CARGO_MANIFEST_DIR\"), \"/src/drive.rs\"));\n");
+        text.push_str(&include("/src/drive.rs"));
         text
     }
+}
+
+/// The line that includes a file of this project.
+pub fn include(file: &str) -> String {
+    format!("include!(concat!(env!(\"CARGO_MANIFEST_DIR\"), \"{file}\"));\n")
 }
 
 fn cut_all(source: &str, headers: &[&str], indent: &str) -> Vec<Item> {

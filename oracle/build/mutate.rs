@@ -1,8 +1,9 @@
-//! Mistakes put into copies of the cut text, to see that the files find them.
-//! An edit names a function and a few tokens in it; they are kept as short as
-//! telling them apart allows.
+//! Mistakes put into copies of the text as document 02 changes it, to see that the
+//! files find them. An edit names a function and a few tokens in it; they are kept
+//! as short as telling them apart allows.
 
-use crate::cut::{Cut, Item};
+use crate::cut::{Cut, Item, include};
+use crate::later;
 
 pub struct Edit {
     pub function: &'static str,
@@ -10,6 +11,20 @@ pub struct Edit {
     /// Which occurrence, of how many: another count means the source changed.
     pub which: (usize, usize),
     pub new: &'static str,
+}
+
+pub const fn edit(
+    function: &'static str,
+    old: &'static str,
+    which: (usize, usize),
+    new: &'static str,
+) -> Edit {
+    Edit {
+        function,
+        old,
+        which,
+        new,
+    }
 }
 
 pub struct Mutant {
@@ -29,32 +44,20 @@ const fn mutant(
     Mutant {
         name,
         what,
-        edit: Edit {
-            function,
-            old,
-            which,
-            new,
-        },
+        edit: edit(function, old, which, new),
     }
 }
 
 pub const ONLY: (usize, usize) = (1, 1);
 const FALL: &str = "level.building = false";
 const BUILDING: &str = "if level.building {";
+const OWN_ROW: &str = "level.own_row(path, at, address)";
 const UNBOUND: &str = "self.lookup(*symbol).is_none()";
 
-/// The first seventeen are the mistakes that must be found; the others are more
-/// of their kind. A mutant that no file can show is left out: what `whole_key`
+/// The first sixteen are the mistakes that must be found; the others are more of
+/// their kind. A mutant that no file can show is left out: what `whole_key`
 /// does to building before it returns is seen by nothing after it.
 pub const MUTANTS: &[Mutant] = &[
-    mutant(
-        "seen_1",
-        "a same-row repeat ends building",
-        "matched",
-        "*from == address {",
-        ONLY,
-        "*from == address { level.building = false;",
-    ),
     mutant(
         "seen_2",
         "a mistyped Prefix pattern in `field` ends building",
@@ -448,6 +451,54 @@ pub const MUTANTS: &[Mutant] = &[
         "",
     ),
     mutant(
+        "own_row_open",
+        "equal fields of one row leave building on",
+        "matched",
+        OWN_ROW,
+        ONLY,
+        "let open = level.building; level.own_row(path, at, address); level.building = open",
+    ),
+    mutant(
+        "own_row_part",
+        "equal fields of one row are a part while building",
+        "matched",
+        OWN_ROW,
+        ONLY,
+        "level.own_row_part(path, at, address)",
+    ),
+    mutant(
+        "own_row_passed",
+        "equal fields of one row narrow nothing",
+        "matched",
+        OWN_ROW,
+        ONLY,
+        "level.building = false",
+    ),
+    mutant(
+        "own_row_swapped",
+        "equal fields of one row with their paths exchanged",
+        "matched",
+        OWN_ROW,
+        ONLY,
+        "level.own_row(at, path, address)",
+    ),
+    mutant(
+        "own_row_itself",
+        "a field that is to equal itself is passed over",
+        "matched",
+        OWN_ROW,
+        ONLY,
+        "if path != at { level.own_row(path, at, address) }",
+    ),
+    mutant(
+        "own_row_reported",
+        "equal fields of one row are reported too",
+        "matched",
+        "address); return;",
+        ONLY,
+        "address);",
+    ),
+    mutant(
         "payload_path",
         "a payload has its union's path",
         "inject",
@@ -460,7 +511,8 @@ pub const MUTANTS: &[Mutant] = &[
 /// A mutant's module.
 pub fn module(cut: &Cut, mutant: &Mutant) -> String {
     let mut text = cut.module(|item| edited(item, &mutant.edit));
-    text.push_str("include!(concat!(env!(\"CARGO_MANIFEST_DIR\"), \"/src/mutant_help.rs\"));\n");
+    text.push_str(&later::help());
+    text.push_str(&include("/src/mutant_help.rs"));
     text
 }
 

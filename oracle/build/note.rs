@@ -1,32 +1,25 @@
-//! A copy of the cut text that says, before each placing, which node makes it: the
-//! one that request [2] of document 02 names (docs/DECISIONS.md).
+//! A copy of the text as document 02 changes it that says, before each placing,
+//! which node makes it: the one that request [2] names (docs/DECISIONS.md).
 
-use crate::cut::Cut;
-use crate::mutate::{Edit, ONLY, edited};
+use crate::cut::{Cut, include};
+use crate::later;
+use crate::mutate::{Edit, ONLY, edit, edited};
 
 const NARROW: &str = "Self::narrow_by(constant, path, level)";
 const BUILDING: &str = "if level.building {";
 const BY_NODE: &str = "{ level.made_by(node); Self::narrow_by(constant, path, level) }";
-
-const fn edit(
-    function: &'static str,
-    old: &'static str,
-    which: (usize, usize),
-    new: &'static str,
-) -> Edit {
-    Edit {
-        function,
-        old,
-        which,
-        new,
-    }
-}
 
 /// Each placing of the text stands behind one of these; `noted.rs` finds an entry
 /// without a maker, and a maker without an entry.
 const EDITS: &[Edit] = &[
     edit("field", NARROW, ONLY, BY_NODE),
     // The slot's own entries: `node` stands for the slot.
+    edit(
+        "matched",
+        "level.own_row(",
+        ONLY,
+        "level.made_by(node); level.own_row(",
+    ),
     edit(
         "matched",
         BUILDING,
@@ -87,6 +80,7 @@ pub fn module(cut: &Cut) -> String {
         }
         item.text
     });
-    text.push_str("include!(concat!(env!(\"CARGO_MANIFEST_DIR\"), \"/src/note_help.rs\"));\n");
+    text.push_str(&later::help());
+    text.push_str(&include("/src/note_help.rs"));
     text
 }

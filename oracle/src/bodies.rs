@@ -13,8 +13,9 @@ pub mod original {
     include!(concat!(env!("OUT_DIR"), "/bodies.rs"));
 }
 
-/// The copy that says which node makes each entry.
-#[allow(dead_code, unused_imports, clippy::all)]
+/// The copy with what document 02 changes, which also says which node makes each
+/// entry.
+#[allow(dead_code, unused_imports, unreachable_code, clippy::all)]
 pub mod noted {
     use crate::standin::*;
     use std::sync::Arc;

@@ -7,7 +7,7 @@ use std::time::Duration;
 
 use crate::compile::{hex, line};
 use crate::nodes::line_dropped;
-use crate::run::answer;
+use crate::run::{Reference, answer, reference};
 use crate::shrink::shrink;
 
 /// How often a file that shows a difference is tried smaller.
@@ -28,6 +28,8 @@ pub struct Outcome {
     pub nodes: usize,
     /// Files that the bodies take too long for.
     pub left_out: usize,
+    /// Files that are compared with the written rule alone.
+    pub by_rule: usize,
 }
 
 /// How a line differs from the expected one.
@@ -52,6 +54,7 @@ impl Compare<'_> {
                 continue;
             };
             outcome.compared += 1;
+            outcome.by_rule += usize::from(reference(&file) == Some(Reference::Rule));
             match differs {
                 Differs::Not => continue,
                 Differs::InNodes => outcome.nodes += 1,

@@ -26,9 +26,9 @@ pub fn front(file: &[u8], work_len: usize) -> Result<RuleFile, u8> {
     Ok(file)
 }
 
-/// The plan, or the refusal's number, by the copy of the bodies that notes the
-/// nodes. The caller gives the stack: a file may
-/// nest its nodes some 2,000 deep (see [`on_large_stack`]).
+/// The plan, or the refusal's number, by the copy of the bodies that does what
+/// document 02 adds and notes the nodes. The caller gives the stack: a file may nest
+/// its nodes some 2,000 deep (see [`on_large_stack`]).
 ///
 /// # Panics
 /// Where the build found no source of the bodies ([`HAS_BODIES`]).
@@ -38,7 +38,7 @@ pub fn compile(file: &[u8], plan_len: usize, work_len: usize) -> Result<Vec<u8>,
 }
 
 /// As [`compile`], by the original bodies themselves: in the base's form, which has
-/// no nodes.
+/// no nodes. Where they report code 4 they are no reference (`run::reference`).
 pub fn compile_base(file: &[u8], plan_len: usize, work_len: usize) -> Result<Vec<u8>, u8> {
     let file = front(file, work_len)?;
     base_bytes(&original(&file, u64::MAX), plan_len)

@@ -32,7 +32,8 @@ pub fn walk(file: &file::RuleFile, fuel: u64) -> plan::Plan {
         let bound = flattener.bindings.len();
         let mut builder = SeekBuilder::new();
         flattener.key(level.node, key_ty, register(level.address), &mut builder);
-        out.levels.push(level_data(&builder, builder.seek_key()));
+        let data = level_data(&builder, builder.seek_key(), level.address);
+        out.levels.push(data);
         let new = flattener.bindings[bound..].iter();
         out.bindings
             .extend(new.map(|(name, slot)| new_binding(file, level, *name, slot)));
@@ -185,12 +186,13 @@ fn type_along(file: &file::RuleFile, key: u16, path: &file::Path) -> u16 {
 /// The bodies count neither narrowings nor closers. A closer is the one part
 /// that is a lone 00, since an encoding begins with 02 to 06; what else was
 /// placed is a narrowing, each placed once.
-fn level_data(builder: &SeekBuilder, seek: SeekKey) -> plan::Level {
+fn level_data(builder: &SeekBuilder, seek: SeekKey, own: u16) -> plan::Level {
     let is_closer =
         |part: &&SeekKeyPart| matches!(part, SeekKeyPart::Bytes(b) if **b == [MARK_TERM]);
     let parts = builder.parts.len();
     let closers = builder.parts.iter().filter(is_closer).count();
     let placed = parts + builder.residuals.len();
+    let residual = |residual: &Residual| residual_data(residual, own);
     let single = usize::from(builder.range.is_some()) + usize::from(builder.guide.is_some());
     plan::Level {
         narrowings: placed + single - closers,
@@ -198,7 +200,7 @@ fn level_data(builder: &SeekBuilder, seek: SeekKey) -> plan::Level {
         parts,
         seek: seek_data(seek, builder),
         guide: builder.guide.as_ref().map(guide_data),
-        residuals: builder.residuals.iter().map(residual_data).collect(),
+        residuals: builder.residuals.iter().map(residual).collect(),
         folded: builder.folded.clone(),
         nodes: vec![],
     }
@@ -257,10 +259,15 @@ fn fuzzy_data(term: &str, distance: u8, anchor: FuzzyAnchor) -> plan::Fuzzy {
     }
 }
 
-fn residual_data(residual: &Residual) -> (file::Path, plan::ResidualOp) {
+/// A field of the level's own register is one of the row that is tested. Only the
+/// text as document 02 changes it makes such a residual (later_help.rs).
+fn residual_data(residual: &Residual, own: u16) -> (file::Path, plan::ResidualOp) {
     let op = match &residual.op {
         ResidualOp::EqConst(bytes) => plan::ResidualOp::Bytes(bytes.to_vec()),
         ResidualOp::Prefix(bytes) => plan::ResidualOp::Prefix(bytes.to_vec()),
+        ResidualOp::EqRegisterField { address, path } if number(*address) == own => {
+            plan::ResidualOp::OwnField(path_data(path))
+        }
         ResidualOp::EqRegisterField { address, path } => {
             plan::ResidualOp::RegisterField(number(*address), path_data(path))
         }

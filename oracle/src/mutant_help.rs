@@ -6,3 +6,15 @@ impl Flattener<'_> {
         self
     }
 }
+
+impl SeekBuilder {
+    fn own_row_part(&mut self, path: &FieldPath, other: &FieldPath, own: Address) {
+        if !self.building {
+            return self.own_row(path, other, own);
+        }
+        self.parts.push(SeekKeyPart::RegisterField {
+            address: own,
+            path: other.clone(),
+        });
+    }
+}

@@ -1,9 +1,9 @@
 //! The bodies with one mistake each, made by the build, and how many files tell
-//! them from the original.
+//! them from the text without it.
 
-use crate::compile::{Walk, base_within};
+use crate::compile::{Walk, base_within, noted};
 use crate::file::{MAX_PLAN, MIN_WORK};
-use crate::run::{FUEL, base_answer};
+use crate::run::FUEL;
 
 pub struct Mutant {
     pub name: &'static str,
@@ -31,7 +31,8 @@ include!(concat!(env!("OUT_DIR"), "/mutants.rs"));
 pub fn different(files: impl Iterator<Item = Vec<u8>>) -> Vec<usize> {
     let mut counts = vec![0; MUTANTS.len()];
     for file in files {
-        let Some(expected) = base_answer(&file) else {
+        // In the base's form, as a mutant's: it notes no nodes.
+        let Some(expected) = base_within(noted, FUEL, &file, MAX_PLAN, MIN_WORK) else {
             continue;
         };
         for (mutant, count) in MUTANTS.iter().zip(&mut counts) {

@@ -42,6 +42,8 @@ pub enum ResidualOp {
     RegisterFactId(u16),
     Disc(u32),
     Fuzzy(Fuzzy),
+    /// Equal to the field of the same row at this path.
+    OwnField(Path),
 }
 
 #[derive(Debug, Clone, PartialEq, Eq)]
@@ -274,6 +276,10 @@ impl Writer {
             ResidualOp::Fuzzy(fuzzy) => {
                 self.u8(5);
                 self.fuzzy(fuzzy);
+            }
+            ResidualOp::OwnField(path) => {
+                self.u8(6);
+                self.path(path);
             }
         }
     }

@@ -1,6 +1,6 @@
 //! The plan reader of request [1], written from the papers: refusals 15 to 18,
-//! or the plan as data. It reads the nodes of request [2]; the base's form, without
-//! them, is read by its form alone.
+//! or the plan as data. It reads the nodes of request [2] and the op of request [8];
+//! the base's form, without nodes, is read by its form alone.
 
 use crate::file::*;
 use crate::plan::{Edge, Fuzzy, Level, Part, Plan, ResidualOp, Seek};
@@ -10,7 +10,7 @@ pub const ENDS: u8 = 16;
 pub const MEANINGLESS: u8 = 17;
 pub const BROKEN: u8 = 18;
 
-/// The last diagnostic's code.
+/// The last diagnostic's code. Code 4 is among them, though no compile makes it.
 const LAST_CODE: u8 = 11;
 
 /// The plan that bytes tell, or the refusal's number, with an output buffer of
@@ -301,13 +301,14 @@ impl<'a> Left<'a> {
     }
 
     fn op(&mut self) -> Result<ResidualOp, u8> {
-        Ok(match self.one_of(0..=5)? {
+        Ok(match self.one_of(0..=6)? {
             0 => ResidualOp::Bytes(self.text()?),
             1 => ResidualOp::Prefix(self.text()?),
             2 => ResidualOp::RegisterField(self.u16()?, self.path()?),
             3 => ResidualOp::RegisterFactId(self.u16()?),
             4 => ResidualOp::Disc(self.u32()?),
-            _ => ResidualOp::Fuzzy(self.fuzzy()?),
+            5 => ResidualOp::Fuzzy(self.fuzzy()?),
+            _ => ResidualOp::OwnField(self.path()?),
         })
     }
 

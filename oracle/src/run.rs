@@ -1,9 +1,9 @@
 //! Drawn files with the bodies' answers.
 
-use crate::compile::{base_within, noted, original, plan_within};
+use crate::compile::{noted, original, plan_within};
 use crate::draw;
 use crate::file::{MAX_PLAN, MIN_WORK};
-use crate::plan::{Plan, plan_bytes};
+use crate::plan::{Plan, base_bytes, plan_bytes};
 
 /// Looks at a node that one drawn file may cost before it is left out.
 pub const FUEL: u64 = 2_000_000;
@@ -17,10 +17,36 @@ pub fn answer(file: &[u8]) -> Option<Result<Vec<u8>, u8>> {
     Some(plan.and_then(|plan| plan_bytes(&plan, MAX_PLAN)))
 }
 
-/// The original bodies' answer, in the base's form.
-pub fn base_answer(file: &[u8]) -> Option<Result<Vec<u8>, u8>> {
-    base_within(original, FUEL, file, MAX_PLAN, MIN_WORK)
+/// What the answer to a file is held against.
+#[derive(Debug, Clone, PartialEq, Eq)]
+pub enum Reference {
+    /// The original bodies' answer, in the base's form.
+    Rust(Result<Vec<u8>, u8>),
+    /// The written rule: the original bodies report code 4, and request [8] of document
+    /// 02 has a narrowing in its place.
+    Rule,
 }
+
+/// What a run says after the count of such files.
+pub const BY_RULE: &str =
+    "with equal fields of one row: left out beside the Rust, held against the written rule";
+
+/// The reference of a file, or none where it costs the bodies too much.
+pub fn reference(file: &[u8]) -> Option<Reference> {
+    let plan = plan_within(original, FUEL, file, MIN_WORK)?;
+    Some(match plan {
+        Ok(plan) if own_rows(&plan) > 0 => Reference::Rule,
+        plan => Reference::Rust(plan.and_then(|plan| base_bytes(&plan, MAX_PLAN))),
+    })
+}
+
+/// How often the original bodies report a field of a level's own row: code 4.
+pub fn own_rows(plan: &Plan) -> usize {
+    let codes = plan.diagnostics.iter().map(|(_, code)| *code);
+    codes.filter(|code| *code == OWN_ROW).count()
+}
+
+const OWN_ROW: u8 = 4;
 
 /// An accepted file's plan as the bodies leave it, with the nodes that they met,
 /// and its bytes; none where the file is refused or costs too much.

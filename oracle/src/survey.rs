@@ -2,7 +2,7 @@
 
 use std::collections::BTreeMap;
 
-use crate::compile::{front, original};
+use crate::compile::{front, noted};
 use crate::file::{Comparison, MIN_WORK, Node, RuleFile, Slot};
 use crate::plan::{Plan, ResidualOp, Seek};
 
@@ -25,7 +25,7 @@ impl Survey {
             Err(number) => self.refused(*number),
             Ok(_) => {
                 let tables = front(file, MIN_WORK).expect("the file was accepted");
-                self.accepted(&tables, &original(&tables, u64::MAX));
+                self.accepted(&tables, &noted(&tables, u64::MAX));
             }
         }
     }
@@ -124,5 +124,6 @@ fn op_number(op: &ResidualOp) -> u8 {
         ResidualOp::RegisterFactId(_) => 3,
         ResidualOp::Disc(_) => 4,
         ResidualOp::Fuzzy(_) => 5,
+        ResidualOp::OwnField(_) => 6,
     }
 }

@@ -8,7 +8,7 @@ use oracle::file::{Anchor, MIN_WORK, RuleFile, Slot, Type};
 use oracle::fixed::sketch::{Sketch, field, one, two, union_then_int};
 use oracle::nodes::dropped;
 use oracle::plan::{Level, Seek};
-use oracle::run::{answer, base_answer, planned};
+use oracle::run::{Reference, answer, planned, reference};
 use oracle::write::write;
 use oracle::{draw, front, on_large_stack};
 
@@ -182,15 +182,19 @@ fn opened_constants_carry_their_own() {
     assert_eq!(nodes(&of_const(false)), [0]);
 }
 
-/// Without its nodes each plan is the original bodies', data and bytes.
+/// Without its nodes each plan is the original bodies', data and bytes, but where these
+/// report code 4 (tests/own_rows.rs).
 #[test]
 fn the_noting_copy_walks_as_the_original() {
     let entries = on_large_stack(|| {
         let mut entries = 0;
         for file in draw::files(25, 6_000) {
-            let (with, base) = (answer(&file), base_answer(&file));
-            let without = with.map(|plan| plan.map(|plan| dropped(&plan).expect("a plan")));
-            assert_eq!(without, base);
+            let reference = reference(&file);
+            if let Some(Reference::Rust(base)) = &reference {
+                let with = answer(&file).expect("it does not cost more");
+                let without = with.map(|plan| dropped(&plan).expect("a plan"));
+                assert_eq!(without, *base);
+            }
             let Some((mut plan, _)) = planned(&file) else {
                 continue;
             };
@@ -201,7 +205,9 @@ fn the_noting_copy_walks_as_the_original() {
                 assert!(level.nodes.iter().all(known));
                 entries += std::mem::take(&mut level.nodes).len();
             }
-            assert_eq!(plan, original(&tables, u64::MAX));
+            if reference != Some(Reference::Rule) {
+                assert_eq!(plan, original(&tables, u64::MAX));
+            }
         }
         entries
     });

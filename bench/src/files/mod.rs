@@ -7,11 +7,11 @@ mod worst;
 
 use oracle::draw::boundary::plan_of_length;
 use oracle::draw::plans::around;
-use oracle::file::{MAX_PLAN, RuleFile};
+use oracle::file::{MAX_PLAN, Node, RuleFile};
 use oracle::fixed::door::d1;
 use oracle::reread::form;
 use oracle::rng::Rng;
-use oracle::run::answer;
+use oracle::run::{Reference, reference};
 use oracle::write::write;
 use oracle::{draw, on_large_stack};
 use sinalvento::Buffers;
@@ -80,17 +80,19 @@ fn drawn_plans() -> Vec<Vec<u8>> {
 }
 
 const MIX_SEED: u64 = 7;
-const MIX: u64 = 1_000;
+const MIX: usize = 1_000;
 /// Drawn files whose stack is measured.
 const MANY: u64 = 20_000;
 /// Drawn files whose plans are read for it.
 const PLANS: u64 = 5_000;
 
-/// Drawn files, but those that the bodies take too long for.
-fn drawn(count: u64) -> Vec<Vec<u8>> {
+/// Drawn files of which the original bodies are the reference: not those that they take
+/// too long for, nor those with equal fields of one row.
+fn drawn(count: usize) -> Vec<Vec<u8>> {
     on_large_stack(move || {
-        draw::files(MIX_SEED, count)
-            .filter(|file| answer(file).is_some())
+        draw::files(MIX_SEED, u64::MAX)
+            .filter(|file| matches!(reference(file), Some(Reference::Rust(_))))
+            .take(count)
             .collect()
     })
 }
@@ -213,8 +215,17 @@ fn chains(reads: &[Read], count: usize) -> Vec<RuleFile> {
     reads.iter().map(|&read| deep::chain(read, count)).collect()
 }
 
+/// The first one in which no name stands twice, and so none for its own row.
 fn longest_plan() -> RuleFile {
-    plan_of_length(MAX_PLAN, &mut Rng::new(MIX_SEED, 0))
+    let drawn = |index| plan_of_length(MAX_PLAN, &mut Rng::new(MIX_SEED, index));
+    let names = |file: &RuleFile| {
+        let nodes = file.levels.iter().map(|level| level.node as usize);
+        nodes
+            .filter(|&node| matches!(file.nodes[node], Node::Var(_)))
+            .count()
+    };
+    let mut all = (0..).map(drawn);
+    all.find(|file| names(file) < 2).expect("there is one")
 }
 
 fn one_level(mut file: RuleFile) -> RuleFile {
@@ -277,6 +288,20 @@ mod tests {
             assert!(plan_length(&file).is_ok(), "{:?}", plan_length(&file));
         }
         assert_eq!(plan_length(&longest_plan()), Ok(MAX_PLAN));
+    }
+
+    /// The exported function's answers are held against theirs.
+    #[test]
+    fn the_original_bodies_are_the_reference() {
+        if !HAS_BODIES {
+            return;
+        }
+        let compiled = |case: &Case| case.part == Part::Whole && case.files.len() == 1;
+        for case in everyday().into_iter().filter(compiled) {
+            let file = case.files[0].clone();
+            let by_rust = on_large_stack(move || reference(&file));
+            assert!(matches!(by_rust, Some(Reference::Rust(_))), "{}", case.name);
+        }
     }
 
     #[test]

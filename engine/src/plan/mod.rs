@@ -158,6 +158,8 @@ pub enum ResidualOp {
     Disc(u32),
     /// A text near to another.
     Fuzzy(Fuzzy),
+    /// Equal to another field of the same fact.
+    OwnField(Path),
 }
 
 /// An alternative that was selected: the union's place, and the disc.

@@ -205,6 +205,7 @@ impl Reader<'_> {
             3 => ResidualOp::RegisterFact(self.u16()?),
             4 => ResidualOp::Disc(self.u32()?),
             5 => ResidualOp::Fuzzy(self.fuzzy()?),
+            6 => ResidualOp::OwnField(self.path()?),
             _ => return self.meaningless(),
         };
         let node = self.u16()?;

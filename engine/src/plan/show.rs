@@ -431,6 +431,7 @@ impl<'a> Shown<'a> {
                 None => format!("{place} is {disc}"),
             },
             ResidualOp::Fuzzy(fuzzy) => format!("{place} = {}", self.fuzzy(*fuzzy)),
+            ResidualOp::OwnField(other) => format!("{place} equals {}", self.place(key, other).0),
         }
     }
 

@@ -138,6 +138,10 @@ fn residual(bytes: &mut Writer, residual: &Residual) {
             bytes.u8(5);
             fuzzy(bytes, *text);
         }
+        ResidualOp::OwnField(other) => {
+            bytes.u8(6);
+            bytes.path(other);
+        }
     }
     bytes.u16(residual.node);
 }

@@ -218,8 +218,8 @@ pub fn plan_of_length(length: usize, rng: &mut Rng) -> RuleFile {
             2 => LEVEL + 2 + 3,
             // A guide.
             3 => LEVEL + 2 + 7 + NODE,
-            // The name is new once; then it is its own row's field.
-            _ if captured => LEVEL + 2 + 3,
+            // The name is new once; then it is its own row's field, a residual.
+            _ if captured => LEVEL + 2 + 7 + NODE,
             _ => {
                 captured = true;
                 LEVEL + 2 + 10

@@ -96,13 +96,14 @@ fn edge(rng: &mut Rng) -> Edge {
 }
 
 fn residual(rng: &mut Rng) -> (Path, ResidualOp) {
-    let op = match rng.below(6) {
+    let op = match rng.below(7) {
         0 => ResidualOp::Bytes(text(rng)),
         1 => ResidualOp::Prefix(text(rng)),
         2 => ResidualOp::RegisterField(number(rng), path(rng)),
         3 => ResidualOp::RegisterFactId(number(rng)),
         4 => ResidualOp::Disc(wide(rng)),
-        _ => ResidualOp::Fuzzy(fuzzy(rng)),
+        5 => ResidualOp::Fuzzy(fuzzy(rng)),
+        _ => ResidualOp::OwnField(path(rng)),
     };
     (path(rng), op)
 }

@@ -3,14 +3,17 @@
 use crate::file::*;
 use crate::rng::Rng;
 
+use super::own_row::own_rows;
+
 pub fn shape(rng: &mut Rng) -> RuleFile {
-    match rng.weighted(&[18, 20, 20, 16, 22, 4]) {
+    match rng.weighted(&[18, 20, 20, 16, 22, 4, 30]) {
         0 => nested(rng),
         1 => constrained_text(rng),
         2 => compared(rng),
         3 => opened_constant(rng),
         4 => joined_rows(rng),
-        _ => access_chain(rng),
+        5 => access_chain(rng),
+        _ => own_rows(rng),
     }
 }
 

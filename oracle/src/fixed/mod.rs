@@ -1,6 +1,7 @@
 //! The fixed list: files made by hand and by seed, each with its line.
 
 pub mod door;
+mod own_row;
 pub mod plans;
 mod refusal;
 pub mod sketch;
@@ -24,8 +25,9 @@ const HEAD: &str = "\
 # FILE is hex; LINE is hex, or `refused` and the number. A line that begins
 # with `#` says what the next pairs show; a `##` line begins a group.
 # Made by `oracle fixed` (docs/ORACLE.md): the lines are the answers of the copy of
-# the Rust bodies that notes the nodes; less their nodes they are the Rust bodies'
-# own, which a test compares. The group of drawn files comes from seed 3.
+# the Rust bodies that does what document 02 adds and notes the nodes; less their
+# nodes they are the Rust bodies' own, which a test compares, but for files in which
+# these report code 4. The group of drawn files comes from seed 3.
 ";
 
 /// The whole list as text.
@@ -53,6 +55,7 @@ fn groups() -> Vec<(&'static str, Vec<Entry>)> {
         ("starting slots", slots::slot_entries()),
         ("reads", slots::read_entries()),
         ("lists of levels", walk::levels()),
+        ("equal fields of one row", own_row::entries()),
         ("truncations", refusal::truncations()),
         ("reading", refusal::reading()),
         ("whole-file checks", refusal::checks()),

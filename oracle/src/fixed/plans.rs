@@ -105,13 +105,13 @@ fn rooms() -> Vec<Entry> {
 #[rustfmt::skip]
 const EVERY_ITEM: &[(&str, &str)] = &[
     ("levels", "0400"),
-    ("counts", "0900 0000 0300"), ("seek", "03"),
+    ("counts", "0a00 0000 0300"), ("seek", "03"),
         ("part", "00"), ("text", "0200 0107"), ("node", "0a00"),
         ("part", "01"), ("register", "0500"), ("field", "0100"), ("step count", "01"), ("step", "07000000"), ("node", "0b00"),
         ("part", "02"), ("register", "0600"), ("node", "0c00"),
         ("edge", "02"), ("text", "0100 03"), ("edge", "01"), ("text", "0100 09"),
         ("guide", "00"),
-        ("residuals", "0600"),
+        ("residuals", "0700"),
             ("field", "0000"), ("step count", "00"), ("op", "00"), ("text", "0100 ff"), ("node", "0000"),
             ("field", "0100"), ("step count", "02"), ("steps", "0000000001000000"), ("op", "01"), ("text", "0000"), ("node", "0001"),
             ("field", "0200"), ("step count", "00"), ("op", "02"), ("register", "0700"), ("field", "0300"), ("step count", "00"),
@@ -119,6 +119,8 @@ const EVERY_ITEM: &[(&str, &str)] = &[
             ("field", "0300"), ("step count", "00"), ("op", "03"), ("register", "ffff"), ("node", "ffff"),
             ("field", "0400"), ("step count", "00"), ("op", "04"), ("disc", "ffffffff"), ("node", "0d00"),
             ("field", "0500"), ("step count", "00"), ("op", "05"), ("name, distance", "0300 ff"), ("anchor", "00"), ("node", "0e00"),
+            ("field", "0600"), ("step count", "00"), ("op", "06"), ("field", "0700"), ("step count", "01"), ("step", "ffffffff"),
+                ("node", "1500"),
         ("folded", "0200 0000 0100"),
     ("counts", "0200 0100 0100"), ("seek", "02"),
         ("part", "00"), ("text", "0100 00"), ("node", "0f00"),
@@ -140,7 +142,7 @@ const EVERY_ITEM: &[(&str, &str)] = &[
         ("name", "0500"), ("slot", "05"), ("const", "0100"),
     ("constrained", "0200 0000 ffff"),
     ("selects", "0100"), ("register", "0500"), ("field", "0200"), ("step count", "00"), ("disc", "07000000"),
-    ("diagnostics", "0200"), ("node", "0000"), ("code", "01"), ("node", "ffff"), ("code", "0b"),
+    ("diagnostics", "0300"), ("node", "0000"), ("code", "01"), ("node", "0100"), ("code", "04"), ("node", "ffff"), ("code", "0b"),
 ];
 
 /// The last meaning of each item that has a list of them.
@@ -149,7 +151,7 @@ const LAST: [(&str, u8); 9] = [
     ("part", 2),
     ("edge", 2),
     ("guide", 1),
-    ("op", 5),
+    ("op", 6),
     ("anchor", 1),
     ("slot", 5),
     ("step count", MAX_STEPS as u8),

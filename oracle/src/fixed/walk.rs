@@ -109,7 +109,7 @@ pub fn unions() -> Vec<Entry> {
             }),
         ),
         entry(
-            "own-row payload: no part, but building holds, so a closer",
+            "own-row payload: a residual, and building falls, so no closer",
             union_then_int(Type::Int, |s| {
                 s.bind("r", Slot::Field(0, field(2, &[]), 0));
                 let r = s.var("r");
@@ -372,7 +372,7 @@ pub fn levels() -> Vec<Entry> {
         found.push(entry(shows, shared(count, |level| level)));
     }
     found.push(entry(
-        "two levels with one address: code 4",
+        "two levels with one address: fields that are to equal themselves",
         shared(2, |_| 0),
     ));
     found.push(entry(
