@@ -1,6 +1,5 @@
 -- What each primitive of the walk keeps, the walk keeps: the two runs of Runs.antt with no second run, a keeper of nothing that has stopped.
 use mathlib.Core.Bool.{true}
-use mathlib.Core.List.{[]}
 use mathlib.Core.Option.{none}
 use mathlib.Core.Path.{refl}
 use Prim.Native.Nat.{ℕ, _<_}
@@ -9,7 +8,7 @@ use Rattle.rules.specs.Base.{Each}
 use Rattle.rules.specs.File.{Tables, LevelEntry, predicateAt}
 use Rattle.rules.specs.Constant.{constant}
 use Rattle.rules.specs.Events.{Lists, Walk, Ops}
-use Rattle.rules.specs.Walk.{walkLevel}
+use Rattle.rules.specs.Walk.{freshWalk, walkLevel}
 use Rattle.rules.proofs.Cases.{true≢false}
 use Rattle.rules.proofs.Each.{Any, each-all}
 use Rattle.rules.proofs.Keeps.{Keeps}
@@ -33,6 +32,7 @@ nothing-kept T =
       skip = λ s. s;
       closer = λ n s. s;
       bound = λ x t s. s;
+      brings = λ slot ty s. s;
     }
 
 pub any-numbers : (T : Tables) → Numbers T Any Any
@@ -41,7 +41,7 @@ any-numbers T = record { scalar = tt; first = λ t i fs e l. tt; next = λ p t i
 alone : (T : Tables) (address : ℕ) (M : Walk → Walk → Type 0) → Sim T Any Any (nothing-kept T) (λ s. true) address M (λ w s. Nothing)
 alone T address M =
     record {
-      idle = λ s e. record { bind = λ x slot. refl; constrained = λ x. refl; select = λ a path disc. refl; report = λ n code. refl; narrow = λ n path x. refl; skip = refl; closer = λ n. refl; bound = λ x t. refl };
+      idle = λ s e. record { bind = λ x slot. refl; constrained = λ x. refl; select = λ a path disc. refl; report = λ n code. refl; narrow = λ n path x. refl; skip = refl; closer = λ n. refl; bound = λ x t. refl; brings = λ slot ty. refl };
       stays = λ a a′ s e m r. tt;
       lookups = λ a s f e r x. absurd (true≢false e);
       reported = λ a b s s′ e e′ r r′. absurd (true≢false e);
@@ -59,11 +59,12 @@ alone T address M =
       own-fields = λ m at p a s h h′ r. tt;
       tags = λ m d p a s h r. tt;
       closers = λ m a s r. tt;
+      brought = λ slot ty a s r. tt;
     }
 
 -- a level of an accepted file, from bindings that fit
-pub walk-keeps : (T : Tables) (S : Sound T) (R : Walk → Walk → Type 0) → Keeps T R → (l : LevelEntry) → l .predicate < length (T .predicates) → (lists : Lists) → Each (BindingOk T) (lists .bindings) → R (record { lists = lists; events = [] }) (walkLevel T l lists) × Each (BindingOk T) (walkLevel T l lists .lists .bindings)
+pub walk-keeps : (T : Tables) (S : Sound T) (R : Walk → Walk → Type 0) → Keeps T R → (l : LevelEntry) → l .predicate < length (T .predicates) → (lists : Lists) → Each (BindingOk T) (lists .bindings) → R (freshWalk lists) (walkLevel T l lists) × Each (BindingOk T) (walkLevel T l lists .lists .bindings)
 unfolding walkLevel
 walk-keeps T S R K l h lists fit =
-    let a = goes-key T S Any Any (any-numbers T) (nothing-kept T) (λ s. true) (l .address) R (λ w s. Nothing) K (alone T (l .address) R) (l .node) (predicateAt T (l .predicate) .key) (record { lists = lists; events = [] }) tt (S .keys (l .predicate) h) fit tt in
+    let a = goes-key T S Any Any (any-numbers T) (nothing-kept T) (λ s. true) (l .address) R (λ w s. Nothing) K (alone T (l .address) R) (l .node) (predicateAt T (l .predicate) .key) (freshWalk lists) tt (S .keys (l .predicate) h) fit tt in
     (a .grew, a .fit)

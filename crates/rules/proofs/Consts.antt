@@ -10,8 +10,8 @@ use lib.ListN.{length}
 use Rattle.rules.specs.Base.{Each, done, more, lastOr, _whenSome_}
 use Rattle.rules.specs.File.{Tables, Ty, Slot, Binding, Comparison, Node, LevelEntry, varName, nameAt, typeAt, nodeAt, predicateAt}
 use Rattle.rules.specs.Constant.{Const, bytesOnly, lookup, constNode, constOf, standsFor, constantNode, constantBelow, constant}
-use Rattle.rules.specs.Events.{Narrowing, Event, Lists, Walk, bind, constrained, select, report, emit}
-use Rattle.rules.specs.Walk.{narrowing, walkLevel}
+use Rattle.rules.specs.Events.{Narrowing, Event, Lists, Walk, bind, constrained, select, report, emit, brings}
+use Rattle.rules.specs.Walk.{narrowing, freshWalk, walkLevel}
 use Rattle.rules.specs.Placement.{Edges, SeekBuilder, new, withEdges, Compared, isVar, compared, Sided, sided, takeEdge, foldFrom, placeBound, place, placeAll}
 use Rattle.rules.specs.Levels.{Level, starting, levelOf, level, levelsFrom, levels}
 use Rattle.rules.specs.Now.{withBindings, constantNow, Placing, onLists, meet, nowOps, walkNow, levelNow, levelsNowFrom, levelsNow}
@@ -50,7 +50,7 @@ const-snoc bs b x e c =
     (λ q. refl)
 
 pub consts-keeps : (T : Tables) → Keeps T SameConsts
-unfolding bind constrained select report emit
+unfolding bind constrained select report emit brings
 consts-keeps T =
     record {
       same = λ w x. refl;
@@ -65,6 +65,7 @@ consts-keeps T =
       registers = λ m a at p w h h′ x. refl;
       facts = λ m a p w h x. refl;
       own-fields = λ m at p w h h′ x. refl;
+      brought = λ slot ty w x. refl;
       unions = λ m d p w w′ h g. g;
     }
 
@@ -158,7 +159,7 @@ now-bind T x slot a c e k r =
     }
 
 now-runs : (T : Tables) (address : ℕ) → Sim T Any Any (nowOps T) (λ c. false) address SameConsts (Now T)
-unfolding constNode constrained select report onLists placed
+unfolding constNode constrained select report brings onLists placed
 now-runs T address =
     record {
       idle = λ c e. absurd (true≢false (sym e));
@@ -181,6 +182,7 @@ now-runs T address =
       own-fields = λ m at p a c s s′ r. now-meet T (Event.narrow m p (Narrowing.OwnField at)) a c r;
       tags = λ m d p a c s r. now-meet T (Event.narrow m p (Narrowing.Tag d)) a c r;
       closers = λ m a c r. now-meet T (Event.closer m) a c r;
+      brought = λ slot ty a c r. record { same = ap (onLists (brings T slot ty)) (r .same); consts = r .consts };
     }
 
 module _ (T : Tables) (S : Sound T) where
@@ -190,7 +192,7 @@ module _ (T : Tables) (S : Sound T) where
       → Now T (walkLevel T l lists) (walkNow T l lists) × Each (BindingOk T) (walkLevel T l lists .lists .bindings)
   unfolding walkLevel walkNow placed placeAll
   level-now l h lists fit same =
-      let start : Walk = record { lists = lists; events = [] } in
+      let start = freshWalk lists in
       let b = goes-key T S Any Any (any-numbers T) (nowOps T) (λ c. false) (l .address) SameConsts (Now T) (consts-keeps T) (now-runs T (l .address)) (l .node) (predicateAt T (l .predicate) .key) start (record { walk = start; built = new }) (S .keys (l .predicate) h) fit (record { same = refl; consts = same }) in
       (b .rel, b .fit)
 

@@ -38,6 +38,7 @@ module _ (T : Tables) (S : Sound T) where
         begins = refl;
         events-walked = refl;
         lists-walked = refl;
+        mistyped-walked = refl;
         placed = refl;
         kept = kept T (walkLevel T l lists .events) (all-skipped (walkLevel T l lists .events) (level-emits _ skipped T S l h lists fit));
         adds = walk-keeps T S AddsTo (adds-keeps T) l h lists fit .0;

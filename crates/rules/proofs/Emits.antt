@@ -6,7 +6,7 @@ use lib.ListN.{length}
 use Rattle.rules.specs.Base.{Each, done, more}
 use Rattle.rules.specs.File.{Tables, FieldPath, LevelEntry}
 use Rattle.rules.specs.Constant.{Const}
-use Rattle.rules.specs.Events.{Narrowing, Event, Lists, Walk, bind, constrained, select, report, emit}
+use Rattle.rules.specs.Events.{Narrowing, Event, Lists, Walk, bind, constrained, select, report, emit, brings}
 use Rattle.rules.specs.Walk.{narrowing, walkLevel}
 use Rattle.rules.specs.Levels.{levelOf, level, levelsFrom}
 use Rattle.rules.proofs.Sound.{BindingOk, Sound}
@@ -63,7 +63,7 @@ module _ (P : List Event → Type 0) (C : Claim P) where
       }
 
   emits-keeps : (T : Tables) → Keeps T (Emits P)
-  unfolding bind constrained select report
+  unfolding bind constrained select report brings
   emits-keeps T =
       record {
         same = λ w. emits-none w w refl;
@@ -78,6 +78,7 @@ module _ (P : List Event → Type 0) (C : Claim P) where
         registers = λ m a at p w s s′. emits-one w _ (C .registers m a at p);
         facts = λ m a p w s. emits-one w _ (C .facts m a p);
         own-fields = λ m at p w s s′. emits-one w _ (C .own-fields m at p);
+        brought = λ slot ty w. emits-none w _ refl;
         unions = λ m d p w w′ s h. emits-union m d p w w′ h;
       }
 

@@ -76,7 +76,8 @@ module _ (flip : CompareOp → CompareOp) where
   placeAll T (e ∷ es) b = placeAll T es (place T e b)
 
   unfoldable pub levelOf : Tables → Lists → Walk → Level
-  levelOf T start w = record { start = start; left = w .lists; events = w .events; built = placeAll T (w .events) new }
+  levelOf T start w =
+      record { start = start; left = w .lists; events = w .events; built = placeAll T (w .events) new; mistyped = w .mistyped }
 
   unfoldable pub level : Tables → LevelEntry → Lists → Level
   level T entry start = levelOf T start (walkLevel T entry start)
@@ -138,7 +139,7 @@ unfolding levelOf level levelsFrom Levels.levelOf Levels.level Levels.levelsFrom
 levels-is T start [] = refl
 levels-is T start (entry ∷ entries) =
     let w = walkLevel T entry start in
-    ap₂ (λ (b : SeekBuilder) (ls : List Level). record { start = start; left = w .lists; events = w .events; built = b } ∷ ls)
+    ap₂ (λ (b : SeekBuilder) (ls : List Level). record { start = start; left = w .lists; events = w .events; built = b; mistyped = w .mistyped } ∷ ls)
     (place-all-is T (w .events) new) (levels-is T (w .lists) entries)
 
 plan-is : (T : Tables) → plan flipped T ≡ Plan.plan T

@@ -5,7 +5,7 @@ use mathlib.Core.Path.{_≡_, refl, sym, ap, _∙_, subst}
 use Prim.Native.Nat.{ℕ, zero, suc}
 use lib.Dec.{eqb}
 use lib.ListN.{length}
-use Rattle.rules.specs.File.{Tables, FieldTy, Alternative, FieldPattern, Node, FieldPath, Slot, Constraint, typeAt, nodeAt, factTy, recordTy, unionTy, recordFields, fieldPath, then, payload, isConstant}
+use Rattle.rules.specs.File.{Tables, FieldTy, Alternative, Ty, FieldPattern, Node, FieldPath, Slot, Constraint, typeAt, nodeAt, factTy, recordTy, unionTy, recordFields, fieldPath, then, payload, isConstant}
 use Rattle.rules.specs.Constant.{Const, fieldPattern, alternativeOf, onlyField}
 use Rattle.rules.specs.Lookup.{fetchedRegister}
 use Rattle.rules.specs.Events.{Code, Narrowing, Ops}
@@ -24,6 +24,7 @@ pub record Idle {S : Type 0} (o : Ops S) (s : S) : Type 0 where
   pub skip : o .skip s ≡ s
   pub closer : (n : ℕ) → o .closer n s ≡ s
   pub bound : (x t : ℕ) → o .bound x t s ≡ s
+  pub brings : (slot : Slot) (ty : Ty) → o .brings slot ty s ≡ s
 
 module _ {S : Type 0} (o : Ops S) (T : Tables) (s : S) (I : Idle o s) where
   -- Reads.
@@ -194,7 +195,9 @@ module _ {S : Type 0} (o : Ops S) (T : Tables) (s : S) (I : Idle o s) where
     idle-matched n (Slot.Derived from) t path = reported n Code.NyiValueMatch
     idle-matched n (Slot.Field from at ty) t path = by-test (λ w. w ≡ s) (eqb from address) (λ e. I .narrow n path _) (λ e. I .narrow n path _)
     idle-matched n (Slot.Value from ty) t path = I .report n _
-    idle-matched n (Slot.Const folded) t path = by-option (λ w. w ≡ s) (o .constant s folded t) (λ e. idle-partial folded t path) (λ c e. idle-narrowBy n c path)
+    idle-matched n (Slot.Const folded) t path = by-option (λ w. w ≡ s) (o .constant s folded t)
+        (λ e. ap (partial o T address below folded t path) (I .brings (Slot.Const folded) (typeAt T t)) ∙ idle-partial folded t path)
+        (λ c e. idle-narrowBy n c path)
 
     pub idle-injectAlternative : (n : ℕ) (f : FieldPattern) (alt : Option Alternative) (path : FieldPath) → injectAlternative o T address below n f alt path s ≡ s
     unfolding injectAlternative
@@ -281,7 +284,10 @@ module _ {S : Type 0} (o : Ops S) (T : Tables) (s : S) (I : Idle o s) where
     idle-wholeRead n fs =
         by-option (λ w. w ≡ s) (resolve o T n s .slot)
         (λ e. ap (o .skip) (idle-resolve n) ∙ I .skip)
-        (λ slot e. ap (wholeFields o T address n slot 0 fs) (idle-resolve n) ∙ idle-wholeFields n slot 0 fs)
+        (λ slot e.
+        ap (λ w. wholeFields o T address n slot 0 fs (o .brings slot (Ty.Record fs) w)) (idle-resolve n)
+        ∙ ap (wholeFields o T address n slot 0 fs) (I .brings slot (Ty.Record fs))
+        ∙ idle-wholeFields n slot 0 fs)
 
     pub idle-wholeVariable : (x n t : ℕ) (fs : List FieldTy) → wholeVariable o T address x n t fs s ≡ s
     unfolding wholeVariable

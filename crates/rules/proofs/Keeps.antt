@@ -11,7 +11,7 @@ use Rattle.rules.specs.Limits.{depthLimit, stepLimit}
 use Rattle.rules.specs.File.{Tables, FieldTy, Alternative, Ty, FieldPath, Slot, Binding, typeAt, predicateAt, recordTy, unionTy, childTypes, fieldPath, then}
 use Rattle.rules.specs.Constant.{Const, constant, lookup, constNode}
 use Rattle.rules.specs.Lookup.{FieldAt, fieldFrom, fieldOf, slotAt, rowField, rowValue, foldedField, foldedSlot, hoistedSlot}
-use Rattle.rules.specs.Events.{Code, Narrowing, Event, Walk, bind, constrained, select, report, emit}
+use Rattle.rules.specs.Events.{Code, Narrowing, Event, Walk, bind, constrained, select, report, emit, brings}
 use Rattle.rules.specs.Walk.{narrowing, key}
 use Rattle.rules.proofs.Cases.{by-test, some≢none, some-injective, bind-some}
 use Rattle.rules.proofs.Each.{each-last, each-unmap}
@@ -57,6 +57,7 @@ pub record Keeps (T : Tables) (R : Walk → Walk → Type 0) : Type 0 where
   pub registers : (m a : ℕ) (at p : FieldPath) (w : Walk) → Short at → Short p → R w (narrow m p (Narrowing.RegisterField a at) w)
   pub facts : (m a : ℕ) (p : FieldPath) (w : Walk) → Short p → R w (narrow m p (Narrowing.FactId a) w)
   pub own-fields : (m : ℕ) (at p : FieldPath) (w : Walk) → Short at → Short p → R w (narrow m p (Narrowing.OwnField at) w)
+  pub brought : (slot : Slot) (ty : Ty) (w : Walk) → R w (brings T slot ty w)
   pub unions : (m d : ℕ) (p : FieldPath) (w w′ : Walk) → Short p → R (narrow m p (Narrowing.Tag d) w) w′ → R w (emit (Event.closer m) w′)
 
 -- Children of a type, by the forms that the walk asks for.

@@ -8,7 +8,7 @@ use lib.Dec.{eqb}
 use Rattle.rules.specs.Base.{lastOr, _whenSome_}
 use Rattle.rules.specs.File.{Tables, Binding}
 use Rattle.rules.specs.Constant.{lookup}
-use Rattle.rules.specs.Events.{Lists, Walk, bind, constrained, select, report, emit}
+use Rattle.rules.specs.Events.{Lists, Walk, bind, constrained, select, report, emit, brings}
 use Rattle.rules.specs.Demand3.{alreadyBound, NoneAnew, Adds}
 use Rattle.rules.proofs.Cases.{by-test, some≢none}
 use Rattle.rules.proofs.Keeps.{Keeps}
@@ -83,7 +83,7 @@ adds-others : (l m : Lists) → m .bindings ≡ l .bindings → Onwards (l .cons
 adds-others l m e c s d = record { bindings = []; bindings-end = e ∙ sym (append-nil (l .bindings)); none-anew = tt; constrained-end = c; selects-end = s; diagnostics-end = d }
 
 pub adds-keeps : (T : Tables) → Keeps T AddsTo
-unfolding bind constrained select report emit
+unfolding bind constrained select report emit brings
 adds-keeps T =
     record {
       same = λ w. adds-same (w .lists);
@@ -98,5 +98,6 @@ adds-keeps T =
       registers = λ m a at p w s s′. adds-same (w .lists);
       facts = λ m a p w s. adds-same (w .lists);
       own-fields = λ m at p w s s′. adds-same (w .lists);
+      brought = λ slot ty w. adds-same (w .lists);
       unions = λ m d p w w′ s h. h;
     }

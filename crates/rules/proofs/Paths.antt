@@ -4,7 +4,7 @@ use lib.ListN.{length}
 use Rattle.rules.specs.Base.{Each, done, more}
 use Rattle.rules.specs.File.{Tables, FieldPath, Slot, LevelEntry}
 use Rattle.rules.specs.Constant.{Const}
-use Rattle.rules.specs.Events.{Narrowing, Event, Lists, Walk, bind, constrained, select, report, emit}
+use Rattle.rules.specs.Events.{Narrowing, Event, Lists, Walk, bind, constrained, select, report, emit, brings}
 use Rattle.rules.specs.Walk.{narrowing, walkLevel}
 use Rattle.rules.proofs.Each.{each-append, each-imply}
 use Rattle.rules.proofs.Sound.{SlotOk, BindingOk, Sound}
@@ -53,7 +53,7 @@ emits-constant n (Const.Prefix bytes) p w h = emits _ w (h, tt)
 emits-constant n (Const.Fuzzy x d a) p w h = emits _ w (h, tt)
 
 pub short-keeps : (T : Tables) → Keeps T StillShort
-unfolding bind constrained select report
+unfolding bind constrained select report brings
 short-keeps T =
     record {
       same = λ w s. s;
@@ -68,6 +68,7 @@ short-keeps T =
       registers = λ m a at p w h h′. emits _ w (h′, h);
       facts = λ m a p w h. emits _ w (h, tt);
       own-fields = λ m at p w h h′. emits _ w (h′, h);
+      brought = λ slot ty w s. record { events = s .events; selects = s .selects };
       unions = λ m d p w w′ h g s. emits (Event.closer m) w′ tt (g (emits _ w (h, tt) s));
     }
 

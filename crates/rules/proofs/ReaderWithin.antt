@@ -11,7 +11,7 @@ use Rattle.rules.specs.File.{Tables, FieldTy, Alternative, Ty, FieldPatt
 use Rattle.rules.specs.Constant
 use Rattle.rules.specs.Constant.{Const, constant, fieldPattern, alternativeOf, onlyField, lookup}
 use Rattle.rules.specs.Lookup.{FieldAt, hoistedSlot, fetchedRegister, fieldFrom, fieldOf, slotAt, rowField, rowValue, foldedField, foldedSlot}
-use Rattle.rules.specs.Events.{Code, Select, Narrowing, Event, Lists, Walk, walkOps, bind, constrained, select, report, emit}
+use Rattle.rules.specs.Events.{Code, Select, Narrowing, Event, Lists, Walk, walkOps, bind, constrained, select, report, emit, brings}
 use Rattle.rules.specs.Resolve
 use Rattle.rules.specs.Resolve.{Answer, Resolver, follow, give}
 use Rattle.rules.specs.Walk
@@ -90,6 +90,10 @@ reports n c w h k =
 emits : (e : Event) (w : Walk) → EventWithin e → Within w → Within (emit e w)
 unfolding emit
 emits e w h k = record { lists = k .lists; events = each-snoc (k .events) h }
+
+bringing : (T : Tables) (s : Slot) (ty : Ty) (w : Walk) → Within w → Within (brings T s ty w)
+unfolding brings
+bringing T s ty w k = record { lists = k .lists; events = k .events }
 
 skips : (w : Walk) → Within w → Within (emit Event.skip w)
 skips w k = emits Event.skip w tt k
@@ -470,7 +474,7 @@ module _ (T : Tables) (N : TablesWithin T) where
     matches n (Slot.Derived from) t p w l r g v = reports n _ _ l (skips w v)
     matches n (Slot.Field from at ty) t p w l r g v = either Within (eqb from address) (emits (Event.narrow n p (Narrowing.OwnField at)) w (l, g, r .1) v) (emits (Event.narrow n p (Narrowing.RegisterField from at)) w (l, g, r) v)
     matches n (Slot.Value from ty) t p w l r g v = reports n _ w l v
-    matches n (Slot.Const folded) t p w l r g v = by-perhaps Within (constant-within folded t) (partials folded t p w g v) (λ c q. narrows n c p w l q g v)
+    matches n (Slot.Const folded) t p w l r g v = by-perhaps Within (constant-within folded t) (partials folded t p _ g (bringing T (Slot.Const folded) (typeAt T t) w v)) (λ c q. narrows n c p w l q g v)
 
     injects-alternative : (n : ℕ) (f : FieldPattern) {o : Option Alternative} (p : FieldPath) (w : Walk) → n < 65536 → f .node < 65536 → Perhaps AlternativeWithin o → PathWithin p → Within w → Within (Walk.injectAlternative (walkOps T) T address below n f o p w)
     unfolding Walk.injectAlternative
@@ -565,7 +569,7 @@ module _ (T : Tables) (N : TablesWithin T) where
     unfolding Walk.wholeRead
     whole-reads n fs l k w v =
         let b = resolves n l w v in
-        by-perhaps Within (b .slot) (skips _ (b .walk)) (λ s q. whole-fields n s 0 fs l q (omega arith) _ (b .walk))
+        by-perhaps Within (b .slot) (skips _ (b .walk)) (λ s q. whole-fields n s 0 fs l q (omega arith) _ (bringing T s (Ty.Record fs) _ (b .walk)))
 
     whole-variables : (x n t : ℕ) (fs : List FieldTy) → x < 65536 → n < 65536 → t < 65536 → length fs < 256 → (w : Walk) → Within w → Within (Walk.wholeVariable (walkOps T) T address x n t fs w)
     unfolding Walk.wholeVariable

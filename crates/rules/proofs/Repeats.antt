@@ -7,7 +7,7 @@ use lib.ListN.{length}
 use Rattle.rules.specs.Base.{Each, done, more}
 use Rattle.rules.specs.File.{Tables, LevelEntry}
 use Rattle.rules.specs.Checks.{checks, fault}
-use Rattle.rules.specs.Events.{Code, Diagnostic, Lists, Walk, bind, constrained, select, report, emit}
+use Rattle.rules.specs.Events.{Code, Diagnostic, Lists, Walk, bind, constrained, select, report, emit, brings}
 use Rattle.rules.specs.Walk.{walkLevel}
 use Rattle.rules.specs.Levels.{starting, levelOf, level, levelsFrom, levels, leftBy}
 use Rattle.rules.specs.Plan.{planOf, plan}
@@ -21,7 +21,7 @@ abbrev AllReported : Lists → Type 0
 AllReported l = Each (λ (d : Diagnostic). Reported (d .code)) (l .diagnostics)
 
 reported-keeps : (T : Tables) → Keeps T (λ w w′. AllReported (w .lists) → AllReported (w′ .lists))
-unfolding bind constrained select report emit
+unfolding bind constrained select report emit brings
 reported-keeps T =
     record {
       same = λ w r. r;
@@ -36,6 +36,7 @@ reported-keeps T =
       registers = λ m a at p w s s′ r. r;
       facts = λ m a p w s r. r;
       own-fields = λ m at p w s s′ r. r;
+      brought = λ slot ty w r. r;
       unions = λ m d p w w′ s h r. h r;
     }
 

@@ -10,10 +10,10 @@ use native.Mathlib.Omega.{arith}
 use lib.Dec.{eqb}
 use lib.ListN.{length}
 use Rattle.rules.specs.Base.{Each, done, more}
-use Rattle.rules.specs.File.{Tables, FieldTy, Alternative, FieldPattern, Node, FieldPath, Slot, Constraint, typeAt, nodeAt, factTy, recordTy, unionTy, recordFields, fieldPath, then, payload, isConstant}
+use Rattle.rules.specs.File.{Tables, FieldTy, Alternative, Ty, FieldPattern, Node, FieldPath, Slot, Constraint, typeAt, nodeAt, factTy, recordTy, unionTy, recordFields, fieldPath, then, payload, isConstant}
 use Rattle.rules.specs.Constant.{Const, constant, fieldPattern, alternativeOf, onlyField, lookup, constNode}
 use Rattle.rules.specs.Lookup.{fieldOf, hoistedSlot, fetchedRegister}
-use Rattle.rules.specs.Events.{Code, Narrowing, Event, Walk, Ops, walkOps, bind, constrained, select, report, emit}
+use Rattle.rules.specs.Events.{Code, Narrowing, Event, Walk, Ops, walkOps, bind, constrained, select, report, emit, brings}
 use Rattle.rules.specs.Resolve.{Answer, Resolver, follow, _whenFound_, give, declined, fetchedRow, dereference, fieldOfRow, fieldSlot, valueSlot, selected, selectSlot, resolveNode, resolveBelow, resolve}
 use Rattle.rules.specs.Walk.{narrowing, wholeNode, narrowBy, FieldWalk, eachField, constrainEach, constrainBy, constrain, ranked, refersTo, deferred, unresolved, partialFields, partial, matched, injectAlternative, injectOnly, inject, readAnswer, read, ranged, variable, fieldNode, fieldBelow, field, wholeFields, wholeRead, wholeVariable, wholeKey, recordKey, key}
 use Rattle.rules.proofs.Cases.{by-test, true≢false, some≢none, some-injective}
@@ -56,6 +56,7 @@ pub record Sim (T : Tables) (P : FieldPath → Type 0) (N : ℕ → Type 0) {C :
   pub own-fields : (m : ℕ) (at p : FieldPath) (a : Walk) (c : C) → Short at → Short p → R a c → R (narrow m p (Narrowing.OwnField at) a) (o .narrow m p (Narrowing.OwnField at) c)
   pub tags : (m d : ℕ) (p : FieldPath) (a : Walk) (c : C) → Short p → R a c → R (narrow m p (Narrowing.Tag d) a) (o .narrow m p (Narrowing.Tag d) c)
   pub closers : (m : ℕ) (a : Walk) (c : C) → R a c → R (emit (Event.closer m) a) (o .closer m c)
+  pub brought : (slot : Slot) (ty : Ty) (a : Walk) (c : C) → R a c → R (brings T slot ty a) (o .brings slot ty c)
 
 module _ (T : Tables) (S : Sound T) (P : FieldPath → Type 0) (N : ℕ → Type 0) (numbers : Numbers T P N) {C : Type 0} (o : Ops C) (stopped : C → Bool) (address : ℕ) (M : Walk → Walk → Type 0) (R : Walk → C → Type 0) (K : Keeps T M) (sim : Sim T P N o stopped address M R) where
   abbrev Fit : Walk → Type 0
@@ -97,6 +98,10 @@ module _ (T : Tables) (S : Sound T) (P : FieldPath → Type 0) (N : ℕ → Type
   goes-skip : (a : Walk) (c : C) → Goes a (skip a) c (o .skip c)
   unfolding emit
   goes-skip a c f r = record { grew = K .skips a; fit = f; rel = sim .skips a c r; still = λ h. ap stopped (sim .idle c h .skip) ∙ h }
+
+  goes-brings : (slot : Slot) (ty : Ty) (a : Walk) (c : C) → Goes a (brings T slot ty a) c (o .brings slot ty c)
+  unfolding brings
+  goes-brings slot ty a c f r = record { grew = K .brought slot ty a; fit = f; rel = sim .brought slot ty a c r; still = λ h. ap stopped (sim .idle c h .brings slot ty) ∙ h }
 
   goes-bound : (x t : ℕ) (a : Walk) (c : C) → Goes a (skip (emit (Event.bound x t) a)) c (o .skip (o .bound x t c))
   unfolding emit
@@ -404,7 +409,8 @@ module _ (T : Tables) (S : Sound T) (P : FieldPath → Type 0) (N : ℕ → Type
         by-test₂ (λ a′ c′. Goes a a′ c c′) (eqb from address) (λ e. goes-own n at path a c short (stands-short path t s)) (λ e. goes-register n from at path a c short (stands-short path t s))
     goes-matched n (Slot.Value from ty) t path a c ok s = goes-report n Code.NyiValueMatch tt a c
     goes-matched n (Slot.Const folded) t path a c ok s =
-        goes-constant-or n folded t path a _ c _ (stands-short path t s) (goes-partial folded t path a c s)
+        goes-constant-or n folded t path a _ c _ (stands-short path t s)
+        (goes-brings (Slot.Const folded) (typeAt T t) a c and goes-partial folded t path _ _ s)
 
     goes-alternative : (n : ℕ) (g : FieldPattern) (alt : Option Alternative) (t : ℕ) (path : FieldPath) (a : Walk) (c : C) → Stands T P path t → ((b : Alternative) → alt ≡ some b → Child T t (b .type)) → ((b : Alternative) → alt ≡ some b → P (payload path (b .disc))) → Goes a (injectAlternative (walkOps T) T address below n g alt path a) c (injectAlternative o T address below′ n g alt path c)
     unfolding injectAlternative payload
@@ -526,16 +532,16 @@ module _ (T : Tables) (S : Sound T) (P : FieldPath → Type 0) (N : ℕ → Type
       let x = reads-resolve n a c fit r in
       ((λ _ _. reads-walk x)
       and sync (resolve (walkOps T) T n a .walk) (resolve o T n c .walk) (resolve (walkOps T) T n a .slot) (resolve o T n c .slot) _
-      (λ (found : Option Slot). elim found [ none ↦ o .skip (resolve o T n c .walk) | some s ↦ wholeFields o T address n s 0 fs (resolve o T n c .walk) ])
+      (λ (found : Option Slot). elim found [ none ↦ o .skip (resolve o T n c .walk) | some s ↦ wholeFields o T address n s 0 fs (o .brings s (Ty.Record fs) (resolve o T n c .walk)) ])
       (λ _ e _. x .same e)
       (by-option₂ (λ b d. Goes (resolve (walkOps T) T n a .walk) b (resolve o T n c .walk) d) (resolve (walkOps T) T n a .slot)
       (λ e. goes-skip _ _)
-      (λ s e. goes-whole-fields n s (x .ok s e) 0 (k .fits) (k .within) _ _))
+      (λ s e. goes-brings s (Ty.Record fs) _ _ and goes-whole-fields n s (x .ok s e) 0 (k .fits) (k .within) _ _))
       (λ e. rests-at (resolve o T n c .slot) e)) fit r
     where
-      rests-at : (found : Option Slot) (e : stopped (resolve o T n c .walk) ≡ true) → (elim found as (λ _. C) [ none ↦ o .skip (resolve o T n c .walk) | some s ↦ wholeFields o T address n s 0 fs (resolve o T n c .walk) ]) ≡ resolve o T n c .walk
+      rests-at : (found : Option Slot) (e : stopped (resolve o T n c .walk) ≡ true) → (elim found as (λ _. C) [ none ↦ o .skip (resolve o T n c .walk) | some s ↦ wholeFields o T address n s 0 fs (o .brings s (Ty.Record fs) (resolve o T n c .walk)) ]) ≡ resolve o T n c .walk
       rests-at none e = sim .idle _ e .skip
-      rests-at (some s) e = idle-wholeFields o T _ (sim .idle _ e) address n s 0 fs
+      rests-at (some s) e = ap (wholeFields o T address n s 0 fs) (sim .idle _ e .brings s (Ty.Record fs)) ∙ idle-wholeFields o T _ (sim .idle _ e) address n s 0 fs
 
   goes-whole-variable : (x n t : ℕ) {fs : List FieldTy} → N x → t < length (T .types) → KeyFields 0 fs → (a : Walk) (c : C) → Goes a (wholeVariable (walkOps T) T address x n t fs a) c (wholeVariable o T address x n t fs c)
   unfolding wholeVariable emit

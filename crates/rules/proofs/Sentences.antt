@@ -9,7 +9,7 @@ use lib.Dec.{eqb}
 use Rattle.rules.specs.File.{Tables, FieldPath, Slot, LevelEntry}
 use Rattle.rules.specs.Constant.{term}
 use Rattle.rules.specs.Events.{Narrowing, Lists, Ops, walkOps, emit}
-use Rattle.rules.specs.Walk.{FieldWalk, constrainBy, constrain, matched, read, variable}
+use Rattle.rules.specs.Walk.{FieldWalk, constrainBy, constrain, matched, read, variable, freshWalk}
 use Rattle.rules.specs.Placement.{SeekKeyPart, SeekBuilder, withPart, withCloser, withRange, withResidual, fall, placePrefix, placeOwn, placeNarrowing, placeCloser, place, placeAll}
 use Rattle.rules.specs.Levels.{levelOf, level, levelsFrom}
 use Rattle.rules.specs.Demand3.{levelAt}
@@ -31,7 +31,7 @@ module _ {S : Type 0} (o : Ops S) (T : Tables) (address : ℕ) (below : FieldWal
 
 -- "Without constraints: bound, then skip": such a Var ends building
 pub capture-falls : (T : Tables) (x t : ℕ) (path : FieldPath) (lists : Lists) (b : SeekBuilder)
-    → placeAll T (constrainBy (walkOps T) T [] x t path (record { lists = lists; events = [] }) .events) b .building ≡ false
+    → placeAll T (constrainBy (walkOps T) T [] x t path (freshWalk lists) .events) b .building ≡ false
 unfolding constrainBy emit placeAll place fall
 capture-falls T x t path lists b = refl
 

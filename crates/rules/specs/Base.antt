@@ -14,6 +14,10 @@ abbrev pub both : Bool → Bool → Bool
 both true b = b
 both false b = false
 
+abbrev pub either : Bool → Bool → Bool
+either true b = true
+either false b = b
+
 -- Options: go on with what is there.
 infixl 1 _whenSome_
 unfoldable pub _whenSome_ : {A B : Type 0} → Option A → (A → Option B) → Option B

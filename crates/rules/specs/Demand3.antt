@@ -110,6 +110,7 @@ pub record LevelKept (T : Tables) (entry : LevelEntry) (start : Lists) (l : Leve
   -- "every level holds just what 01's placement makes of 01's walk"
   pub events-walked : l .events ≡ walkLevel T entry start .events
   pub lists-walked : l .left ≡ walkLevel T entry start .lists
+  pub mistyped-walked : l .mistyped ≡ walkLevel T entry start .mistyped
   pub placed : l .built ≡ placeAll T (l .events) new
   pub kept : Kept T (l .events) (l .built)
   -- "no name already bound is bound anew"
@@ -120,7 +121,7 @@ unfoldable pub entryAt : Tables → ℕ → LevelEntry
 entryAt T k = getD (T .levels) k (record { predicate = 0; node = 0; address = 0 })
 
 unfoldable pub levelAt : Tables → List Level → ℕ → Level
-levelAt T ls k = getD ls k (record { start = starting T; left = starting T; events = []; built = new })
+levelAt T ls k = getD ls k (record { start = starting T; left = starting T; events = []; built = new; mistyped = false })
 
 -- "The first level begins from the file's starting bindings, each later one from exactly what the one before it left."
 unfoldable pub startOf : Tables → List Level → ℕ → Lists

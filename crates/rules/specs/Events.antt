@@ -1,9 +1,11 @@
 -- "Walk", what a level's walk gives: the level's events, and what it adds to the four lists.
+use mathlib.Core.Bool.{Bool, true, false}
 use mathlib.Core.List.{List, [], _∷_, _++_}
-use mathlib.Core.Option.{Option}
+use mathlib.Core.Option.{Option, none, some}
 use Prim.Native.Nat.{ℕ}
 use lib.ListN.{length}
-use Rattle.rules.specs.File.{Tables, Anchor, FieldPath, Slot, Binding}
+use Rattle.rules.specs.Base.{either}
+use Rattle.rules.specs.File.{Tables, FieldTy, Ty, Anchor, FieldPattern, FieldPath, Slot, Binding, nodeAt, recordFields, recordTy}
 use Rattle.rules.specs.Constant.{Const, lookup, constant}
 
 -- "Plan": the diagnostics' codes. Request [8]: NyiRepeatedVariable is made nowhere any more (proofs/Repeats.antt); it keeps its number.
@@ -59,9 +61,11 @@ pub record Lists : Type 0 where
   pub selects : List Select
   pub diagnostics : List Diagnostic
 
+-- mistyped: request [7], whether the walk has brought a constant to a type that gives it no bytes
 pub record Walk : Type 0 where
   pub lists : Lists
   pub events : List Event
+  pub mistyped : Bool
 
 -- "What it adds to a list stands at that list's end, in the order met." Each of these adds one entry.
 unfoldable pub bind : ℕ → Slot → Walk → Walk
@@ -74,6 +78,7 @@ bind x slot w =
         diagnostics = w .lists .diagnostics;
       };
       events = w .events;
+      mistyped = w .mistyped;
     }
 
 unfoldable pub constrained : ℕ → Walk → Walk
@@ -86,6 +91,7 @@ constrained x w =
         diagnostics = w .lists .diagnostics;
       };
       events = w .events;
+      mistyped = w .mistyped;
     }
 
 unfoldable pub select : ℕ → FieldPath → ℕ → Walk → Walk
@@ -98,6 +104,7 @@ select address path disc w =
         diagnostics = w .lists .diagnostics;
       };
       events = w .events;
+      mistyped = w .mistyped;
     }
 
 unfoldable pub report : ℕ → Code → Walk → Walk
@@ -110,14 +117,33 @@ report n code w =
         diagnostics = w .lists .diagnostics ++ (record { node = n; code = code } ∷ []);
       };
       events = w .events;
+      mistyped = w .mistyped;
     }
 
 unfoldable pub emit : Event → Walk → Walk
-emit e w = record { lists = w .lists; events = w .events ++ (e ∷ []) }
+emit e w = record { lists = w .lists; events = w .events ++ (e ∷ []); mistyped = w .mistyped }
+
+-- Request [7], refusal 19: ".. a constant, or a pattern whose slot is a Const .., unless both are records"
+unfoldable pub unlessRecords : Option (List FieldPattern) → Option (List FieldTy) → Bool
+unlessRecords none fs = true
+unlessRecords (some fields) none = true
+unlessRecords (some fields) (some fs) = false
+
+unfoldable pub isMistyped : Tables → Slot → Ty → Bool
+isMistyped T (Slot.Row a p) ty = false
+isMistyped T (Slot.Key a t) ty = false
+isMistyped T (Slot.Derived a) ty = false
+isMistyped T (Slot.Field a path t) ty = false
+isMistyped T (Slot.Value a t) ty = false
+isMistyped T (Slot.Const n) ty = unlessRecords (recordFields (nodeAt T n)) (recordTy ty)
+
+-- a slot that is brought to a type which gives it no bytes
+unfoldable pub brings : Tables → Slot → Ty → Walk → Walk
+brings T slot ty w = record { lists = w .lists; events = w .events; mistyped = either (w .mistyped) (isMistyped T slot ty) }
 
 -- What the walk asks of whatever keeps its lists and takes its events. The walk is told over any such S, so that it can be read once for
 -- these lists and once for a program's memory. `constant` is asked of the state too, since the Rust's reads the bindings as they stand.
--- `narrow` and `closer` are given the node first.
+-- `narrow` and `closer` are given the node first. `brings` is told of each slot that is brought to a type which gives it no bytes.
 pub record Ops (S : Type 0) : Type 0 where
   pub lookup : S → ℕ → Option Slot
   pub constant : S → ℕ → ℕ → Option Const
@@ -130,6 +156,7 @@ pub record Ops (S : Type 0) : Type 0 where
   pub skip : S → S
   pub closer : ℕ → S → S
   pub bound : ℕ → ℕ → S → S
+  pub brings : Slot → Ty → S → S
 
 -- the lists and events of this document; `constant` reads the file's bindings
 abbrev pub walkOps : Tables → Ops Walk
@@ -146,8 +173,9 @@ walkOps T =
       skip = λ w. emit Event.skip w;
       closer = λ n w. emit (Event.closer n) w;
       bound = λ x t w. emit (Event.bound x t) w;
+      brings = brings T;
     }
 
 unfoldable pub openEvents : Unit {0}
-unfolding codeNumber bind constrained select report emit
+unfolding codeNumber bind constrained select report emit unlessRecords isMistyped brings
 openEvents = tt

@@ -1,4 +1,5 @@
 -- "A file's list of levels": each level from exactly what the one before left.
+use mathlib.Core.Bool.{Bool}
 use mathlib.Core.List.{List, [], _∷_}
 use Prim.Native.Nat.{ℕ, suc}
 use Rattle.rules.specs.File.{Tables, LevelEntry}
@@ -6,19 +7,22 @@ use Rattle.rules.specs.Events.{Event, Lists, Walk}
 use Rattle.rules.specs.Walk.{walkLevel}
 use Rattle.rules.specs.Placement.{SeekBuilder, new, placeAll}
 
--- the lists that the level begins from, the lists that it leaves, its events, and what placement makes of them
+-- The lists that the level begins from, the lists that it leaves, its events, and what placement makes of them; mistyped: its walk has
+-- brought a constant to a type that gives it no bytes (request [7]).
 pub record Level : Type 0 where
   pub start : Lists
   pub left : Lists
   pub events : List Event
   pub built : SeekBuilder
+  pub mistyped : Bool
 
 -- "Before the first level the bindings are the file's, in file order, and the other three are empty."
 unfoldable pub starting : Tables → Lists
 starting T = record { bindings = T .bindings; constrained = []; selects = []; diagnostics = [] }
 
 unfoldable pub levelOf : Tables → Lists → Walk → Level
-levelOf T start w = record { start = start; left = w .lists; events = w .events; built = placeAll T (w .events) new }
+levelOf T start w =
+    record { start = start; left = w .lists; events = w .events; built = placeAll T (w .events) new; mistyped = w .mistyped }
 
 unfoldable pub level : Tables → LevelEntry → Lists → Level
 level T entry start = levelOf T start (walkLevel T entry start)

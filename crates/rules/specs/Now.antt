@@ -7,8 +7,8 @@ use Prim.Native.Nat.{ℕ}
 use lib.ListN.{length}
 use Rattle.rules.specs.File.{Tables, Binding, LevelEntry, predicateAt}
 use Rattle.rules.specs.Constant.{Const, constant, lookup}
-use Rattle.rules.specs.Events.{Event, Lists, Walk, Ops, bind, constrained, select, report, emit}
-use Rattle.rules.specs.Walk.{key}
+use Rattle.rules.specs.Events.{Event, Lists, Walk, Ops, bind, constrained, select, report, emit, brings}
+use Rattle.rules.specs.Walk.{key, freshWalk}
 use Rattle.rules.specs.Placement.{SeekBuilder, new, place}
 use Rattle.rules.specs.Levels.{Level, starting}
 
@@ -37,7 +37,7 @@ pub record Placing : Type 0 where
   pub walk : Walk
   pub built : SeekBuilder
 
--- an entry more in one of the lists
+-- an entry more in one of the lists, or a constant noted: nothing is placed
 unfoldable pub onLists : (Walk → Walk) → Placing → Placing
 onLists f s = record { walk = f (s .walk); built = s .built }
 
@@ -60,16 +60,18 @@ nowOps T =
       skip = λ s. meet T Event.skip s;
       closer = λ n s. meet T (Event.closer n) s;
       bound = λ x t s. meet T (Event.bound x t) s;
+      brings = λ slot ty s. onLists (brings T slot ty) s;
     }
 
 -- one level's walk and placement, and the list of levels
 unfoldable pub walkNow : Tables → LevelEntry → Lists → Placing
 walkNow T l lists =
-    let start : Placing = record { walk = record { lists = lists; events = [] }; built = new } in
+    let start : Placing = record { walk = freshWalk lists; built = new } in
     key (nowOps T) T (l .address) (l .node) (predicateAt T (l .predicate) .key) start
 
 unfoldable pub levelNow : Lists → Placing → Level
-levelNow start s = record { start = start; left = s .walk .lists; events = s .walk .events; built = s .built }
+levelNow start s =
+    record { start = start; left = s .walk .lists; events = s .walk .events; built = s .built; mistyped = s .walk .mistyped }
 
 unfoldable pub levelsNowFrom : Tables → Lists → List LevelEntry → List Level
 levelsNowFrom T start [] = []

@@ -6,7 +6,7 @@ use Prim.Native.Nat.{ℕ, zero, suc}
 use lib.ListN.{length}
 use lib.Dec.{eqb}
 use Rattle.rules.specs.Base.{filter}
-use Rattle.rules.specs.File.{Tables, FieldTy, Alternative, Anchor, FieldPattern, Node, FieldPath, Slot, Constraint, LevelEntry}
+use Rattle.rules.specs.File.{Tables, FieldTy, Alternative, Ty, Anchor, FieldPattern, Node, FieldPath, Slot, Constraint, LevelEntry}
 use Rattle.rules.specs.File.{typeAt, predicateAt, nodeAt, recordFields, factTy, recordTy, unionTy, fieldPath, then, payload}
 use Rattle.rules.specs.Constant.{Const, fieldPattern, alternativeOf, onlyField}
 use Rattle.rules.specs.Events.{Code, Narrowing, Lists, Walk, Ops, walkOps}
@@ -97,7 +97,7 @@ ranked T x = constraintsOf T x 0 ++ constraintsOf T x 1 ++ constraintsOf T x 2 +
 
 -- The walk, over whatever keeps its lists and takes its events.
 module _ {S : Type 0} (o : Ops S) (T : Tables) where
-  open Ops o using (lookup, constant, reported, bind, constrained, report, narrow, skip, closer, bound)
+  open Ops o using (lookup, constant, reported, bind, constrained, report, narrow, skip, closer, bound, brings)
 
   -- Rust `narrow_by`; n is the node that made the narrowing
   unfoldable pub narrowBy : ℕ → Const → FieldPath → S → S
@@ -155,7 +155,11 @@ module _ {S : Type 0} (o : Ops S) (T : Tables) where
           | false ↦ narrow n path (Narrowing.RegisterField from at) w
         ]
     matched n (Slot.Value from ty) t path w = report n Code.NyiValueMatch w
-    matched n (Slot.Const folded) t path w = elim (constant w folded t) [ some c ↦ narrowBy n c path w | none ↦ partial folded t path w ]
+    matched n (Slot.Const folded) t path w =
+        elim (constant w folded t) [
+          | some c ↦ narrowBy n c path w
+          | none ↦ partial folded t path (brings (Slot.Const folded) (typeAt T t) w)
+        ]
 
     -- "`inject` emits tag, payload, closer"
     unfoldable pub injectAlternative : ℕ → FieldPattern → Option Alternative → FieldPath → S → S
@@ -233,10 +237,11 @@ module _ {S : Type 0} (o : Ops S) (T : Tables) where
         wholeFields n slot (suc i) fs
         (elim (a .slot) [ none ↦ skip (a .walk) | some s ↦ matched address field (wholeNode n s) s (f .type) (fieldPath i) (a .walk) ])
 
+    -- a Record type gives no bytes to a slot that is one constant and no Record, also where it has no fields
     unfoldable pub wholeRead : ℕ → List FieldTy → S → S
     wholeRead n fs w =
         let a = resolve o T n w in
-        elim (a .slot) [ none ↦ skip (a .walk) | some slot ↦ wholeFields n slot 0 fs (a .walk) ]
+        elim (a .slot) [ none ↦ skip (a .walk) | some slot ↦ wholeFields n slot 0 fs (brings slot (Ty.Record fs) (a .walk)) ]
 
     unfoldable pub wholeVariable : ℕ → ℕ → ℕ → List FieldTy → S → S
     wholeVariable x n t fs w = elim (lookup w x) [ none ↦ bind x (Slot.Key address t) (skip w) | some slot ↦ wholeRead n fs w ]
@@ -269,9 +274,13 @@ module _ {S : Type 0} (o : Ops S) (T : Tables) where
     unfoldable pub key : ℕ → ℕ → S → S
     key n t w = elim (recordTy (typeAt T t)) [ some fs ↦ recordKey (recordFields (nodeAt T n)) n t fs w | none ↦ field n t (fieldPath 0) w ]
 
+-- a level's walk before its first event
+abbrev pub freshWalk : Lists → Walk
+freshWalk lists = record { lists = lists; events = []; mistyped = false }
+
 -- "A level's walk is fed its predicate, node and address, the file's tables, and the four lists"
 unfoldable pub walkLevel : Tables → LevelEntry → Lists → Walk
-walkLevel T l lists = key (walkOps T) T (l .address) (l .node) (predicateAt T (l .predicate) .key) (record { lists = lists; events = [] })
+walkLevel T l lists = key (walkOps T) T (l .address) (l .node) (predicateAt T (l .predicate) .key) (freshWalk lists)
 
 unfoldable pub openWalk : Unit {0}
 unfolding narrowing wholeNode narrowBy anchorRank rank eachField constraintsOf ranked constrainEach constrainBy constrain refersTo deferred

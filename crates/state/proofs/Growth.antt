@@ -8,9 +8,9 @@ use native.Mathlib.Nat.{suc-add, zero-add, add-zero}
 use native.Mathlib.Omega.{arith}
 use lib.ListN.{length, drop, length-append}
 use Rattle.rules.specs.Base.{concatMap}
-use Rattle.rules.specs.File.{Tables, FieldPath, Slot, Anchor}
+use Rattle.rules.specs.File.{Tables, Ty, FieldPath, Slot, Anchor}
 use Rattle.rules.specs.Constant.{Const, term}
-use Rattle.rules.specs.Events.{Code, Narrowing, Event, Lists, Walk, bind, constrained, select, report, emit}
+use Rattle.rules.specs.Events.{Code, Narrowing, Event, Lists, Walk, bind, constrained, select, report, emit, brings}
 use Rattle.rules.specs.Walk.{narrowing}
 use Rattle.rules.specs.Placement.{SeekKeyPart, Part, Residual, Guide, Range, Edges, SeekBuilder, new, withPart, withResidual, withGuide, withRange, withEdges, withCloser, fall, placePart, placePrefix, attachable, placeFuzzy, placeOwn, placeNarrowing, placeCloser, placeBound, place, placeAll}
 use Rattle.rules.specs.Levels.{narrowings}
@@ -232,6 +232,10 @@ pub grew-report : (T : Tables) (n : ℕ) (c : Code) (w : Walk) → Grew T w (rep
 unfolding report listSize
 grew-report T n c w = grew-lists T w (report n c w) refl (omega (arith, length-snoc Plan.diagnostic (w .lists .diagnostics) (record { node = n; code = c })))
 
+pub grew-brings : (T : Tables) (slot : Slot) (ty : Ty) (w : Walk) → Grew T w (brings T slot ty w)
+unfolding brings
+grew-brings T slot ty w = grew-lists T w (brings T slot ty w) refl (omega arith)
+
 pub grew-skip : (T : Tables) (w : Walk) → Grew T w (skip w)
 unfolding place narrowings
 grew-skip T w = grew-emit T Event.skip w (rw add-zero (step-fall (met w) (built T w)))
@@ -282,5 +286,6 @@ grew-keeps T =
       registers = λ m a at p w s s′. grew-register T m a at p w;
       facts = λ m a p w s. grew-fact T m a p w;
       own-fields = λ m at p w s s′. grew-own T m at p w;
+      brought = grew-brings T;
       unions = λ m d p w w′ s g. grew-next T w _ _ (grew-tag T m d p w) (grew-next T _ _ _ g (grew-closer T m w′));
     }

@@ -13,7 +13,7 @@ use Rattle.rules.specs.Base.{Each, all, concatMap}
 use Rattle.rules.specs.Limits.{planLimit}
 use Rattle.rules.specs.File.{Tables, LevelEntry, predicateAt}
 use Rattle.rules.specs.Events.{Lists, Walk}
-use Rattle.rules.specs.Walk.{walkLevel}
+use Rattle.rules.specs.Walk.{freshWalk, walkLevel}
 use Rattle.rules.specs.Placement.{SeekBuilder, new, placeAll}
 use Rattle.rules.specs.Levels as LevelsRules
 use Rattle.rules.specs.Plan as Plan
@@ -54,10 +54,7 @@ plan-new : (t : Target) (base : List ℕ) → base ≡ planAs t base new
 unfolding planAs partsPut new concatMap
 plan-new t base = by-test (λ (p : List ℕ). base ≡ p) (t .writing) (λ e. refl) (λ e. refl)
 
-abbrev fresh : Lists → Walk
-fresh l = record { lists = l; events = [] }
-
-rel-begin : (T : Tables) (t : Target) (l : Lists) (e : Ends) (s : State) → s .over ≡ false → Mem T l e (s .work) → Rel T t (s .plan) (fresh l) (begin e t s)
+rel-begin : (T : Tables) (t : Target) (l : Lists) (e : Ends) (s : State) → s .over ≡ false → Mem T l e (s .work) → Rel T t (s .plan) (freshWalk l) (begin e t s)
 unfolding begin placeAll LevelsRules.narrowings
 rel-begin T t l e s o m = of-good T t (s .plan) l 0 new (begin e t s) o sane-new (record { mem = m; level = level-new; target = refl; plan = plan-new t (s .plan) })
 
@@ -93,11 +90,11 @@ pub record After (T : Tables) (base : List ℕ) (l : Lists) (front : List ℕ) (
 
 module _ (T : Tables) (S : Sound T) (bounded : Bounded T) where
   -- two runs of an entry's walk
-  walk-related : (entry : LevelEntry) → EntryOk T entry → (t : Target) (base : List ℕ) (l : Lists) → Each (BindingOk T) (l .bindings) → (c : State) → Rel T t base (fresh l) c → Rel T t base (walkLevel T entry l) (walked T entry c)
+  walk-related : (entry : LevelEntry) → EntryOk T entry → (t : Target) (base : List ℕ) (l : Lists) → Each (BindingOk T) (l .bindings) → (c : State) → Rel T t base (freshWalk l) c → Rel T t base (walkLevel T entry l) (walked T entry c)
   unfolding walkLevel walked
   walk-related entry ok t base l fit c r =
       goes-key T S PathWithin Name (numbers T bounded) (ops T) (λ s. s .over) (entry .address) (Grew T) (Rel T t base) (grew-keeps T) (simulates T t base S bounded (entry .address) (ok .address))
-      (entry .node) (predicateAt T (entry .predicate) .key) (fresh l) c (S .keys (entry .predicate) (ok .predicate)) fit r .rel
+      (entry .node) (predicateAt T (entry .predicate) .key) (freshWalk l) c (S .keys (entry .predicate) (ok .predicate)) fit r .rel
 
   module _ (base : List ℕ) (entry : LevelEntry) (ok : EntryOk T entry) (l : Lists) (fit : Each (BindingOk T) (l .bindings)) (front : List ℕ) where
     -- the rules' level, and its bytes

@@ -10,7 +10,7 @@ use lib.ListN.{length, drop}
 use lib.Seq.{drop-append-seam}
 use Rattle.rules.specs.Base.{Each, concatMap}
 use Rattle.rules.specs.File.{Tables, FieldTy, Alternative, Ty, FieldPath, Slot, Binding, typeAt, nodeAt, recordTy, unionTy, payload}
-use Rattle.rules.specs.Events.{Code, Select, Diagnostic, Narrowing, Event, Lists, Walk, bind, constrained, select, report, emit}
+use Rattle.rules.specs.Events.{Code, Select, Diagnostic, Narrowing, Event, Lists, Walk, bind, constrained, select, report, emit, brings}
 use Rattle.rules.specs.Walk.{narrowing}
 use Rattle.rules.specs.Placement.{SeekBuilder, place}
 use Rattle.rules.specs.Levels.{narrowings}
@@ -127,6 +127,11 @@ module _ (T : Tables) (t : Target) (base : List ℕ) where
       (λ h. record { mem = mem-report T (w .lists) (c .ends) (c .work) (g .mem) d h; level = g .level; target = g .target; plan = g .plan })
       (λ h. omega (arith, h, g .mem .diagnostics .ends, length-snoc Plan.diagnostic (w .lists .diagnostics) d))
 
+  -- A constant noted: the memory keeps nothing of it.
+  rel-brings : (slot : Slot) (ty : Ty) (w : Walk) (c : State) → Rel T t base w c → Rel T t base (brings T slot ty w) c
+  unfolding brings
+  rel-brings slot ty w c r = r
+
   -- The level's events.
   rel-emit : (ev : Event) (w : Walk) (c : State) (f : State → State) → Grew T w (emit ev w) → Rel T t base w c
       → (c .over ≡ false → Good T t base (w .lists) (met w) (built T w) c → Sane (met w + narrowings (ev ∷ [])) (place T ev (built T w)) → RelAt T t base (w .lists) (met w + narrowings (ev ∷ [])) (place T ev (built T w)) (f c))
@@ -192,6 +197,7 @@ module _ (T : Tables) (t : Target) (base : List ℕ) where
         own-fields = λ m at p w c s s′ r. rel-narrow m p (Narrowing.OwnField at) w c (grew-own T m at p w) r;
         tags = λ m d p w c s r. rel-narrow m p (Narrowing.Tag d) w c (grew-tag T m d p w) r;
         closers = rel-closer;
+        brought = rel-brings;
       }
     where
       path-numbers : (p : FieldPath) (ty : ℕ) → Stands T PathWithin p ty → PathNumbers p

@@ -27,4 +27,5 @@ stopped T s h =
       skip = unless-over _ s h;
       closer = λ n. unless-over _ s h;
       bound = λ x t. unless-over _ s h;
+      brings = λ slot ty. refl;
     }

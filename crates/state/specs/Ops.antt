@@ -241,7 +241,8 @@ unfoldable pub checkedSlot : Tables → Option Slot → Option Slot
 checkedSlot T none = none
 checkedSlot T (some slot) = elim (roomy T slot) [ true ↦ some slot | false ↦ none ]
 
--- the file's own bindings, then those that the walks have made; `constant` needs the file's alone (rules, proofs/Consts.antt)
+-- The file's own bindings, then those that the walks have made; `constant` needs the file's alone (rules, proofs/Consts.antt). `brings`
+-- notes nothing: what it would note hangs on the tables alone, and is decided before any level is walked (rules, proofs/Literals.antt).
 abbrev pub ops : Tables → Ops State
 ops T =
     record {
@@ -256,6 +257,7 @@ ops T =
       skip = skip;
       closer = closer;
       bound = bound T;
+      brings = λ slot ty s. s;
     }
 
 unfoldable pub openOps : Unit {0}
