@@ -1,5 +1,3 @@
 -- What an accepted file's tables give, for types and nodes alike.
 pub mod Ranges
 pub mod Given
--- `constant`, without its bound.
-pub mod Constants

@@ -25,7 +25,7 @@ use Rattle.views.proofs.NodeView as NodeViews
 use Rattle.accepted_file.specs.AcceptedFile.{AcceptedFile}
 use Rattle.accepted_file.proofs.Given.{passed, sound-tables, few-nodes}
 use Rattle.accepted_file.proofs.Ranges.{stands, patterns, fields, alternatives, node-in}
-use Rattle.accepted_file.proofs.Constants.{constant-is}
+use Rattle.rules.proofs.Constants.{constant-is}
 use Rattle.constant.specs.Sizes.{cap, viewOf, constView, prefixName, anchorView, intOnly, strOnly, bytesAlone, Patterns, Fields, Alternatives}
 use Rattle.constant.specs.declared.Const.{Const}
 use Rattle.constant.specs.declared.Const.the-variants as Co

@@ -15,7 +15,7 @@ use Rattle.rules.proofs.Cases.{ltb-lt, some≢none, some-injective, bind-some}
 use Rattle.rules.proofs.Scalars.{same-int, same-str, same-bytes}
 use Rattle.rules.proofs.Sound.{Passed, sound}
 use Rattle.accepted_file.proofs.Ranges.{stands, node-in}
-use Rattle.accepted_file.proofs.Constants.{constant-is}
+use Rattle.rules.proofs.Constants.{constant-is}
 use Rattle.constant.specs.Sizes.{cap, viewOf, constView, prefixName, anchorView}
 use Rattle.views.specs.Views.{anchorOf}
 use Rattle.views.specs.declared.Anchor as CodeAnchor

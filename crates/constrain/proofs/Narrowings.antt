@@ -15,7 +15,7 @@ use Rattle.rules.proofs.Sound.{Sound}
 use Rattle.state.specs.State.{State}
 use Rattle.state.specs.Ops.{ops}
 use Rattle.tables.proofs.Searches.{stands-self}
-use Rattle.accepted_file.proofs.Constants.{constant-is}
+use Rattle.rules.proofs.Constants.{constant-is}
 use Rattle.constant.specs.Sizes.{viewOf, constView}
 use Rattle.constant.specs.declared.Const.{Const}
 use Rattle.constant.specs.declared.Const.the-variants as Co

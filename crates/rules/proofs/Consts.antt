@@ -9,7 +9,7 @@ use lib.Dec.{eqb}
 use lib.ListN.{length}
 use Rattle.rules.specs.Base.{Each, done, more, lastOr, _whenSome_}
 use Rattle.rules.specs.File.{Tables, Ty, Slot, Binding, Comparison, Node, LevelEntry, varName, nameAt, typeAt, nodeAt, predicateAt}
-use Rattle.rules.specs.Constant.{Const, bytesOnly, lookup, constNode, constOf, standsFor, constantNode, constantBelow, constant}
+use Rattle.rules.specs.Constant.{Const, bytesOnly, lookup, constNode, constBound, constOf, standsFor, constantNode, constantBelow, constant}
 use Rattle.rules.specs.Events.{Narrowing, Event, Lists, Walk, bind, constrained, select, report, emit, brings}
 use Rattle.rules.specs.Walk.{narrowing, freshWalk, walkLevel}
 use Rattle.rules.specs.Placement.{Edges, SeekBuilder, new, withEdges, Compared, isVar, compared, Sided, sided, takeEdge, foldFrom, placeBound, place, placeAll}
@@ -22,10 +22,6 @@ use Rattle.rules.proofs.Keeps.{Keeps}
 use Rattle.rules.proofs.Runs.{Sim, goes-key}
 use Rattle.rules.proofs.Alone.{any-numbers}
 use Rattle.rules.proofs.Kept.{placeAll-append}
-
--- the Const that a name is bound to
-abbrev pub constBound : List Binding → ℕ → Option ℕ
-constBound bs x = lookup bs x whenSome constNode
 
 abbrev pub SameConsts : Walk → Walk → Type 0
 SameConsts w w′ = (x : ℕ) → constBound (w′ .lists .bindings) x ≡ constBound (w .lists .bindings) x
@@ -41,7 +37,7 @@ last-append found p (b ∷ bs) cs =
     ]
 
 -- one binding more: it is the last of its name, and of no other
-const-snoc : (bs : List Binding) (b : Binding) (x : ℕ) → lookup bs (b .name) ≡ none → constNode (b .slot) ≡ none → constBound (bs ++ (b ∷ [])) x ≡ constBound bs x
+pub const-snoc : (bs : List Binding) (b : Binding) (x : ℕ) → lookup bs (b .name) ≡ none → constNode (b .slot) ≡ none → constBound (bs ++ (b ∷ [])) x ≡ constBound bs x
 unfolding lookup _whenSome_ lastOr
 const-snoc bs b x e c =
     ap (λ (o : Option Binding). (o whenSome λ b′. some (b′ .slot)) whenSome constNode) (last-append none (λ b′. eqb (b′ .name) x) bs (b ∷ []))

@@ -13,12 +13,16 @@ pub mod Grown
 pub mod Keeps
 -- What a state that no operation changes keeps: itself.
 pub mod Idle
+-- `constant`, without its bound.
+pub mod Constants
 -- Two runs of the walk side by side.
 pub mod Choices
 pub mod Runs
 pub mod Alone
 -- The bindings as they stand, and the file's.
 pub mod Consts
+-- What a walk notes, by the tables alone.
+pub mod Literals
 -- The flip by its formula and by its table.
 pub mod Flip
 -- Reading back what a plan holds.

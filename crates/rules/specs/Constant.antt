@@ -91,11 +91,16 @@ constNode (Slot.Field a p t) = none
 constNode (Slot.Value a t) = none
 constNode (Slot.Const n) = some n
 
+-- the Const that a name is bound to
+abbrev pub constBound : List Binding → ℕ → Option ℕ
+constBound bindings x = do
+  slot ← lookup bindings x
+  constNode slot
+
 unfoldable pub constOf : List Binding → Node → Option ℕ
 constOf bindings node = do
   x ← varName node
-  slot ← lookup bindings x
-  constNode slot
+  constBound bindings x
 
 unfoldable pub standsFor : Tables → ℕ → ℕ
 standsFor T n = Option·getD (constOf (T .bindings) (nodeAt T n)) n

@@ -1,7 +1,8 @@
 -- "A file's list of levels": each level from exactly what the one before left.
-use mathlib.Core.Bool.{Bool}
+use mathlib.Core.Bool.{Bool, false}
 use mathlib.Core.List.{List, [], _∷_}
 use Prim.Native.Nat.{ℕ, suc}
+use Rattle.rules.specs.Base.{either}
 use Rattle.rules.specs.File.{Tables, LevelEntry}
 use Rattle.rules.specs.Events.{Event, Lists, Walk}
 use Rattle.rules.specs.Walk.{walkLevel}
@@ -50,6 +51,11 @@ narrowings (Event.skip ∷ es) = narrowings es
 narrowings (Event.closer n ∷ es) = narrowings es
 narrowings (Event.bound x t ∷ es) = narrowings es
 
+-- request [7]: any level whose walk has met one
+unfoldable pub anyMistyped : List Level → Bool
+anyMistyped [] = false
+anyMistyped (l ∷ ls) = either (l .mistyped) (anyMistyped ls)
+
 unfoldable pub openLevels : Unit {0}
-unfolding starting levelOf level levelsFrom levels leftBy narrowings
+unfolding starting levelOf level levelsFrom levels leftBy narrowings anyMistyped
 openLevels = tt

@@ -11,6 +11,7 @@ pub mod Events
 pub mod Resolve
 pub mod Walk
 pub mod Placement
+pub mod Literals
 pub mod Levels
 pub mod Now
 pub mod Plan

@@ -13,7 +13,7 @@ use Rattle.rules.specs.Base.{Each, more, first, lastOr, _whenSome_}
 use Rattle.rules.specs.File.{Tables, Binding, Slot, nodeAt, varName}
 use Rattle.rules.specs.File as File
 use Rattle.rules.specs.Constant as Constant
-use Rattle.rules.specs.Constant.{fieldPattern, lookup, constNode, constOf, standsFor}
+use Rattle.rules.specs.Constant.{fieldPattern, lookup, constNode, constBound, constOf, standsFor}
 use Rattle.rules.specs.Checks.{isName, bindingIn}
 use Rattle.rules.proofs.Cases.{ltb-lt, both-left}
 use Rattle.rules.proofs.Choices.{by-test₂}
@@ -23,7 +23,7 @@ use Rattle.file.specs.Tables.{lastFrom, lastBinding}
 use Rattle.file.specs.Sections as Sections
 use Rattle.views.specs.Views.{run, startAt, bindingView, alternativeAt, patternAt, alternativeOf, patternOf, slotViewed, bindingAt, SeenBinding}
 use Rattle.accepted_file.specs.AcceptedFile.{flag}
-use Rattle.tables.specs.Tables.{boundIn, SeenSlot, constBound}
+use Rattle.tables.specs.Tables.{boundIn, SeenSlot}
 use Rattle.tables.specs.declared.MaybeSlotView.{MaybeSlotView}
 use Rattle.tables.specs.declared.MaybeSlotView.the-variants as Ms
 use Rattle.tables.proofs.Tags.{no-const}

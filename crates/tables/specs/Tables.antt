@@ -4,9 +4,7 @@ use mathlib.Core.Path.{_≡_}
 use mathlib.Core.List.{List}
 use mathlib.Core.Option.{Option, none, some}
 use lib.ListN.{length}
-use Rattle.rules.specs.Base.{_whenSome_}
 use Rattle.rules.specs.File as File
-use Rattle.rules.specs.Constant.{lookup, constNode}
 use Rattle.file.specs.Sections as Sections
 use Rattle.views.specs.Views.{run, startAt, bindingView, alternativeOf, slotViewed, SlotInside}
 use Rattle.views.specs.declared.TypeView.{TypeView}
@@ -97,7 +95,3 @@ pub record SeenRun {A : Type 0} (f : List ℕ) (at : ℕ → A) (w : ℕ) (o : O
 pub record SeenSlot (f : List ℕ) (o : Option File.Slot) (r : MaybeSlotView) : Type 0 where
   pub is : slotOption f r ≡ o
   pub inside : MaybeInside f r
-
--- the Const that a name is bound to
-abbrev pub constBound : List File.Binding → ℕ → Option ℕ
-constBound bs x = lookup bs x whenSome constNode
