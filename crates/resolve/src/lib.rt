@@ -622,7 +622,7 @@ fn leaf_answer(file: &[u8], index: &[u16], work: &mut [u8], node: usize, lists: 
 }
 
 // What a node reads of which node below it: a constant is its own location, and reads of none.
-fn read_of(file: &[u8], index: &[u16], node: usize) -> Base
+pub fn read_of(file: &[u8], index: &[u16], node: usize) -> Base
     requires { ⌜ AcceptedFile (now file) (now index) ⌝ }
     ensures { λ r. ⌜ r ≡ readOf (tablesOf (now (file .entry))) node ⌝ }
 {
@@ -634,7 +634,7 @@ fn read_of(file: &[u8], index: &[u16], node: usize) -> Base
 
 // Goes down a chain of reads, from each node to the one that it reads of, and writes the nodes that it passes to the trail: until one
 // reads of no other, or the trail is full.
-fn descend(file: &[u8], index: &[u16], node: usize, trail: &mut [u16]) -> Chain
+pub fn descend(file: &[u8], index: &[u16], node: usize, trail: &mut [u16]) -> Chain
     requires { ⌜ AcceptedFile (now file) (now index) ⌝ }
     ensures passes { λ r. ⌜ (
         let T = tablesOf (now (file .entry)) in

@@ -161,7 +161,7 @@ pub fn lookup(file: &[u8], index: &[u16], name: usize) -> MaybeSlotView
 }
 
 // The Const that a name is bound to.
-fn const_of(file: &[u8], index: &[u16], name: usize) -> Found
+pub fn const_of(file: &[u8], index: &[u16], name: usize) -> Found
     requires { ⌜ AcceptedFile (now file) (now index) ⌝ }
     ensures { λ r. ⌜ foundOption r ≡ constBound (tablesOf (now (file .entry)) .bindings) name ⌝ }
 {

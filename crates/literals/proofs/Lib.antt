@@ -1,0 +1,8 @@
+-- The constant that a pattern stands for, along a chain of reads.
+pub mod Chains
+-- What the code sees, and the steps that follow.
+pub mod Seen
+-- The steps, and what they come to.
+pub mod Steps
+-- A record's fields in turn, and the levels.
+pub mod Going
