@@ -22,14 +22,17 @@ use Rattle.rules.proofs.Choices.{by-test₂}
 use Rattle.state.specs.State.{state, stop}
 use Rattle.state.specs.Levels as StateLevels
 use Rattle.state.specs.Levels.{writtenTo, finished, compiled, lists}
-use Rattle.state.proofs.Whole.{exact-file}
+use Rattle.state.proofs.Whole.{exact-file, mistyped-file}
+use Rattle.rules.specs.Literals.{levelsMeet}
+use Rattle.rules.proofs.Literals.{levels-meet}
+use Rattle.accepted_file.proofs.Given.{sound-tables}
 use Rattle.file.specs.Tables.{tablesOf}
 use Rattle.accepted_file.specs.AcceptedFile.{AcceptedFile, flag}
 use Rattle.checks.specs.Checked.{bitOf, Checked, verdictOf, allFault, readVerdict, fileVerdict}
 use Rattle.checks.specs.declared.Verdict.{Verdict}
 use Rattle.checks.specs.declared.Verdict.the-variants as Ve
 use Rattle.endings.specs.Endings.{endingOutcome}
-use Rattle.compile.specs.Memories.{callVerdict, Memory, memory, memoryBy}
+use Rattle.compile.specs.Memories.{callVerdict, acceptedOutcome, Memory, memory, memoryBy}
 use Rattle.levels.specs.Written.{unleveled, betweenLevels, writtenOf}
 use Rattle.endings.specs.declared.Ending.the-variants.{Planned, Refused}
 use Rattle.levels.specs.declared.Written.{Written}
@@ -97,8 +100,25 @@ ready f ix v e q k =
       last-bindings = filled .last-at;
     }
 
-pub accepted-outcome : (f ix : List ℕ) → Each Byte f → AcceptedFile f ix → (work plan : List ℕ) → length f ≤ fileLimit → workLimit ≤ length work → StateLevels.writtenOutcome (compiled (tablesOf f) work plan) ≡ outcome f (length plan) (length work)
-accepted-outcome f ix b k work plan short large = exact-file f b (tablesOf f) [] (k .indexed .accepted) (k .accepted) work plan short large
+-- what the tables say of the levels is what their walks note
+pub accepted-outcome : (f ix : List ℕ) → Each Byte f → AcceptedFile f ix → (work plan : List ℕ) → length f ≤ fileLimit → workLimit ≤ length work → acceptedOutcome (tablesOf f) work plan ≡ outcome f (length plan) (length work)
+unfolding acceptedOutcome
+accepted-outcome f ix b k work plan short large =
+    let T = tablesOf f in
+    let same = levels-meet T (sound-tables f ix k) in
+    by-test (λ (o : Outcome). o ≡ outcome f (length plan) (length work)) (levelsMeet T (T .levels))
+    (λ m. mistyped-file f T [] (k .indexed .accepted) (k .accepted) (length plan) (length work) short large (same ∙ m))
+    (λ m. exact-file f b T [] (k .indexed .accepted) (k .accepted) work plan short large (same ∙ m))
+
+-- 19
+module _ (T : Tables) (work plan : List ℕ) (m : levelsMeet T (T .levels) ≡ true) where
+  pub met-outcome : (p : List ℕ) → endingOutcome (Refused 19) p ≡ acceptedOutcome T work plan
+  unfolding endingOutcome acceptedOutcome
+  met-outcome p = sym (pick (levelsMeet T (T .levels)) true (Outcome.refused 19) _ m)
+
+  pub met-memory : memory work plan ≡ memoryBy Ve.Accepted T work plan
+  unfolding memoryBy
+  met-memory = sym (pick (levelsMeet T (T .levels)) true (memory work plan) _ m)
 
 -- a plan that is not too long lies within its buffer
 finished-within : (k : StateLevels.Written) → finished k .state .over ≡ false → finished k .at ≤ length (finished k .state .plan)
@@ -118,20 +138,22 @@ pub refused-memory : (v : Verdict) (n : ℕ) (T : Tables) (work plan : List ℕ)
 unfolding memoryBy
 refused-memory v n T work plan e = left-by (Ve.Refused n) v T work plan (memory work plan) refl (sym e)
 
-module _ (T : Tables) (work plan work′ plan′ : List ℕ) (w : Written) (e : writtenOf w work′ plan′ ≡ betweenLevels (compiled T work plan)) where
-  same : StateLevels.writtenOutcome (writtenOf w work′ plan′) ≡ StateLevels.writtenOutcome (compiled T work plan)
-  unfolding betweenLevels unleveled StateLevels.writtenOutcome
-  same = ap StateLevels.writtenOutcome e
+module _ (T : Tables) (work plan work′ plan′ : List ℕ) (w : Written) (m : levelsMeet T (T .levels) ≡ false) (e : writtenOf w work′ plan′ ≡ betweenLevels (compiled T work plan)) where
+  same : StateLevels.writtenOutcome (writtenOf w work′ plan′) ≡ acceptedOutcome T work plan
+  unfolding betweenLevels unleveled StateLevels.writtenOutcome acceptedOutcome
+  same = ap StateLevels.writtenOutcome e ∙ sym (pick (levelsMeet T (T .levels)) false (Outcome.refused 19) (StateLevels.writtenOutcome (compiled T work plan)) m)
 
   pub kept-memory : memory work′ plan′ ≡ memoryBy Ve.Accepted T work plan
   unfolding writtenOf betweenLevels unleveled memoryBy
-  kept-memory = ap (λ (k : StateLevels.Written). memory (k .state .work) (k .state .plan)) e
+  kept-memory =
+      ap (λ (k : StateLevels.Written). memory (k .state .work) (k .state .plan)) e
+      ∙ sym (pick (levelsMeet T (T .levels)) false (memory work plan) (memory (compiled T work plan .state .work) (compiled T work plan .state .plan)) m)
 
-  pub too-long : w .lists .over ≡ true → endingOutcome (Refused 15) plan′ ≡ StateLevels.writtenOutcome (compiled T work plan)
+  pub too-long : w .lists .over ≡ true → endingOutcome (Refused 15) plan′ ≡ acceptedOutcome T work plan
   unfolding endingOutcome StateLevels.writtenOutcome writtenOf
   too-long o = ap (λ (b : Bool). elim b [ true ↦ Outcome.refused 15 | false ↦ Outcome.planned (take (w .at) plan′) ]) (sym o) ∙ same
 
-  pub short-enough : w .lists .over ≡ false → (endingOutcome (Planned (w .at)) plan′ ≡ StateLevels.writtenOutcome (compiled T work plan)) × (w .at ≤ length plan′)
+  pub short-enough : w .lists .over ≡ false → (endingOutcome (Planned (w .at)) plan′ ≡ acceptedOutcome T work plan) × (w .at ≤ length plan′)
   unfolding endingOutcome StateLevels.writtenOutcome writtenOf betweenLevels unleveled compiled
   short-enough o = (
     ap (λ (b : Bool). elim b [ true ↦ Outcome.refused 15 | false ↦ Outcome.planned (take (w .at) plan′) ]) (sym o) ∙ same,

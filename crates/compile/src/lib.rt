@@ -6,28 +6,28 @@ ghost use Rattle.rules.specs.Limits.{fileLimit, workLimit};
 ghost use Rattle.rules.specs.Compile as CompileRules;
 ghost use Rattle.rules.specs.Demand1.{refusals, Demand1};
 ghost use Rattle.rules.specs.Demand3.{Demand3};
-ghost use Rattle.state.specs.Levels as StateLevels;
 ghost use Rattle.file.specs.Tables.{tablesOf};
 ghost use Rattle.accepted_file.specs.AcceptedFile.{AcceptedFile};
 ghost use Rattle.endings.specs.Endings.{endingOutcome, Within};
-ghost use Rattle.compile.specs.Memories.{callVerdict, memory, memoryBy};
+ghost use Rattle.compile.specs.Memories.{callVerdict, acceptedOutcome, memory, memoryBy};
 ghost use Rattle.checks.specs.Checked.{fileVerdict};
 use checks::Verdict;
 use checks::verify;
 use endings::Ending;
 use file::INDEX;
 use levels::write;
+use literals::levels_meet;
 
 const FILE_LIMIT: usize = 32768;
 
 const WORK_LIMIT: usize = 65536;
 
-// What an accepted file comes to.
+// What an accepted file comes to: 19 is asked of all levels before any is walked.
 fn accepted(file: &[u8], index: &[u16], plan: &mut [u8], work: &mut [u8]) -> Ending
     requires { ⌜ AcceptedFile (now file) (now index) ⌝ }
     ensures outcome { λ r. ⌜ (
         let T = tablesOf (now (file .entry)) in
-        endingOutcome r (now (plan .exit)) ≡ StateLevels.writtenOutcome (StateLevels.compiled T (now (work .entry)) (now (plan .entry)))
+        endingOutcome r (now (plan .exit)) ≡ acceptedOutcome T (now (work .entry)) (now (plan .entry))
         ) ⌝ }
     ensures within { λ r. ⌜ Within r (now (plan .exit)) ⌝ }
     ensures memory { λ _. ⌜ (
@@ -36,6 +36,9 @@ fn accepted(file: &[u8], index: &[u16], plan: &mut [u8], work: &mut [u8]) -> End
         after ≡ memoryBy Verdict.Accepted T (now (work .entry)) (now (plan .entry))
         ) ⌝ }
 {
+    if levels_meet(file, index) {
+        return Ending::Refused(19);
+    }
     let w = write(file, index, work, plan);
     let lists = w.lists;
     if lists.over {

@@ -2,3 +2,4 @@ pub mod Doors
 pub mod ReadBack
 pub mod Names
 pub mod OwnFields
+pub mod Literals

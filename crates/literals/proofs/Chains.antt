@@ -21,8 +21,7 @@ use Rattle.rules.proofs.Cases.{by-test, some≢none, some-injective, bind-some}
 use Rattle.rules.proofs.Choices.{by-test₂}
 use Rattle.rules.proofs.Each.{each-imply, each-first}
 use Rattle.rules.proofs.Sound.{Passed}
-use Rattle.rules.proofs.Cases.{by-order, true≢false}
-use Rattle.rules.proofs.BottomUp.{extends}
+use Rattle.rules.proofs.Literals.{record-node, constant-in}
 use Rattle.file.proofs.Readers.{lt-or-le}
 use Rattle.views.specs.Views.{nodeOf, SeenNode}
 use Rattle.views.specs.declared.NodeView.{NodeView}
@@ -41,38 +40,6 @@ use Rattle.resolve.proofs.Steps.{Lower, constants-length}
 use Rattle.resolve.proofs.Chains.{bottom-stops, chain-kept}
 use Rattle.literals.specs.Chains.{leafConst, upBy, constUp, climbConst}
 
--- TEMP
-record-node : (node : Node) (fs : List FieldPattern) → recordFields node ≡ some fs → node ≡ Node.Record fs
-unfolding recordFields
-record-node (Node.Int bytes) fs e = absurd (some≢none fs (sym e))
-record-node (Node.Str x) fs e = absurd (some≢none fs (sym e))
-record-node (Node.Bytes bytes) fs e = absurd (some≢none fs (sym e))
-record-node (Node.Var x) fs e = absurd (some≢none fs (sym e))
-record-node Node.Wildcard fs e = absurd (some≢none fs (sym e))
-record-node Node.Never fs e = absurd (some≢none fs (sym e))
-record-node (Node.Prefix x) fs e = absurd (some≢none fs (sym e))
-record-node (Node.Fuzzy x d a) fs e = absurd (some≢none fs (sym e))
-record-node (Node.Record gs) fs e = ap Node.Record (some-injective gs fs e)
-record-node (Node.Access x n) fs e = absurd (some≢none fs (sym e))
-record-node (Node.Value n) fs e = absurd (some≢none fs (sym e))
-record-node (Node.Select x n) fs e = absurd (some≢none fs (sym e))
-record-node Node.Disjunction fs e = absurd (some≢none fs (sym e))
-record-node Node.Subquery fs e = absurd (some≢none fs (sym e))
-record-node (Node.Fact p n) fs e = absurd (some≢none fs (sym e))
-record-node Node.Arith fs e = absurd (some≢none fs (sym e))
-record-node Node.Error fs e = absurd (some≢none fs (sym e))
-
-module _ (T : Tables) where
-  pub constant-in : (n : ℕ) → isConstant T n ≡ true → n < length (T .nodes)
-  unfolding isConstant constants
-  constant-in n e =
-      by-order n (length (T .nodes)) (λ h. h)
-      (λ h.
-      let r = extends constantOf [] (T .nodes) in
-      let l : length (constants T) ≤ n = omega (arith, ap length (r .1), r .2, h) in
-      absurd (true≢false (sym e ∙ List·getD-eq-default (constants T) false l)))
-
--- TEMPEND
 nothing-after : (o : Option ℕ) → _≡_ {A = Option ℕ} (o whenSome λ c. none) none
 unfolding _whenSome_
 nothing-after none = refl

@@ -9,15 +9,16 @@ use borrow.Author.Tests.{leb-true, leb-false}
 use lib.Dec.{T as Holds, leb, lit≤}
 use lib.ListN.{length, take, length-append, length-replicate}
 use lib.Seq.{take-at}
-use Rattle.rules.specs.Base.{Each, done, more}
+use Rattle.rules.specs.Base.{Each, done, more, both, all}
 use Rattle.rules.specs.Limits.{fileLimit, workLimit, planLimit}
 use Rattle.rules.specs.File.{Tables}
 use Rattle.rules.specs.Read.{Read, file}
 use Rattle.rules.specs.Checks.{Check, checks, fault}
-use Rattle.rules.specs.Compile.{Outcome, written, checked, reading, outcome, returned, buffer, compiled, compile}
+use Rattle.rules.specs.Levels.{levels, anyMistyped}
+use Rattle.rules.specs.Compile.{Outcome, written, walked, checked, reading, outcome, returned, buffer, compiled, compile}
 use Rattle.rules.specs.Demand1.{zeros, refusals, Among, Ending, Demand1}
-use Rattle.rules.proofs.Cases.{by-test, ways}
-use Rattle.rules.proofs.Each.{Any, Perhaps, nothing, just, each-all}
+use Rattle.rules.proofs.Cases.{by-test, ways, both-left, both-right}
+use Rattle.rules.proofs.Each.{Any, Perhaps, nothing, just, each-all, each-passes}
 use Rattle.rules.proofs.Readers.{TablesOf, Answer, gives, refuses, reads-file}
 
 -- The refusals' numbers, from the first on.
@@ -33,22 +34,35 @@ among-from first (suc k) n l h =
     (λ e. Among.here (omega (arith, leb-true n first e)))
     (λ e. Among.further (among-from (suc first) k n (leb-false n first e) (omega arith)))
 
-from-among : (first k n : ℕ) → Among n (numbersFrom first k) → (first ≤ n) × (n < first + k)
-unfolding numbersFrom
-from-among first (suc k) n (Among.here e) = (omega arith, omega arith)
-from-among first (suc k) n (Among.further h) =
-    let b = from-among (suc first) k n h in
-    (omega (arith, b .0), omega (arith, b .1))
+-- a number that is one of the first, or of those behind them
+among-front : {n : ℕ} {ms : List ℕ} (ns : List ℕ) → Among n ms → Among n (ms ++ ns)
+among-front ns (Among.here e) = Among.here e
+among-front ns (Among.further h) = Among.further (among-front ns h)
+
+among-back : {n : ℕ} {ns : List ℕ} (ms : List ℕ) → Among n ns → Among n (ms ++ ns)
+among-back [] h = h
+among-back (m ∷ ms) h = Among.further (among-back ms h)
 
 listed : (n : ℕ) → 1 ≤ n → n ≤ 15 → Among n refusals
 unfolding numbersFrom
-listed n l m = among-from 1 15 n l (omega arith)
+listed n l m = among-front (19 ∷ []) (among-from 1 15 n l (omega arith))
 
-pub numbered : (n : ℕ) → Among n refusals → (1 ≤ n) × (n ≤ 15)
+-- request [7]'s
+nineteen : Among 19 refusals
 unfolding numbersFrom
-numbered n h =
-    let b = from-among 1 15 n h in
-    (b .0, omega (arith, b .1))
+nineteen = among-back (numbersFrom 1 15) (Among.here refl)
+
+-- each of them lies between 1 and 19
+abbrev between : ℕ → Bool
+between m = both (leb 1 m) (leb m 19)
+
+among-between : {n : ℕ} {ms : List ℕ} → Each (λ m. between m ≡ true) ms → Among n ms → (1 ≤ n) × (n ≤ 19)
+among-between (more {x = m} b bs) (Among.here e) = (omega (arith, e, leb-true 1 m (both-left (leb 1 m) _ b)), omega (arith, e, leb-true m 19 (both-right (leb 1 m) _ b)))
+among-between (more b bs) (Among.further h) = among-between bs h
+
+pub numbered : (n : ℕ) → Among n refusals → (1 ≤ n) × (n ≤ 19)
+unfolding all
+numbered n h = among-between (each-passes between refusals refl) h
 
 -- A check refuses with a number of the list.
 fault-in : {cs : List Check} → Each (λ c. Among (c .number) refusals) cs → (T : Tables) → Perhaps (λ n. Among n refusals) (fault cs T)
@@ -82,9 +96,13 @@ module _ (room : ℕ) where
       (λ e. let fits = in-both (length bytes) planLimit room e in Ended.a-plan (fits .0) (fits .1))
       (λ e. Ended.a-refusal (listed 15 (omega arith) (omega arith)))
 
+  ended-walked : (T : Tables) → Ended room (walked room T)
+  unfolding walked
+  ended-walked T = by-test (Ended room) (anyMistyped (levels T)) (λ e. Ended.a-refusal nineteen) (λ e. ended-written _)
+
   ended-checked : (T : Tables) {o : Option ℕ} → Perhaps (λ n. Among n refusals) o → Ended room (checked room T o)
   unfolding checked
-  ended-checked T nothing = ended-written _
+  ended-checked T nothing = ended-walked T
   ended-checked T (just h) = Ended.a-refusal h
 
   ended-reading : {r : Read Tables} → Answer Any (TablesOf Any) r → Ended room (reading room r)

@@ -1,4 +1,5 @@
 -- Demand 3, of every accepted file.
+use mathlib.Core.Bool.{true, false}
 use mathlib.Core.List.{List, [], _∷_, _++_}
 use mathlib.Core.Option.{Option, none, some}
 use mathlib.Core.Path.{_≡_, refl, sym, ap, _∙_, subst}
@@ -15,9 +16,9 @@ use Rattle.rules.specs.Read.{Read, got, refused, follow, _>>=_, end, ten
 use Rattle.rules.specs.Checks.{checks, fault}
 use Rattle.rules.specs.Events.{Lists}
 use Rattle.rules.specs.Walk.{walkLevel}
-use Rattle.rules.specs.Levels.{Level, starting, levelOf, level, levelsFrom, levels, leftBy}
+use Rattle.rules.specs.Levels.{Level, starting, levelOf, level, levelsFrom, levels, leftBy, anyMistyped}
 use Rattle.rules.specs.Plan.{planOf, plan, planBytes}
-use Rattle.rules.specs.Compile.{Outcome, written, checked, reading, outcome, returned, buffer, compiled, compile}
+use Rattle.rules.specs.Compile.{Outcome, written, walked, checked, reading, outcome, returned, buffer, compiled, compile}
 use Rattle.rules.specs.Demand3.{LevelKept, entryAt, levelAt, startOf, Holds, Demand3}
 use Rattle.rules.proofs.Cases.{by-test}
 use Rattle.rules.proofs.Sound.{BindingOk, Sound, sound, passed-all}
@@ -138,9 +139,9 @@ ends-file [] T rest e = sym (ap restOf e)
 ends-file (b ∷ bytes) T rest e = ends-sections (b ∷ bytes) T rest e
 
 -- Demand 3 of the tables that an accepted file holds.
-tables-kept : (bytes : List ℕ) (T : Tables) → file bytes ≡ got T [] → fault checks T ≡ none → Demand3 bytes (planBytes (plan T))
+tables-kept : (bytes : List ℕ) (T : Tables) → file bytes ≡ got T [] → fault checks T ≡ none → anyMistyped (levels T) ≡ false → Demand3 bytes (planBytes (plan T))
 unfolding levels entryAt starting
-tables-kept bytes T e f =
+tables-kept bytes T e f m =
     let S = sound T (passed-all T f) in
     record {
       tables = T;
@@ -149,6 +150,7 @@ tables-kept bytes T e f =
       levels = levels T;
       every-level = levels-length T S (starting T) (T .levels);
       kept = λ k h. subst (λ s. LevelKept T (entryAt T k) s (levelAt T (levels T) k)) (start-is T S (levels T) k) (every-level T S (starting T) (S .levels) (S .bindings) k h _);
+      none-mistyped = m;
       as-they-stand = sym (levels-now T S);
       plan = plan T;
       holds = plan-holds T S;
@@ -173,8 +175,11 @@ written-out room bytes out =
     by-test (λ (r : Outcome). r ≡ Outcome.planned out → bytes ≡ out) (leb (length bytes) (min planLimit room)) (λ q e. ap planOut e) (λ q e. absurd (refused≢planned 15 out e))
 
 checked-kept : (bytes : List ℕ) (room : ℕ) (T : Tables) → file bytes ≡ got T [] → (o : Option ℕ) → fault checks T ≡ o → (out : List ℕ) → checked room T o ≡ Outcome.planned out → Demand3 bytes out
-unfolding checked
-checked-kept bytes room T e none f out q = subst (Demand3 bytes) (written-out room _ out q) (tables-kept bytes T e f)
+unfolding checked walked
+checked-kept bytes room T e none f out q =
+    by-test (λ (r : Outcome). r ≡ Outcome.planned out → Demand3 bytes out) (anyMistyped (levels T))
+    (λ m p. absurd (refused≢planned 19 out p))
+    (λ m p. subst (Demand3 bytes) (written-out room _ out p) (tables-kept bytes T e f m)) q
 checked-kept bytes room T e (some n) f out q = absurd (refused≢planned n out q)
 
 reading-kept : (bytes : List ℕ) (room : ℕ) (r : Read Tables) → file bytes ≡ r → (out : List ℕ) → reading room r ≡ Outcome.planned out → Demand3 bytes out

@@ -17,7 +17,7 @@ use Rattle.rules.specs.Walk.{walkLevel}
 use Rattle.rules.specs.Placement
 use Rattle.rules.specs.Placement.{Edges, SeekBuilder, new, withEdges, fall, placeNarrowing, placeCloser, flipped, Compared, isVar, takeEdge, Sided}
 use Rattle.rules.specs.Levels
-use Rattle.rules.specs.Levels.{Level, starting, leftBy}
+use Rattle.rules.specs.Levels.{Level, starting, leftBy, anyMistyped}
 use Rattle.rules.specs.Plan
 use Rattle.rules.specs.Plan.{Plan, planOf, planBytes}
 use Rattle.rules.specs.Compile
@@ -94,9 +94,12 @@ module _ (flip : CompareOp → CompareOp) where
   unfoldable pub plan : Tables → Plan
   plan T = planOf T (levels T) (leftBy (starting T) (levels T))
 
+  unfoldable pub walked : ℕ → Tables → Outcome
+  walked room T = elim (anyMistyped (levels T)) [ true ↦ Outcome.refused 19 | false ↦ written room (planBytes (plan T)) ]
+
   unfoldable pub checked : ℕ → Tables → Option ℕ → Outcome
   checked room T (some n) = Outcome.refused n
-  checked room T none = written room (planBytes (plan T))
+  checked room T none = walked room T
 
   unfoldable pub reading : ℕ → Read Tables → Outcome
   reading room (Read.refused n) = Outcome.refused n
@@ -142,14 +145,16 @@ levels-is T start (entry ∷ entries) =
     ap₂ (λ (b : SeekBuilder) (ls : List Level). record { start = start; left = w .lists; events = w .events; built = b; mistyped = w .mistyped } ∷ ls)
     (place-all-is T (w .events) new) (levels-is T (w .lists) entries)
 
-plan-is : (T : Tables) → plan flipped T ≡ Plan.plan T
-unfolding levels plan Levels.levels Plan.plan
-plan-is T = ap (λ (ls : List Level). planOf T ls (leftBy (starting T) ls)) (levels-is T (starting T) (T .levels))
+walked-is : (room : ℕ) (T : Tables) → walked flipped room T ≡ Compile.walked room T
+unfolding levels plan walked Levels.levels Plan.plan Compile.walked
+walked-is room T =
+    ap (λ (ls : List Level). elim (anyMistyped ls) [ true ↦ Outcome.refused 19 | false ↦ written room (planBytes (planOf T ls (leftBy (starting T) ls))) ])
+    (levels-is T (starting T) (T .levels))
 
 checked-is : (room : ℕ) (T : Tables) (o : Option ℕ) → checked flipped room T o ≡ Compile.checked room T o
 unfolding checked Compile.checked
 checked-is room T (some n) = refl
-checked-is room T none = ap (λ (p : Plan). written room (planBytes p)) (plan-is T)
+checked-is room T none = walked-is room T
 
 reading-is : (room : ℕ) (r : Read Tables) → reading flipped room r ≡ Compile.reading room r
 unfolding reading Compile.reading

@@ -43,7 +43,7 @@ either-true true = refl
 either-true false = refl
 
 -- A constant's form.
-record-node : (node : Node) (fs : List FieldPattern) → recordFields node ≡ some fs → node ≡ Node.Record fs
+pub record-node : (node : Node) (fs : List FieldPattern) → recordFields node ≡ some fs → node ≡ Node.Record fs
 unfolding recordFields
 record-node (Node.Int bytes) fs e = absurd (some≢none fs (sym e))
 record-node (Node.Str x) fs e = absurd (some≢none fs (sym e))
@@ -83,7 +83,7 @@ union-type (Ty.Union as′) alts e = ap Ty.Union (some-injective as′ alts e)
 
 module _ (T : Tables) where
   -- a constant is one of the file's nodes, and of a constant's kind
-  constant-in : (n : ℕ) → isConstant T n ≡ true → n < length (T .nodes)
+  pub constant-in : (n : ℕ) → isConstant T n ≡ true → n < length (T .nodes)
   unfolding isConstant constants
   constant-in n e =
       by-order n (length (T .nodes)) (λ h. h)

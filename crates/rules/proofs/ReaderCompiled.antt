@@ -15,10 +15,10 @@ use Rattle.rules.specs.Read.{got, file}
 use Rattle.rules.specs.Checks.{checks, fault}
 use Rattle.rules.specs.Events.{Select, Narrowing, Event, Lists}
 use Rattle.rules.specs.Placement.{new}
-use Rattle.rules.specs.Levels.{Level, starting, levelOf, level, levelsFrom, levels, leftBy}
+use Rattle.rules.specs.Levels.{Level, starting, levelOf, level, levelsFrom, levels, leftBy, anyMistyped}
 use Rattle.rules.specs.Plan
 use Rattle.rules.specs.Plan.{Plan, planLevel, planOf, plan, levelBytes, planBytes}
-use Rattle.rules.specs.Compile.{Outcome, written, checked, reading, outcome, compiled, compile}
+use Rattle.rules.specs.Compile.{Outcome, written, walked, checked, reading, outcome, compiled, compile}
 use Rattle.rules.specs.Demand1.{Byte}
 use Rattle.rules.specs.Demand3.{Kept}
 use Rattle.rules.specs.Reader
@@ -184,13 +184,15 @@ written-is room bytes out =
     (λ q e. refused-not 15 out e)
 
 pub origin : (bytes : List ℕ) (room area : ℕ) (out : List ℕ) → outcome bytes room area ≡ Outcome.planned out → Origin bytes out
-unfolding reading checked
+unfolding reading checked walked
 origin bytes room area out e =
     let d = outcome-kept bytes room area out e in
     let T = d .tables in
     let r : reading room (got T []) ≡ Outcome.planned out = subst (λ x. reading room x ≡ Outcome.planned out) (d .reads) (outcome-reading bytes room area out e) in
     let c : checked room T none ≡ Outcome.planned out = subst (λ o. checked room T o ≡ Outcome.planned out) (d .accepted) r in
-    let w = written-is room (planBytes (plan T)) out c in
+    let p : written room (planBytes (plan T)) ≡ Outcome.planned out =
+    by-test (λ (r : Outcome). r ≡ Outcome.planned out → written room (planBytes (plan T)) ≡ Outcome.planned out) (anyMistyped (levels T)) (λ m q. refused-not 19 out q) (λ m q. q) c in
+    let w = written-is room (planBytes (plan T)) out p in
     record { tables = T; reads = d .reads; accepted = d .accepted; written = w .0; short = omega (arith, w .1, ap length (w .0)) }
 
 -- Of every file of bytes: the plan that its compile writes is read as the plan of its tables, and every level keeps the rules.

@@ -9,6 +9,7 @@ use Rattle.rules.specs.Limits.{fileLimit, workLimit, planLimit}
 use Rattle.rules.specs.File.{Tables}
 use Rattle.rules.specs.Read.{Read, got, file}
 use Rattle.rules.specs.Checks.{checks, fault}
+use Rattle.rules.specs.Levels.{levels, anyMistyped}
 use Rattle.rules.specs.Plan.{plan, planBytes}
 
 -- one plan or one refusal
@@ -20,10 +21,14 @@ pub data Outcome : Type 0 where
 unfoldable pub written : ℕ → List ℕ → Outcome
 written room bytes = elim (leb (length bytes) (min planLimit room)) [ true ↦ Outcome.planned bytes | false ↦ Outcome.refused 15 ]
 
--- whole file, then writing
+-- Request [7], between whole file and writing: 19, where any level's walk brings a constant to a type that gives it no bytes
+unfoldable pub walked : ℕ → Tables → Outcome
+walked room T = elim (anyMistyped (levels T)) [ true ↦ Outcome.refused 19 | false ↦ written room (planBytes (plan T)) ]
+
+-- whole file, then its levels
 unfoldable pub checked : ℕ → Tables → Option ℕ → Outcome
 checked room T (some n) = Outcome.refused n
-checked room T none = written room (planBytes (plan T))
+checked room T none = walked room T
 
 -- reading, then the whole file
 unfoldable pub reading : ℕ → Read Tables → Outcome
@@ -64,5 +69,5 @@ unfoldable pub compile : List ℕ → List ℕ → List ℕ → Compiled
 compile bytes plan′ work = compiled (outcome bytes (length plan′) (length work)) (length plan′) (length work)
 
 unfoldable pub openCompile : Unit {0}
-unfolding written checked reading outcome returned buffer compiled compile
+unfolding written walked checked reading outcome returned buffer compiled compile
 openCompile = tt

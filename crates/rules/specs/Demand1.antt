@@ -11,9 +11,9 @@ Byte b = b < 256
 abbrev pub zeros : ℕ → List ℕ
 zeros n = replicate n 0
 
--- "Refusals, by place": their numbers
+-- "Refusals, by place": their numbers, and request [7]'s
 abbrev pub refusals : List ℕ
-refusals = 1 ∷ 2 ∷ 3 ∷ 4 ∷ 5 ∷ 6 ∷ 7 ∷ 8 ∷ 9 ∷ 10 ∷ 11 ∷ 12 ∷ 13 ∷ 14 ∷ 15 ∷ []
+refusals = 1 ∷ 2 ∷ 3 ∷ 4 ∷ 5 ∷ 6 ∷ 7 ∷ 8 ∷ 9 ∷ 10 ∷ 11 ∷ 12 ∷ 13 ∷ 14 ∷ 15 ∷ 19 ∷ []
 
 -- n is one of the numbers
 pub data Among (n : ℕ) : List ℕ → Type 0 where

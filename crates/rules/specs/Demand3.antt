@@ -14,7 +14,7 @@ use Rattle.rules.specs.Constant.{unionTag, term}
 use Rattle.rules.specs.Events.{Select, Diagnostic, Narrowing, Event, Lists}
 use Rattle.rules.specs.Walk.{walkLevel}
 use Rattle.rules.specs.Placement.{SeekKeyPart, Part, Guide, Range, SeekBuilder, new, place, placeAll, SeekKey, joined, nodesOf}
-use Rattle.rules.specs.Levels.{Level, starting, narrowings}
+use Rattle.rules.specs.Levels.{Level, starting, narrowings, anyMistyped}
 use Rattle.rules.specs.Now.{levelsNow}
 use Rattle.rules.specs.Plan.{PlanLevel, Plan, planLevel, planBytes}
 
@@ -144,6 +144,8 @@ pub record Demand3 (bytes out : List ℕ) : Type 0 where
   pub levels : List Level
   pub every-level : length levels ≡ length (tables .levels)
   pub kept : (k : ℕ) → k < length (tables .levels) → LevelKept tables (entryAt tables k) (startOf tables levels k) (levelAt tables levels k)
+  -- request [7]: no level's walk has brought a constant to a type that gives it no bytes
+  pub none-mistyped : anyMistyped levels ≡ false
   -- the same levels where `constant` reads the bindings as they stand at each call, in the walk and in placement, as the Rust's does
   pub as-they-stand : levels ≡ levelsNow tables
   pub plan : Plan

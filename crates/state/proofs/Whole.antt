@@ -23,7 +23,7 @@ use Rattle.rules.specs.Compile as Compile
 use Rattle.rules.specs.Compile.{Outcome}
 use Rattle.rules.specs.Demand1.{Byte}
 use Rattle.rules.specs.Demand3.{Adds}
-use Rattle.rules.proofs.Cases.{by-test, true≢false}
+use Rattle.rules.proofs.Cases.{by-test, true≢false, pick}
 use Rattle.rules.proofs.Each.{each-both}
 use Rattle.rules.proofs.Alone.{walk-keeps}
 use Rattle.rules.proofs.Lists.{AddsTo, adds-keeps, Onwards}
@@ -261,17 +261,24 @@ exact T passed bounded work plan room = go (ended .state .over) refl ∙ ap (Com
     go false e = finish T S bounded plan (left T start (T .levels)) (front ++ levelsBytes T start (T .levels)) ended e (after .live e)
 
 -- the call on bytes that are read and accepted, in memory that is large enough
-accepted-outcome : (bytes : List ℕ) (T : Tables) (rest : List ℕ) → Read.file bytes ≡ Read.got T rest → fault checks T ≡ none → (room area : ℕ) → length bytes ≤ fileLimit → workLimit ≤ area → Compile.outcome bytes room area ≡ Compile.written room (Plan.planBytes (Plan.plan T))
+pub accepted-outcome : (bytes : List ℕ) (T : Tables) (rest : List ℕ) → Read.file bytes ≡ Read.got T rest → fault checks T ≡ none → (room area : ℕ) → length bytes ≤ fileLimit → workLimit ≤ area → Compile.outcome bytes room area ≡ Compile.walked room T
 unfolding Compile.outcome Compile.reading Compile.checked
 accepted-outcome bytes T rest reads accepted room area short large =
-    by-test (λ (r : Outcome). r ≡ Compile.written room (Plan.planBytes (Plan.plan T))) (leb (length bytes) fileLimit)
-    (λ _. by-test (λ (r : Outcome). r ≡ Compile.written room (Plan.planBytes (Plan.plan T))) (leb workLimit area)
-    (λ _. ap (Compile.reading room) reads ∙ ap (Compile.checked room T) accepted)
-    (λ q. absurd (true≢false (sym (le-leb workLimit area large) ∙ q))))
+    by-test (λ (r : Outcome). r ≡ Compile.walked room T) (leb (length bytes) fileLimit)
+    (λ q. by-test (λ (r : Outcome). r ≡ Compile.walked room T) (leb workLimit area)
+    (λ p. ap (Compile.reading room) reads ∙ ap (Compile.checked room T) accepted)
+    (λ p. absurd (true≢false (sym (le-leb workLimit area large) ∙ p))))
     (λ q. absurd (true≢false (sym (le-leb (length bytes) fileLimit short) ∙ q)))
 
--- For every accepted file of bytes: the memory ends in the call's own outcome.
-pub exact-file : (bytes : List ℕ) → Each Byte bytes → (T : Tables) (rest : List ℕ) → Read.file bytes ≡ Read.got T rest → fault checks T ≡ none → (work plan : List ℕ) → length bytes ≤ fileLimit → workLimit ≤ length work → writtenOutcome (compiled T work plan) ≡ Compile.outcome bytes (length plan) (length work)
-exact-file bytes b T rest reads accepted work plan short large =
+-- 19, where a level's walk notes a constant
+pub mistyped-file : (bytes : List ℕ) (T : Tables) (rest : List ℕ) → Read.file bytes ≡ Read.got T rest → fault checks T ≡ none → (room area : ℕ) → length bytes ≤ fileLimit → workLimit ≤ area → LevelsRules.anyMistyped (LevelsRules.levels T) ≡ true → Outcome.refused 19 ≡ Compile.outcome bytes room area
+unfolding Compile.walked
+mistyped-file bytes T rest reads accepted room area short large m =
+    sym (accepted-outcome bytes T rest reads accepted room area short large ∙ pick (LevelsRules.anyMistyped (LevelsRules.levels T)) true _ _ m)
+
+-- else what the memory computes
+pub exact-file : (bytes : List ℕ) → Each Byte bytes → (T : Tables) (rest : List ℕ) → Read.file bytes ≡ Read.got T rest → fault checks T ≡ none → (work plan : List ℕ) → length bytes ≤ fileLimit → workLimit ≤ length work → LevelsRules.anyMistyped (LevelsRules.levels T) ≡ false → writtenOutcome (compiled T work plan) ≡ Compile.outcome bytes (length plan) (length work)
+unfolding Compile.walked
+exact-file bytes b T rest reads accepted work plan short large m =
     exact T (passed-all T accepted) (read-bounded bytes b T rest reads) work plan large
-    ∙ sym (accepted-outcome bytes T rest reads accepted (length plan) (length work) short large)
+    ∙ sym (accepted-outcome bytes T rest reads accepted (length plan) (length work) short large ∙ pick (LevelsRules.anyMistyped (LevelsRules.levels T)) false _ _ m)

@@ -1,5 +1,5 @@
 use Rattle.literals.proofs.Seen.{lacks-nothing, lacks-other}
-use Rattle.literals.proofs.Chains.{constant-in}
+use Rattle.rules.proofs.Literals.{constant-in}
 use borrow.Author.Needs.{needs}
 use Rattle.literals.proofs.lacks_bytes.Statement.{statement}
 use Rattle.literals.proofs.lacks_bytes.Tie as tie
