@@ -11,7 +11,6 @@ mod run;
 use std::process::ExitCode;
 
 use oracle::HAS_BODIES;
-use oracle::run::BY_RULE;
 
 use names::Names;
 use plans::Plans;
@@ -88,8 +87,8 @@ fn print(outcome: &Outcome) {
     if outcome.left_out > 0 {
         println!("{} left out, too long for the bodies", outcome.left_out);
     }
-    if let Some(count) = outcome.by_rule {
-        println!("{count} {BY_RULE}");
+    if let Some(by_rule) = &outcome.by_rule {
+        print!("{by_rule}");
     }
     if outcome.noded > 0 {
         println!(

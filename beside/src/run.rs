@@ -7,7 +7,7 @@ use oracle::draw;
 use oracle::file::{MAX_PLAN, MIN_WORK};
 use oracle::nodes::dropped;
 use oracle::rng::Rng;
-use oracle::run::{Reference, answer, reference};
+use oracle::run::{ByRule, Reference, answer, reference};
 use oracle::shrink::shrink;
 
 use crate::call::{Answer, Call, Difference, Expected, Lengths, difference, expected};
@@ -32,7 +32,7 @@ pub struct Outcome {
     pub left_out: usize,
     /// Files that are left out beside the original Rust, and compared with the written
     /// rule alone.
-    pub by_rule: Option<usize>,
+    pub by_rule: Option<ByRule>,
     /// Calls by what was lent and by what is expected.
     pub calls: BTreeMap<String, usize>,
 }
@@ -43,22 +43,22 @@ pub struct Outcome {
 struct Answers {
     with_nodes: Answer,
     base: Answer,
-    by_rule: bool,
+    reference: Reference,
 }
 
 impl Answers {
     /// None where the file costs them too much.
     fn to(file: &[u8]) -> Option<Self> {
-        let (with_nodes, reference) = (answer(file)?, reference(file)?);
-        let by_rule = reference == Reference::Rule;
-        let base = match reference {
-            Reference::Rust(base) => base,
-            Reference::Rule => with_nodes.as_deref().map_or_else(|&e| Err(e), dropped),
+        let with_nodes = answer(file)?;
+        let reference = reference(file, &with_nodes)?;
+        let base = match &reference {
+            Reference::Rust(base) => base.clone(),
+            Reference::Rule(_) => with_nodes.as_deref().map_or_else(|&e| Err(e), dropped),
         };
         Some(Self {
             with_nodes,
             base,
-            by_rule,
+            reference,
         })
     }
 }
@@ -70,7 +70,7 @@ pub struct Run {
 
 impl Run {
     pub fn files(&self, count: u64, mut report: impl FnMut(String)) -> Outcome {
-        let (mut outcome, mut by_rule) = (Outcome::default(), 0);
+        let (mut outcome, mut by_rule) = (Outcome::default(), ByRule::default());
         for index in 0..count {
             let file = draw::file(self.seed, index);
             let Some(answers) = Answers::to(&file) else {
@@ -78,7 +78,7 @@ impl Run {
                 continue;
             };
             outcome.compared += 1;
-            by_rule += usize::from(answers.by_rule);
+            by_rule.add(&answers.reference);
             outcome.noded += usize::from(answers.with_nodes.is_ok());
             let rng = self.memory(index);
             count_calls(
@@ -195,6 +195,7 @@ pub fn plan_kind(buffer: usize, plan: usize) -> &'static str {
 #[cfg(test)]
 mod tests {
     use super::*;
+    use oracle::run::Why;
     use oracle::{HAS_BODIES, on_large_stack};
 
     /// The bodies behind the exported function's form.
@@ -250,8 +251,10 @@ mod tests {
         assert_eq!((outcome.compared, outcome.different), (400, 0));
         assert_eq!(outcome.nodes_different, 0);
         assert!(outcome.noded > 200, "{}", outcome.noded);
-        let by_rule = outcome.by_rule.expect("it was counted");
-        assert!((10..200).contains(&by_rule), "{by_rule}");
+        let by_rule = outcome.by_rule.expect("they were counted");
+        for why in [Why::OwnRow, Why::Literal] {
+            assert!((10..100).contains(&by_rule.count(why)), "{by_rule}");
+        }
         assert!(shown.is_empty());
         for kind in ["exact", "one too short", "of 0 bytes", "longer"] {
             assert!(outcome.calls[&format!("plan buffer {kind}")] > 20, "{kind}");

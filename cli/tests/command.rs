@@ -190,11 +190,13 @@ fn a_designers_first_mistakes() {
     // A text where a number belongs: in a pattern, and in the notation itself.
     let text = DOOR.replace('7', "\"seven\"");
     let told = run(&["build", "-"], text.as_bytes());
-    assert_eq!(told.status, 0);
+    assert_eq!(told.status, 1);
     assert_eq!(
         told.told,
-        "standard input: line 2, column 21: node 0, offset 41: level 0 passes over it: \
-         a text stands where a number (Int) belongs\n"
+        "standard input: line 2, column 21: refused by 19: \
+         constant of the wrong kind for its key, field or payload\n  \
+         at node 0, kind, offset 41 (29 hex)\n  \
+         expected a number (Int) for room of level 0\n  found a text\n"
     );
     let told = run(&["build", "-"], b"let x = field r0[\"tag\"]: Int");
     assert_eq!(told.status, 1);

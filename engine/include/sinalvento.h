@@ -40,7 +40,7 @@ extern "C" {
 /* A thread's stack of so many bytes is enough for any call (256 KiB). */
 #define SINALVENTO_STACK 262144
 
-/* Why a file (1 to 15) or a plan (15 to 18) was refused. Places run downwards. */
+/* Why a file (1 to 15, and 19) or a plan (15 to 18) was refused. Places run downwards. */
 enum sinalvento_refusal {
     SINALVENTO_ACCEPTED = 0,
     /* lent memory */
@@ -61,6 +61,7 @@ enum sinalvento_refusal {
     SINALVENTO_NOT_CONSTANT = 13, /* Const binding of a node that isn't constant */
     SINALVENTO_PATH = 14,         /* Field binding with steps + depth of its type above 32,
                                      or fetched path above 31 steps */
+    SINALVENTO_LITERAL = 19,      /* constant of the wrong kind for its key, field or payload */
     /* writing */
     SINALVENTO_PLAN_TOO_LONG = 15, /* plan longer than 16,384 bytes or than the plan buffer */
     /* reading a plan: the first of the two met front to back */

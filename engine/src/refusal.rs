@@ -3,10 +3,10 @@ use std::fmt;
 
 /// Why a file or a plan was refused, by the number the exported function gives.
 ///
-/// A compile's places run downwards, from 1 to 15. While reading (3 to 7) the
-/// first fault met front to back is given; of the whole-file checks (8 to 14) each
-/// is tried over the whole file before the next. The plan reader gives 15 by the
-/// lengths alone, then the first of 16 and 17 that is met, and 18 last.
+/// A compile's places run downwards, from 1 to 14, then 19 and 15. While reading (3
+/// to 7) the first fault met front to back is given; of the whole-file checks (8 to
+/// 14, 19) each is tried over the whole file before the next. The plan reader gives 15
+/// by the lengths alone, then the first of 16 and 17 that is met, and 18 last.
 #[derive(Debug, Clone, Copy, PartialEq, Eq, PartialOrd, Ord, Hash)]
 #[non_exhaustive]
 pub enum Refusal {
@@ -48,6 +48,9 @@ pub enum Refusal {
     /// A level of the plan breaks a rule that every compiled level keeps
     /// ([`LevelRule`](crate::plan::LevelRule)).
     PlanRule,
+    /// A level has a number where a text belongs, or the like: written there, or by a name
+    /// or a read that stands for it. It comes before [`PlanTooLong`](Refusal::PlanTooLong).
+    Literal,
     /// A number that this crate has no name for: the archive is newer than the
     /// crate. 255 stands for every number from there on.
     Unknown(u8),
@@ -63,7 +66,7 @@ pub enum Place {
     LentMemory,
     /// The file, front to back: 3 to 7.
     Reading,
-    /// The whole-file checks: 8 to 14.
+    /// The whole-file checks: 8 to 14, and 19.
     WholeFile,
     /// The plan: 15.
     Writing,
@@ -77,7 +80,7 @@ pub enum Place {
 
 impl Refusal {
     /// All that have a name here, in order.
-    pub const ALL: [Refusal; 18] = [
+    pub const ALL: [Refusal; 19] = [
         FileTooLong,
         WorkTooShort,
         Ends,
@@ -96,6 +99,7 @@ impl Refusal {
         PlanEnds,
         PlanByte,
         PlanRule,
+        Literal,
     ];
 
     /// The number that the exported function gives.
@@ -119,6 +123,7 @@ impl Refusal {
             PlanEnds => 16,
             PlanByte => 17,
             PlanRule => 18,
+            Literal => 19,
             Unknown(number) => number,
         }
     }
@@ -140,7 +145,7 @@ impl Refusal {
         match self.number() {
             1..=2 => Place::LentMemory,
             3..=7 => Place::Reading,
-            8..=14 => Place::WholeFile,
+            8..=14 | 19 => Place::WholeFile,
             15 => Place::Writing,
             16..=17 => Place::PlanReading,
             18 => Place::PlanLevels,
@@ -175,6 +180,7 @@ impl Refusal {
                  or bytes left over"
             }
             PlanRule => "level of the plan breaks a rule of every level",
+            Literal => "constant of the wrong kind for its key, field or payload",
             Unknown(_) => "a refusal that this version of the crate does not know",
         }
     }
@@ -209,7 +215,7 @@ mod tests {
 
     #[test]
     fn a_number_without_a_name_is_kept() {
-        for number in [19, 24, 255] {
+        for number in [20, 24, 255] {
             let refusal = Refusal::given(number);
             assert_eq!(u64::from(refusal.number()), number);
             assert_eq!(refusal.place(), Place::Unknown);

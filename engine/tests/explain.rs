@@ -34,7 +34,7 @@ fn the_number_is_the_functions() {
         assert_eq!(explained(file), expected, "{file:02x?}");
         *counts.entry(expected.0).or_insert(0) += 1;
     });
-    for number in [0, 3, 4, 5, 6, 7, 8, 9, 10, 12, 13, 14] {
+    for number in [0, 3, 4, 5, 6, 7, 8, 9, 10, 12, 13, 14, 19] {
         assert!(counts.contains_key(&number), "{number} of {counts:?}");
     }
 }
@@ -62,6 +62,7 @@ fn a_place_for_each() {
         (12, "node 1, node of field 1, offset 19 (13 hex)"),
         (13, "binding 0, node, offset 16 (10 hex)"),
         (14, "fetched entry 0, path's step count, offset 18 (12 hex)"),
+        (19, "node 0, kind, offset 13 (d hex)"),
     ];
     for ((number, file), (of, place)) in files::refused().into_iter().zip(places) {
         let fault = fault(&file);
@@ -131,19 +132,83 @@ fn notes_have_their_nodes_place() {
     );
 }
 
+/// The bytes of a rule file that is written as text.
+fn written(rules: &str) -> Vec<u8> {
+    let parsed = sinalvento::text::parse(rules).unwrap_or_else(|fault| panic!("{rules}: {fault}"));
+    parsed.rules.write()
+}
+
+/// By each way in which a constant comes to a field: what is told is the constant itself.
 #[test]
-fn a_text_where_a_number_belongs_is_told() {
-    let rules = "predicate door: { room: Int }\nlevel door { room = \"seven\" }";
-    let file = sinalvento::text::parse(rules)
-        .expect("it parses")
-        .rules
-        .write();
+fn a_text_where_a_number_belongs_is_refused() {
+    let head = "predicate door: { room: Int, at: { x: Int, y: Int }, lock: union { open: Int } }\n";
+    for (rules, node, expected, found) in [
+        (
+            "level door { room = \"seven\" }",
+            0,
+            "a number (Int) for room of level 0",
+            "a text",
+        ),
+        (
+            "level door { room = 7 } level door { at = { y = hex\"07\" } }",
+            2,
+            "a number (Int) for at.y of level 1",
+            "a string of bytes",
+        ),
+        (
+            "let s = const \"seven\" level door { lock = { open = s } }",
+            0,
+            "a number (Int) for lock.open of level 0",
+            "a text, which node 1 stands for",
+        ),
+        (
+            "let s = const { n = \"seven\" } level door { room = s.n }",
+            0,
+            "a number (Int) for room of level 0",
+            "a text, which node 3 stands for",
+        ),
+        (
+            "let s = const { open = 7, shut = 8 } level door { lock = s }",
+            2,
+            "a union's alternative for lock of level 0",
+            "a record, which node 3 stands for",
+        ),
+        (
+            "let s = const 7 level door(s)",
+            0,
+            "a record for the key of level 0",
+            "a number, which node 1 stands for",
+        ),
+        (
+            "let s = const { at = { x = 7, y = \"seven\" } } level door(s)",
+            1,
+            "a number (Int) for at.y of level 0",
+            "a text",
+        ),
+    ] {
+        let fault = fault(&written(&format!("{head}{rules}")));
+        assert_eq!(fault.refusal, Refusal::Literal, "{rules}");
+        assert_eq!(fault.record, Some(node), "{rules}");
+        assert_eq!(
+            (fault.expected.as_str(), fault.found.as_str()),
+            (expected, found)
+        );
+    }
+}
+
+/// A record with a name in it is no constant.
+#[test]
+fn a_record_where_a_number_belongs_is_told() {
+    let file = written("predicate door: { room: Int }\nlevel door { room = { n = x } }");
     let Explanation::Accepted(accepted) = explain(&file) else {
         panic!("it is accepted");
     };
     let [overlooked] = accepted.overlooked.as_slice() else {
         panic!("{accepted}");
     };
-    assert_eq!(overlooked.why, "a text stands where a number (Int) belongs");
-    assert_eq!((overlooked.level, overlooked.node), (0, 0));
+    assert_eq!(
+        overlooked.why,
+        "a record stands where a number (Int) belongs"
+    );
+    assert_eq!((overlooked.level, overlooked.node), (0, 1));
 }

@@ -165,7 +165,7 @@ fn every_refusal_has_a_file_that_meets_it() {
         assert_eq!(answer(&file, plan, work), Err(number as u64), "{number}");
         met.push(number);
     }
-    assert_eq!(met, (1..=15).collect::<Vec<_>>());
+    assert_eq!(met, (1..=14).chain([19, 15]).collect::<Vec<_>>());
 }
 
 /// Plans of the page are read back, and one that is cut short ends early.
@@ -279,7 +279,7 @@ fn smallest_blocks_cannot_be_shortened() {
         }
         count += 1;
     }
-    assert_eq!(count, 15);
+    assert_eq!(count, 16);
 }
 
 /// All files of up to four bytes over an alphabet with every kind of byte that
@@ -360,7 +360,7 @@ fn the_limits_are_as_told() {
 #[test]
 fn refusals_are_told_in_order() {
     let mut rest = PAGE;
-    for number in 1..=18 {
+    for number in (1..=14).chain([19]).chain(15..=18) {
         let head = format!("\n**{number}: ");
         let at = rest
             .find(&head)

@@ -4,7 +4,7 @@ mod files;
 
 use sinalvento::{Buffers, MAX_PLAN, MIN_WORK, Place, Refusal, compile, compile_into};
 
-const WORDS: [(u8, &str, &str); 18] = [
+const WORDS: [(u8, &str, &str); 19] = [
     (1, "lent memory", "file above 32,768 bytes"),
     (2, "lent memory", "work area below 65,536 bytes"),
     (3, "reading", "bytes end inside a count or record"),
@@ -51,6 +51,11 @@ const WORDS: [(u8, &str, &str); 18] = [
         "the plan's levels",
         "level of the plan breaks a rule of every level",
     ),
+    (
+        19,
+        "whole file",
+        "constant of the wrong kind for its key, field or payload",
+    ),
 ];
 
 #[test]
@@ -70,7 +75,7 @@ fn every_number_is_converted() {
         let number = u64::from(refusal.number());
         assert_eq!(Refusal::from_number(number), Some(refusal));
     }
-    for number in [0, 19, 255, 65_536, 1 << 40, u64::MAX] {
+    for number in [0, 20, 255, 65_536, 1 << 40, u64::MAX] {
         assert_eq!(Refusal::from_number(number), None);
     }
 }

@@ -14,6 +14,20 @@ const EDITS: &[Edit] = &[
         ONLY,
         "*from == address { level.own_row(path, at, address); return;",
     ),
+    // [7]: a Const that gives no bytes, before it is opened; and a Const that is a whole
+    // key, before its fields are asked for.
+    edit(
+        "matched",
+        "self.partial(",
+        ONLY,
+        "self.literal(*folded, ty).partial(",
+    ),
+    edit(
+        "whole_key",
+        "for (idx",
+        ONLY,
+        "self.literal_key(&slot); for (idx",
+    ),
 ];
 
 /// The pieces with these edits. A module of them ends in [`help`].

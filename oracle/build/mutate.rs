@@ -52,6 +52,7 @@ pub const ONLY: (usize, usize) = (1, 1);
 const FALL: &str = "level.building = false";
 const BUILDING: &str = "if level.building {";
 const OWN_ROW: &str = "level.own_row(path, at, address)";
+const LITERAL: &str = "self.literal(*folded, ty)";
 const UNBOUND: &str = "self.lookup(*symbol).is_none()";
 
 /// The first sixteen are the mistakes that must be found; the others are more of
@@ -430,9 +431,9 @@ pub const MUTANTS: &[Mutant] = &[
         "const_not_opened",
         "a Const without bytes is not opened",
         "matched",
-        "self.partial(",
+        ".partial(",
         ONLY,
-        "(|_, _, _, _, level: &mut SeekBuilder| level.building = false)(",
+        ".not_opened(",
     ),
     mutant(
         "reported_twice",
@@ -497,6 +498,78 @@ pub const MUTANTS: &[Mutant] = &[
         "address); return;",
         ONLY,
         "address);",
+    ),
+    mutant(
+        "literal_passed",
+        "a Const without bytes is never refused in `matched`",
+        "matched",
+        LITERAL,
+        ONLY,
+        "self",
+    ),
+    mutant(
+        "literal_records",
+        "a record at a record is refused where it has no bytes",
+        "matched",
+        LITERAL,
+        ONLY,
+        "self.refused()",
+    ),
+    mutant(
+        "literal_of_record",
+        "a record is opened whatever the type is",
+        "matched",
+        LITERAL,
+        ONLY,
+        "self.literal_unless(self.is_record(*folded))",
+    ),
+    mutant(
+        "literal_at_record",
+        "any constant is opened at a record",
+        "matched",
+        LITERAL,
+        ONLY,
+        "self.literal_unless(matches!(ty, PredicateTy::Record(_)))",
+    ),
+    mutant(
+        "literal_key_passed",
+        "a whole key's Const is not looked at itself",
+        "whole_key",
+        "self.literal_key(&slot);",
+        ONLY,
+        "",
+    ),
+    mutant(
+        "literal_key_of_fields",
+        "a whole key's Const is looked at where the key has fields",
+        "whole_key",
+        "self.literal_key(&slot);",
+        ONLY,
+        "if !field_tys.is_empty() { self.literal_key(&slot); }",
+    ),
+    mutant(
+        "literal_union",
+        "a Record that is written at a union is refused where it has no bytes",
+        "field",
+        "self.inject(",
+        ONLY,
+        "self.literal_without_bytes(node, ty).inject(",
+    ),
+    mutant(
+        "literal_constraint",
+        "a constraint of the wrong kind is refused",
+        "constrain",
+        "self.report(",
+        ONLY,
+        "self.literal_without_bytes(pattern, ty).report(",
+    ),
+    mutant(
+        "literal_prefix",
+        "a Prefix or Fuzzy of the wrong kind is refused",
+        "field",
+        "None => self.report",
+        ONLY,
+        "None => self.refused().report",
     ),
     mutant(
         "payload_path",

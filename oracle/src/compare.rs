@@ -7,7 +7,7 @@ use std::time::Duration;
 
 use crate::compile::{hex, line};
 use crate::nodes::line_dropped;
-use crate::run::{Reference, answer, reference};
+use crate::run::{ByRule, answer, reference};
 use crate::shrink::shrink;
 
 /// How often a file that shows a difference is tried smaller.
@@ -29,7 +29,7 @@ pub struct Outcome {
     /// Files that the bodies take too long for.
     pub left_out: usize,
     /// Files that are compared with the written rule alone.
-    pub by_rule: usize,
+    pub by_rule: ByRule,
 }
 
 /// How a line differs from the expected one.
@@ -54,7 +54,9 @@ impl Compare<'_> {
                 continue;
             };
             outcome.compared += 1;
-            outcome.by_rule += usize::from(reference(&file) == Some(Reference::Rule));
+            if let Some(by_rule) = answer(&file).and_then(|answer| reference(&file, &answer)) {
+                outcome.by_rule.add(&by_rule);
+            }
             match differs {
                 Differs::Not => continue,
                 Differs::InNodes => outcome.nodes += 1,

@@ -1,8 +1,9 @@
-//! The compile: refusals 1 and 2, reading, the checks, the walk, the bytes.
+//! The compile: refusals 1 and 2, reading, the checks, the walk with 19, the bytes.
 
 use std::panic::{AssertUnwindSafe, catch_unwind, resume_unwind};
 
 use crate::file::{MAX_FILE, MIN_WORK, RuleFile};
+use crate::literal::walked;
 use crate::plan::{Plan, base_bytes, plan_bytes};
 use crate::standin::OutOfFuel;
 use crate::{check, read};
@@ -34,11 +35,12 @@ pub fn front(file: &[u8], work_len: usize) -> Result<RuleFile, u8> {
 /// Where the build found no source of the bodies ([`HAS_BODIES`]).
 pub fn compile(file: &[u8], plan_len: usize, work_len: usize) -> Result<Vec<u8>, u8> {
     let file = front(file, work_len)?;
-    plan_bytes(&noted(&file, u64::MAX), plan_len)
+    plan_bytes(&walked(noted, &file, u64::MAX)?, plan_len)
 }
 
 /// As [`compile`], by the original bodies themselves: in the base's form, which has
-/// no nodes. Where they report code 4 they are no reference (`run::reference`).
+/// no nodes. Where they report code 4 they are no reference, and neither where 19 is
+/// given, which they do not know (`run::reference`).
 pub fn compile_base(file: &[u8], plan_len: usize, work_len: usize) -> Result<Vec<u8>, u8> {
     let file = front(file, work_len)?;
     base_bytes(&original(&file, u64::MAX), plan_len)
@@ -56,8 +58,8 @@ pub fn base_within(
     Some(plan.and_then(|plan| base_bytes(&plan, plan_len)))
 }
 
-/// The plan as data, before it is written; none where the bodies look at more
-/// than `fuel` nodes.
+/// The plan as data, before it is written, or the refusal's number, 19 included; none
+/// where the bodies look at more than `fuel` nodes.
 pub fn plan_within(
     walk: Walk,
     fuel: u64,
@@ -68,8 +70,8 @@ pub fn plan_within(
         Ok(file) => file,
         Err(number) => return Some(Err(number)),
     };
-    match catch_unwind(AssertUnwindSafe(|| walk(&file, fuel))) {
-        Ok(plan) => Some(Ok(plan)),
+    match catch_unwind(AssertUnwindSafe(|| walked(walk, &file, fuel))) {
+        Ok(outcome) => Some(outcome),
         Err(thrown) if thrown.is::<OutOfFuel>() => None,
         Err(thrown) => resume_unwind(thrown),
     }

@@ -14,3 +14,28 @@ impl SeekBuilder {
         self.building = false;
     }
 }
+
+impl Flattener<'_> {
+    fn is_record(&self, node: NodeId) -> bool {
+        matches!(self.ast.store().kind(node), ExprKind::Record(_))
+    }
+
+    /// Request [7]: the type gives the constant no bytes. Where both are records it is
+    /// opened, and its fields decide.
+    fn literal(&mut self, constant: NodeId, ty: &PredicateTy) -> &mut Self {
+        let records = self.is_record(constant) && matches!(ty, PredicateTy::Record(_));
+        if !records {
+            crate::literal::meet();
+        }
+        self
+    }
+
+    /// Request [7]: a whole key is a record, whatever fields it has.
+    fn literal_key(&self, slot: &Slot) {
+        if let Slot::Const(constant) = slot
+            && !self.is_record(*constant)
+        {
+            crate::literal::meet();
+        }
+    }
+}

@@ -12,6 +12,7 @@ pub mod coverage;
 pub mod draw;
 pub mod file;
 pub mod fixed;
+pub mod literal;
 #[cfg(all(fjord_bodies, feature = "mutants"))]
 pub mod mutants;
 pub mod nodes;

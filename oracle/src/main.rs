@@ -7,7 +7,6 @@ use std::time::Duration;
 use oracle::compare::Compare;
 use oracle::compile::{HAS_BODIES, hex};
 use oracle::file::{MAX_PLAN, MIN_WORK};
-use oracle::run::BY_RULE;
 use oracle::write::write;
 use oracle::{coverage, draw, fixed, line, run, survey};
 
@@ -148,7 +147,7 @@ fn compare(program: &str, seed: u64, count: u64) -> ExitCode {
     if outcome.left_out > 0 {
         println!("{} left out, too long for the bodies", outcome.left_out);
     }
-    println!("{} {BY_RULE}", outcome.by_rule);
+    print!("{}", outcome.by_rule);
     println!("{} different in their nodes alone", outcome.nodes);
     println!(
         "{} compared, {} different",

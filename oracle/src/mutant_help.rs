@@ -5,6 +5,32 @@ impl Flattener<'_> {
         level.building = false;
         self
     }
+
+    fn refused(&mut self) -> &mut Self {
+        crate::literal::meet();
+        self
+    }
+
+    fn literal_unless(&mut self, opened: bool) -> &mut Self {
+        if opened { self } else { self.refused() }
+    }
+
+    /// A constant, or a record that may be none.
+    fn literal_without_bytes(&mut self, node: NodeId, ty: &PredicateTy) -> &mut Self {
+        let bytes = self.constant(node, ty).is_some();
+        self.literal_unless(bytes || !self.ast.is_constant(node))
+    }
+
+    fn not_opened(
+        &mut self,
+        _: NodeId,
+        _: &PredicateTy,
+        _: Address,
+        _: &FieldPath,
+        level: &mut SeekBuilder,
+    ) {
+        level.building = false;
+    }
 }
 
 impl SeekBuilder {

@@ -8,7 +8,7 @@ use oracle::draw::boundary::plan_of_length;
 use oracle::file::{MAX_PLAN, MIN_WORK};
 use oracle::nodes::line_dropped;
 use oracle::rng::Rng;
-use oracle::run::{FUEL, Reference, reference};
+use oracle::run::{ByRule, FUEL, Reference, Why, answer, reference};
 use oracle::survey::Survey;
 use oracle::write::write;
 use oracle::{compile, draw, fixed, front, line, on_large_stack};
@@ -41,15 +41,16 @@ fn the_list_is_reproduced() {
 }
 
 /// The list's nodes come from a copy of the bodies. What else stands in its lines is
-/// what the original bodies answer, but where these report code 4.
+/// what the original bodies answer, but where these report code 4 or 19 is given.
 #[test]
 fn the_list_without_its_nodes_is_the_originals() {
     let (longer, by_rule) = on_large_stack(|| {
-        let (mut longer, mut by_rule) = (0, 0);
+        let (mut longer, mut by_rule) = (0, ByRule::default());
         for (file, listed) in fixed::parse(LIST).expect("the list has its form") {
-            let original = reference(&file).expect("the list's files are cheap");
+            let answer = answer(&file).expect("the list's files are cheap");
+            let original = reference(&file, &answer).expect("the list's files are cheap");
+            by_rule.add(&original);
             let Reference::Rust(original) = original else {
-                by_rule += 1;
                 continue;
             };
             assert_eq!(line_dropped(listed), line(&original), "{file:02x?}");
@@ -58,7 +59,9 @@ fn the_list_without_its_nodes_is_the_originals() {
         (longer, by_rule)
     });
     assert!(longer > 100, "{longer} plans of the list have nodes");
-    assert!((20..60).contains(&by_rule), "{by_rule} go by the rule");
+    for why in [Why::OwnRow, Why::Literal] {
+        assert!((20..60).contains(&by_rule.count(why)), "{by_rule}");
+    }
 }
 
 /// Every code, seek, residual op, slot kind and kind of edge.

@@ -183,15 +183,17 @@ fn opened_constants_carry_their_own() {
 }
 
 /// Without its nodes each plan is the original bodies', data and bytes, but where these
-/// report code 4 (tests/own_rows.rs).
+/// report code 4 (tests/own_rows.rs); a file that 19 refuses has none.
 #[test]
 fn the_noting_copy_walks_as_the_original() {
     let entries = on_large_stack(|| {
         let mut entries = 0;
         for file in draw::files(25, 6_000) {
-            let reference = reference(&file);
+            let Some(with) = answer(&file) else {
+                continue;
+            };
+            let reference = reference(&file, &with);
             if let Some(Reference::Rust(base)) = &reference {
-                let with = answer(&file).expect("it does not cost more");
                 let without = with.map(|plan| dropped(&plan).expect("a plan"));
                 assert_eq!(without, *base);
             }
@@ -205,7 +207,7 @@ fn the_noting_copy_walks_as_the_original() {
                 assert!(level.nodes.iter().all(known));
                 entries += std::mem::take(&mut level.nodes).len();
             }
-            if reference != Some(Reference::Rule) {
+            if matches!(reference, Some(Reference::Rust(_))) {
                 assert_eq!(plan, original(&tables, u64::MAX));
             }
         }

@@ -55,6 +55,8 @@ const STR: u16 = 1;
 const REFERENCE: u16 = 2;
 const UNION: u16 = 3;
 const KEY: u16 = 4;
+/// A record whose text no constant here gives: it has no bytes, and is opened to nothing.
+const LACKING: u16 = 5;
 
 /// A row of predicate 0 in register 5, whose key has one field: a reference to
 /// such a row, or with `union` a union of one.
@@ -74,6 +76,7 @@ fn start(union: bool) -> RuleFile {
             Type::Fact(0),
             Type::Union(vec![(FIELD, 1, REFERENCE)]),
             Type::Record(vec![(FIELD, field)]),
+            Type::Record(vec![(OTHER, STR)]),
         ],
         predicates: vec![Predicate {
             key: KEY,
@@ -162,7 +165,9 @@ pub fn constants_inside() -> Vec<RuleFile> {
         to_the_limit(1, |file| (INT, add(file, Node::Int(1)))),
         to_the_limit(1, |file| (STR, add(file, Node::Str(TEXT)))),
         to_the_limit(1, |file| (STR, add(file, Node::Prefix(TEXT)))),
-        // No constant of its type, so that it is asked for and opened all the way.
+        // Without bytes, so that it is asked for and opened all the way.
+        to_the_limit(2, |file| (LACKING, add(file, Node::Record(vec![])))),
+        // Of the wrong kind: refused by 19.
         to_the_limit(1, |file| (STR, add(file, Node::Int(1)))),
         to_the_limit(1, |file| (INT, add(file, Node::Record(vec![])))),
     ]
@@ -236,21 +241,26 @@ pub fn new_vars_inside() -> Vec<RuleFile> {
 }
 
 /// Records that hold a Var that stands for a constant, which nests on to the
-/// limit and beyond; the Var at every depth there can be.
+/// limit and beyond; the Var at every depth there can be. At the end of the type is a
+/// number, which a constant that nests beyond is not, or a record that lacks its text.
 pub fn vars_for_constants_inside() -> Vec<RuleFile> {
     let mut files = vec![];
-    for beyond in [0, LIMITS[3] - 200] {
-        for below in 0..MAX_DEPTH {
-            let leaf = |file: &mut RuleFile| {
-                let inner = add(file, Node::Int(1));
-                let (ty, mut node) = nest(file, &[Record], below, (INT, inner));
-                for _ in 0..beyond {
-                    node = add(file, Node::Record(vec![(FIELD, node)]));
-                }
-                bind_constant(file, node);
-                (ty, add(file, Node::Var(CONSTANT)))
-            };
-            files.extend(to_the_limit(below + 1, leaf));
+    let number = (INT, Node::Int(1), 1);
+    let lacking = (LACKING, Node::Record(vec![]), 2);
+    for (ty, leaf, depth) in [number, lacking] {
+        for beyond in [0, LIMITS[3] - 200] {
+            for below in 0..=MAX_DEPTH - depth {
+                let leaf = |file: &mut RuleFile| {
+                    let inner = add(file, leaf.clone());
+                    let (ty, mut node) = nest(file, &[Record], below, (ty, inner));
+                    for _ in 0..beyond {
+                        node = add(file, Node::Record(vec![(FIELD, node)]));
+                    }
+                    bind_constant(file, node);
+                    (ty, add(file, Node::Var(CONSTANT)))
+                };
+                files.extend(to_the_limit(below + depth, leaf));
+            }
         }
     }
     files
@@ -268,20 +278,25 @@ const MIXED: u64 = 3_000;
 
 fn mixture(rng: &mut Rng) -> RuleFile {
     let mut file = start(false);
-    let leaf = [
-        Node::Int(1),
-        Node::Str(TEXT),
-        Node::Var(NEW),
-        Node::Var(ROW),
-        Node::Prefix(TEXT),
-    ];
     let constant = rng.chance(70);
-    let leaf = leaf[rng.below(if constant { 2 } else { 5 })].clone();
-    let ty = [INT, STR, REFERENCE][rng.below(3)];
+    let (ty, leaf) = if constant {
+        let leaves = [
+            (INT, Node::Int(1)),
+            (LACKING, Node::Record(vec![])),
+            // Of the wrong kind, and refused for it.
+            (STR, Node::Int(1)),
+        ];
+        leaves[rng.weighted(&[30, 60, 10])].clone()
+    } else {
+        let leaves = [Node::Var(NEW), Node::Var(ROW), Node::Prefix(TEXT)];
+        let ty = [INT, STR, REFERENCE][rng.below(3)];
+        (ty, leaves[rng.below(3)].clone())
+    };
     let mut inner = (ty, add(&mut file, leaf));
     let records = rng.within(0, 100);
-    let var = rng.below(MAX_DEPTH);
-    for at in 0..MAX_DEPTH - 1 {
+    let layers = MAX_DEPTH - depths(&file.types)[ty as usize];
+    let var = rng.below(layers + 1);
+    for at in 0..layers {
         if constant && at == var {
             bind_constant(&mut file, inner.1);
             inner.1 = add(&mut file, Node::Var(CONSTANT));
@@ -310,8 +325,8 @@ pub fn deep_constant() -> RuleFile {
     }
     bind_constant(&mut file, node);
     let var = add(&mut file, Node::Var(CONSTANT));
-    let mut ty = INT;
-    for _ in 1..MAX_DEPTH {
+    let mut ty = LACKING;
+    for _ in 2..MAX_DEPTH {
         file.types.push(Type::Record(vec![(FIELD, ty)]));
         ty = file.types.len() as u16 - 1;
     }

@@ -11,7 +11,7 @@ use oracle::file::{MAX_PLAN, Node, RuleFile};
 use oracle::fixed::door::d1;
 use oracle::reread::form;
 use oracle::rng::Rng;
-use oracle::run::{Reference, reference};
+use oracle::run::{Reference, answer, reference};
 use oracle::write::write;
 use oracle::{draw, on_large_stack};
 use sinalvento::Buffers;
@@ -86,12 +86,18 @@ const MANY: u64 = 20_000;
 /// Drawn files whose plans are read for it.
 const PLANS: u64 = 5_000;
 
-/// Drawn files of which the original bodies are the reference: not those that they take
-/// too long for, nor those with equal fields of one row.
+/// Whether the original bodies are a file's reference. They are not where they take too
+/// long for it, where it has equal fields of one row, or where 19 is given.
+fn by_rust(file: &[u8]) -> bool {
+    let reference = answer(file).and_then(|answer| reference(file, &answer));
+    matches!(reference, Some(Reference::Rust(_)))
+}
+
+/// Drawn files of which the original bodies are the reference.
 fn drawn(count: usize) -> Vec<Vec<u8>> {
     on_large_stack(move || {
         draw::files(MIX_SEED, u64::MAX)
-            .filter(|file| matches!(reference(file), Some(Reference::Rust(_))))
+            .filter(|file| by_rust(file))
             .take(count)
             .collect()
     })
@@ -299,8 +305,7 @@ mod tests {
         let compiled = |case: &Case| case.part == Part::Whole && case.files.len() == 1;
         for case in everyday().into_iter().filter(compiled) {
             let file = case.files[0].clone();
-            let by_rust = on_large_stack(move || reference(&file));
-            assert!(matches!(by_rust, Some(Reference::Rust(_))), "{}", case.name);
+            assert!(on_large_stack(move || by_rust(&file)), "{}", case.name);
         }
     }
 

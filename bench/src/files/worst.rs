@@ -11,30 +11,25 @@ const RECORDS: u16 = 4;
 /// The name that stands for the constant.
 const NAME: u16 = 250;
 
-const BYTES: u16 = 0;
-const INT: u16 = 1;
-
-/// Types Bytes, Int, a wide record of Bytes, the same with `last` for its last
-/// field, and the record around them; the nodes of a constant for it, with
-/// fields given in the order in which finding each takes longest.
-fn wide_constant(bytes: usize, last: u16) -> RuleFile {
-    let mut fields: Vec<(u16, u16)> = (0..WIDE).map(|name| (name, BYTES)).collect();
-    let wide = Type::Record(fields.clone());
-    fields[WIDE as usize - 1].1 = last;
+/// These types, a wide record of the last of them, and a record of wide ones; the nodes
+/// of a constant for it, with fields given in the order in which finding each takes
+/// longest.
+fn wide_constant(types: Vec<Type>, leaf: &Node) -> RuleFile {
+    let of_leaf = types.len() as u16 - 1;
     let mut file = RuleFile {
         names: vec![vec![]; WIDE as usize + 1],
-        types: vec![Type::Bytes, Type::Int, wide, Type::Record(fields)],
+        types,
         ..RuleFile::default()
     };
-    let inner = |name: u16| if name == RECORDS - 1 { 3 } else { 2 };
-    let around = (0..RECORDS).map(|name| (name, inner(name))).collect();
-    file.types.push(Type::Record(around));
+    for (count, ty) in [(WIDE, of_leaf), (RECORDS, of_leaf + 1)] {
+        let fields = (0..count).map(|name| (name, ty)).collect();
+        file.types.push(Type::Record(fields));
+    }
 
     let mut records = vec![];
     for name in 0..RECORDS {
         let first = file.nodes.len() as u16;
-        file.nodes
-            .extend((0..WIDE).map(|_| Node::Bytes(vec![0; bytes])));
+        file.nodes.extend((0..WIDE).map(|_| leaf.clone()));
         let given = (0..WIDE).rev().map(|field| (field, first + field));
         file.nodes.push(Node::Record(given.collect()));
         records.push((name, first + WIDE));
@@ -75,18 +70,15 @@ fn all_levels(mut file: RuleFile) -> RuleFile {
     file
 }
 
-/// Accepted, some 16 KB: a thousand Vars on each of 64 levels stand for a
-/// constant of a thousand fields that is encoded up to its last field, which
-/// has the wrong type; then it is opened to nothing.
+/// Accepted, some 15 KB: a thousand Vars on each of 64 levels stand for a constant of a
+/// thousand records that lack their one text. It has no bytes, and is opened to nothing.
 pub fn opened() -> RuleFile {
-    let mut file = wide_constant(0, INT);
-    let (ty, node) = (last_type(&file), last_node(&file));
-    file.types.push(Type::Union(vec![(0, 1, ty)]));
-    file.nodes.push(Node::Record(vec![(0, node)]));
+    let types = vec![Type::Str, Type::Record(vec![(0, 0)])];
+    let mut file = wide_constant(types, &Node::Record(vec![]));
     bind_last(&mut file);
 
-    let union = last_type(&file);
-    let fields = (0..WIDE).map(|name| (name, union)).collect();
+    let constant = last_type(&file);
+    let fields = (0..WIDE).map(|name| (name, constant)).collect();
     file.types.push(Type::Record(fields));
     let record = last_type(&file);
     let around = (0..4).map(|name| (name, record)).collect();
@@ -106,11 +98,11 @@ pub fn opened() -> RuleFile {
 /// record of Vars that stand for a long constant. Each union is asked for its
 /// whole constant first, and the record's last field has none.
 pub fn unions() -> RuleFile {
-    let mut file = wide_constant(4, BYTES);
+    let mut file = wide_constant(vec![Type::Int, Type::Bytes], &Node::Bytes(vec![0; 4]));
     bind_last(&mut file);
     let constant = last_type(&file);
     let mut fields: Vec<(u16, u16)> = (0..WIDE).map(|name| (name, constant)).collect();
-    fields.push((WIDE, INT));
+    fields.push((WIDE, 0));
     file.types.push(Type::Record(fields));
     let first = vars(&mut file, WIDE);
     file.nodes.push(Node::Wildcard);

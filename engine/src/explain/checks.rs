@@ -21,7 +21,7 @@ pub(super) fn check(located: &Located) -> Result<(), Fault> {
     }
 }
 
-fn fault(refusal: Refusal, item: &Item, expected: String, found: String) -> Fault {
+pub(super) fn fault(refusal: Refusal, item: &Item, expected: String, found: String) -> Fault {
     Fault {
         refusal,
         section: Some(item.section),
@@ -123,7 +123,7 @@ fn repeat(located: &Located) -> Option<Fault> {
 }
 
 /// The item with which a record begins.
-fn first(located: &Located, section: Section, record: usize) -> Option<&Item> {
+pub(super) fn first(located: &Located, section: Section, record: usize) -> Option<&Item> {
     fields(located, section, &[What::Kind]).find(|item| item.record == record)
 }
 
@@ -211,7 +211,7 @@ fn depths(types: &[Type]) -> Vec<usize> {
 }
 
 /// Which nodes are constant; children stand before their parents.
-fn constants(nodes: &[Node]) -> Vec<bool> {
+pub(super) fn constants(nodes: &[Node]) -> Vec<bool> {
     let mut constant: Vec<bool> = Vec::with_capacity(nodes.len());
     for node in nodes {
         let of_child = |child: &u16| constant.get(usize::from(*child)) == Some(&true);

@@ -6,6 +6,7 @@
 
 mod checks;
 mod fault;
+mod literal;
 mod overlooked;
 
 use std::fmt;
@@ -61,6 +62,7 @@ pub fn explain(file: &[u8]) -> Explanation {
 fn accepted(file: &[u8]) -> Result<Accepted, Fault> {
     let located = located(file)?;
     checks::check(&located)?;
+    literal::check(&located)?;
     let mut buffers = Buffers::new();
     match compile(file, &mut buffers) {
         Ok(bytes) => Ok(reported(&located, bytes)),

@@ -4,6 +4,7 @@
 use std::collections::HashSet;
 use std::fmt;
 
+use super::literal::a_type;
 use crate::rules::{FieldPattern, FieldType, Located, Node, RuleFile, Section, Type};
 use crate::text::shown_name;
 
@@ -80,11 +81,9 @@ impl Search<'_> {
                     self.pattern(only.node, ty);
                 }
             }
-            (Node::Int(_), Type::Int)
-            | (Node::Str(_), Type::Str)
-            | (Node::Bytes(_), Type::Bytes) => {}
-            (Node::Int(_) | Node::Str(_) | Node::Bytes(_) | Node::Record(_), _) => {
-                let why = format!("{} stands where {} belongs", a_node(node), a_type(ty));
+            // One that is constant is refused by 19.
+            (Node::Record(_), _) => {
+                let why = format!("a record stands where {} belongs", a_type(ty));
                 self.found.push((number, why));
             }
             _ => {}
@@ -119,25 +118,5 @@ impl Search<'_> {
             return String::from("an empty record");
         }
         names.join(", ")
-    }
-}
-
-fn a_node(node: &Node) -> &'static str {
-    match node {
-        Node::Int(_) => "a number",
-        Node::Str(_) => "a text",
-        Node::Bytes(_) => "a string of bytes",
-        _ => "a record",
-    }
-}
-
-fn a_type(ty: &Type) -> &'static str {
-    match ty {
-        Type::Int => "a number (Int)",
-        Type::Str => "a text (Str)",
-        Type::Bytes => "a string of bytes (Bytes)",
-        Type::Fact(_) => "a reference (Fact)",
-        Type::Record(_) => "a record",
-        Type::Union(_) => "a union's alternative",
     }
 }

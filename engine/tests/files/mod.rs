@@ -43,7 +43,7 @@ fn with(sections: &[(usize, &str)]) -> Vec<u8> {
 
 const NAMES: (usize, &str) = (0, "0100 0161");
 
-/// A file for each of the refusals 1 and 3 to 14, which come from the file
+/// A file for each of the refusals 1, 3 to 14 and 19, which come from the file
 /// alone; each is at its boundary where it has one.
 pub fn refused() -> Vec<(u8, Vec<u8>)> {
     let mut deep = String::from("2100 00");
@@ -65,5 +65,14 @@ pub fn refused() -> Vec<(u8, Vec<u8>)> {
         (12, with(&[NAMES, (3, "0200 04 0802 0000 0000 0000 0000")])),
         (13, with(&[NAMES, (3, "0100 04"), (4, "0100 0000 05 0000")])),
         (14, with(&[(6, &steps)])),
+        (
+            19,
+            with(&[
+                (1, "0100 00"),
+                (2, "0100 0000 ffff"),
+                (3, "0100 02 00"),
+                (9, "0100 0000 0000 0000"),
+            ]),
+        ),
     ]
 }

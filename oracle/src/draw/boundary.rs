@@ -94,20 +94,23 @@ fn wide_record(fields: usize, rng: &mut Rng) -> RuleFile {
         types: vec![Type::Int, Type::Str],
         ..RuleFile::default()
     };
-    let mut given = vec![];
+    let (mut given, mut typed) = (vec![], vec![]);
+    // In few files one constant in some hundred has the wrong kind.
+    let spoiled = rng.chance(20);
     for field in 0..fields as u16 {
         file.names.push(vec![b'a' + (field % 26) as u8]);
-        file.nodes.push(match rng.weighted(&[85, 9, 3, 3]) {
+        let ty = rng.weighted(&[90, 10]) as u16;
+        let wrong = spoiled && rng.below(fields) == 0;
+        file.nodes.push(match rng.weighted(&[94, 3, 3]) {
+            0 if (ty == 1) != wrong => Node::Str(field / 2),
             0 => Node::Int(i64::from(field)),
-            1 => Node::Str(field / 2),
-            2 => Node::Var(field),
+            1 => Node::Var(field),
             _ => Node::Wildcard,
         });
         given.push((field, field));
+        typed.push((field, ty));
     }
-    let types = |rng: &mut Rng| rng.weighted(&[90, 10]) as u16;
-    let fields = (0..fields as u16).map(|name| (name, types(rng))).collect();
-    file.types.push(Type::Record(fields));
+    file.types.push(Type::Record(typed));
     if rng.chance(50) {
         given.reverse();
     }
@@ -166,7 +169,21 @@ fn long_plan(rng: &mut Rng) -> RuleFile {
         2 => MAX_PLAN + 1,
         _ => rng.within(MAX_PLAN - 300, MAX_PLAN + 300),
     };
-    plan_of_length(length, rng)
+    let mut file = plan_of_length(length, rng);
+    if rng.chance(15) {
+        mistyped_level(rng, &mut file);
+    }
+    file
+}
+
+/// One more level, anywhere among the others, whose text is a number: 19 comes before 15.
+fn mistyped_level(rng: &mut Rng, file: &mut RuleFile) {
+    if file.levels.len() == LIMITS[9] {
+        return;
+    }
+    file.nodes.push(Node::Int(1));
+    let at = rng.below(file.levels.len() + 1);
+    file.levels.insert(at, level(0, file.nodes.len() - 1, 8));
 }
 
 /// What a plan takes beside its levels.

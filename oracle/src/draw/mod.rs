@@ -4,6 +4,7 @@
 pub mod boundary;
 mod damage;
 mod fault;
+mod literal;
 pub mod names;
 mod own_row;
 mod pattern;
@@ -30,7 +31,7 @@ pub fn file(seed: u64, index: u64) -> Vec<u8> {
         return damage::truncation(seed, index / SWEEP);
     }
     let mut rng = Rng::new(seed, index);
-    match rng.weighted(&[54, 21, 3, 2, 12, 8]) {
+    match rng.weighted(&[50, 25, 3, 2, 12, 8]) {
         0 => write(&query::query(&mut rng)),
         1 => write(&shape::shape(&mut rng)),
         2 => write(&shift::shifted(&mut rng)),

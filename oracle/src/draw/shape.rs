@@ -3,17 +3,19 @@
 use crate::file::*;
 use crate::rng::Rng;
 
+use super::literal::literals;
 use super::own_row::own_rows;
 
 pub fn shape(rng: &mut Rng) -> RuleFile {
-    match rng.weighted(&[18, 20, 20, 16, 22, 4, 30]) {
+    match rng.weighted(&[18, 20, 20, 16, 22, 4, 30, 30]) {
         0 => nested(rng),
         1 => constrained_text(rng),
         2 => compared(rng),
         3 => opened_constant(rng),
         4 => joined_rows(rng),
         5 => access_chain(rng),
-        _ => own_rows(rng),
+        6 => own_rows(rng),
+        _ => literals(rng),
     }
 }
 
@@ -42,15 +44,18 @@ fn nested(rng: &mut Rng) -> RuleFile {
     };
     let mut file = RuleFile {
         names: vec![b"a".to_vec(), b"b".to_vec(), b"\0".to_vec(), vec![]],
-        types: vec![[Type::Int, Type::Str, Type::Fact(0)][rng.below(3)].clone()],
+        types: vec![
+            Type::Int,
+            [Type::Int, Type::Str, Type::Fact(0)][rng.below(3)].clone(),
+        ],
         ..RuleFile::default()
     };
-    let leaf = nested_leaf(rng);
+    let leaf = nested_leaf(rng, &file.types[1]);
     file.nodes.push(leaf);
     let unions = rng.chance(50);
-    for at in 1..depth {
+    for _ in 1..depth {
         let union = unions || rng.chance(50);
-        nest(rng, &mut file, at as u16 - 1, union);
+        nest(rng, &mut file, union);
     }
     let (top, root) = (file.types.len() - 1, file.nodes.len() - 1);
     if rng.chance(50) {
@@ -58,7 +63,7 @@ fn nested(rng: &mut Rng) -> RuleFile {
             field: 0,
             steps: vec![],
         };
-        let slots = [Slot::Row(7, 0), Slot::Field(7, path, 0), Slot::Derived(7)];
+        let slots = [Slot::Row(7, 0), Slot::Field(7, path, 1), Slot::Derived(7)];
         let slot = slots[rng.below(3)].clone();
         file.bindings.push(Binding { name: 3, slot });
     }
@@ -70,10 +75,10 @@ fn nested(rng: &mut Rng) -> RuleFile {
     file
 }
 
-fn nested_leaf(rng: &mut Rng) -> Node {
-    match rng.weighted(&[25, 15, 40, 10, 5, 5]) {
-        0 => Node::Int(5),
-        1 => Node::Str(2),
+fn nested_leaf(rng: &mut Rng, ty: &Type) -> Node {
+    match rng.weighted(&[32, 8, 40, 10, 5, 5]) {
+        0 if *ty == Type::Str => Node::Str(2),
+        0 | 1 => Node::Int(5),
         2 => Node::Var(3),
         3 => Node::Prefix(2),
         4 => Node::Fuzzy(0, 1, Anchor::Whole),
@@ -82,8 +87,8 @@ fn nested_leaf(rng: &mut Rng) -> Node {
 }
 
 /// One more type around the last, and one more node around the last.
-fn nest(rng: &mut Rng, file: &mut RuleFile, inner: u16, union: bool) {
-    let node = (file.nodes.len() - 1) as u16;
+fn nest(rng: &mut Rng, file: &mut RuleFile, union: bool) {
+    let (inner, node) = (file.types.len() as u16 - 1, file.nodes.len() as u16 - 1);
     if union {
         let mut alts = vec![(0, rng.below(3) as u32, inner)];
         if rng.chance(30) {

@@ -1,6 +1,7 @@
 //! The fixed list: files made by hand and by seed, each with its line.
 
 pub mod door;
+mod literal;
 mod own_row;
 pub mod plans;
 mod refusal;
@@ -27,7 +28,8 @@ const HEAD: &str = "\
 # Made by `oracle fixed` (docs/ORACLE.md): the lines are the answers of the copy of
 # the Rust bodies that does what document 02 adds and notes the nodes; less their
 # nodes they are the Rust bodies' own, which a test compares, but for files in which
-# these report code 4. The group of drawn files comes from seed 3.
+# these report code 4 and those that are refused by 19. The group of drawn files
+# comes from seed 3.
 ";
 
 /// The whole list as text.
@@ -56,6 +58,7 @@ fn groups() -> Vec<(&'static str, Vec<Entry>)> {
         ("reads", slots::read_entries()),
         ("lists of levels", walk::levels()),
         ("equal fields of one row", own_row::entries()),
+        ("literals of the wrong kind", literal::entries()),
         ("truncations", refusal::truncations()),
         ("reading", refusal::reading()),
         ("whole-file checks", refusal::checks()),

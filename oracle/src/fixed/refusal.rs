@@ -380,6 +380,18 @@ pub fn long_plans() -> Vec<Entry> {
             "15: a plan of 16,385 bytes, fewer without its nodes",
             plan(MAX_PLAN + 1),
         ),
+        entry(
+            "19 before 15: the same, and a level with a number for a text",
+            {
+                let mut file = plan(MAX_PLAN + 1);
+                file.nodes.push(Node::Int(1));
+                file.levels.push(Level {
+                    node: file.nodes.len() as u16 - 1,
+                    ..file.levels[0]
+                });
+                file
+            },
+        ),
     ]
 }
 
