@@ -4,7 +4,7 @@ use Rattle.rules.specs.Base.{Each, done, more}
 use Rattle.rules.specs.Compile.{Outcome}
 use Rattle.doors.specs.Hex.{openHex}
 use Rattle.doors.specs.Doors.{run, Holds, openRules}
-use Rattle.doors.specs.Literals.{literals, by-var, no-constant, Within}
+use Rattle.doors.specs.Literals.{literals, by-var, no-constant, Within, first-of-both}
 
 pub literals-hold : Each Holds literals
 unfolding run openHex openRules
@@ -13,7 +13,7 @@ literals-hold =
     (more refl (more refl (more refl (more refl (more refl (more refl (more refl (more refl (done))))))))))))))))
 
 -- 19 comes before 15: no plan fits a buffer of nine bytes
-pub before-fifteen : Within 9 by-var (Outcome.refused 19)
+pub before-fifteen : Within 9 by-var first-of-both
 unfolding openHex openRules
 before-fifteen = refl
 

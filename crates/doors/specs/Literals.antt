@@ -132,3 +132,7 @@ literals =
 -- what a row's file comes to in a plan buffer of this many bytes
 abbrev pub Within : ℕ → Row → Outcome → Type 0
 Within room r answer = outcome (lines (r .file)) room workLimit ≡ answer
+
+-- of 19 and 15, in a buffer that is too short for any plan
+abbrev pub first-of-both : Outcome
+first-of-both = Outcome.refused 19
