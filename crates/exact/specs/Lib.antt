@@ -1,0 +1,5 @@
+-- Request [10]: "The level keeps exactly the keys that match".
+pub mod Values
+pub mod Keys
+pub mod Passes
+pub mod Matcher
