@@ -1,1 +1,5 @@
--- to come
+-- Byte strings, values and where their bytes end.
+pub mod Bytes
+pub mod Ends
+-- Placement.
+pub mod Placing
