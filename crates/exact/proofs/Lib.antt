@@ -3,3 +3,5 @@ pub mod Bytes
 pub mod Ends
 -- Placement.
 pub mod Placing
+pub mod Folding
+pub mod Steps

@@ -33,7 +33,7 @@ Edged none none value = Unit {0}
 Edged none (some hi) value = within none (some hi) value ≡ true
 Edged (some lo) hi value = within (some lo) hi value ≡ true
 
-edged-none : (lo hi : Option RangeEdge) (value : Option (List ℕ)) → lo ≡ none → hi ≡ none → Edged lo hi value
+pub edged-none : (lo hi : Option RangeEdge) (value : Option (List ℕ)) → lo ≡ none → hi ≡ none → Edged lo hi value
 edged-none none none value e f = tt
 edged-none none (some hi) value e f = absurd (some≢none hi f)
 edged-none (some lo) hi value e f = absurd (some≢none lo e)

@@ -1,0 +1,151 @@
+-- What every placement does, whatever the key: building never returns, what is folded after the fall stays, and a key that the level keeps after an event was kept
+-- before it.
+use mathlib.Core.Bool.{Bool, true, false}
+use mathlib.Core.List.{List, [], _∷_, _++_, append-assoc}
+use mathlib.Core.Option.{Option, none, some}
+use mathlib.Core.Path.{_≡_, refl, sym, ap, _∙_, subst}
+use Prim.Native.Nat.{ℕ}
+use Rattle.rules.specs.Base.{Each, done, more}
+use Rattle.rules.specs.File.{Ty, Tables, FieldPath, Anchor}
+use Rattle.rules.specs.Events.{Narrowing, Event}
+use Rattle.rules.specs.Placement.{SeekKeyPart, Part, Residual, Guide, Range, Edges, SeekBuilder, withPart, withResidual, withGuide, withRange, withEdges, withCloser, fall, placePart, placePrefix, attachable, placeFuzzy, placeNarrowing, placeCloser, foldFrom, placeBound, place}
+use Rattle.rules.proofs.Cases.{by-test, by-option, true≢false, some≢none}
+use Rattle.exact.specs.Values.{Value}
+use Rattle.exact.specs.Keys.{Engine, stored, holds}
+use Rattle.exact.specs.Passes.{partBytes, partsBytes}
+use Rattle.exact.proofs.Bytes.{Starts, starts-less}
+use Rattle.exact.proofs.Placing.{Open, Edged, edged-none, parts-snoc, Passing, attaches}
+
+-- while building holds nothing stands but parts
+abbrev pub Alone : SeekBuilder → Type 0
+Alone b = b .building ≡ true → Open (b .range) (b .guide) (b .edges)
+
+each-init : {A : Type 0} {P : A → Type 0} (xs : List A) (x : A) → Each P (xs ++ (x ∷ [])) → Each P xs
+each-init [] x h = done
+each-init (y ∷ xs) x (more p h) = more p (each-init xs x h)
+
+module _ (engine : Engine) (ty : Ty) (key : Value) where
+  pub record Steps (b b′ : SeekBuilder) : Type 0 where
+    pub fell : b .building ≡ false → b′ .building ≡ false
+    pub folded : b .building ≡ false → b′ .edges .folded ≡ b .edges .folded
+    pub alone : Alone b → Alone b′
+    pub back : Alone b → Passing engine ty key b′ → Passing engine ty key b
+
+  pub steps-same : (b : SeekBuilder) → Steps b b
+  steps-same b = record { fell = λ q. q; folded = λ q. refl; alone = λ a. a; back = λ a p. p }
+
+  pub steps-next : (a b c : SeekBuilder) → Steps a b → Steps b c → Steps a c
+  steps-next a b c g h =
+      record {
+        fell = λ q. h .fell (g .fell q);
+        folded = λ q. h .folded (g .fell q) ∙ g .folded q;
+        alone = λ q. h .alone (g .alone q);
+        back = λ q p. g .back q (h .back (g .alone q) p);
+      }
+
+  pub steps-fall : (b : SeekBuilder) → Steps b (fall b)
+  unfolding fall
+  steps-fall b =
+      record {
+        fell = λ q. refl;
+        folded = λ q. refl;
+        alone = λ a q. absurd (true≢false (sym q));
+        back = λ a p. record { starts = p .starts; range = p .range; edges = p .edges; guide = p .guide; residuals = p .residuals };
+      }
+
+  steps-residual : (b : SeekBuilder) (residual : Residual) → Steps b (withResidual residual b)
+  unfolding withResidual
+  steps-residual b residual =
+      record {
+        fell = λ q. q;
+        folded = λ q. refl;
+        alone = λ a q. a q;
+        back = λ a p. record { starts = p .starts; range = p .range; edges = p .edges; guide = p .guide; residuals = each-init (b .residuals) residual (p .residuals) };
+      }
+
+  steps-with-part : (b : SeekBuilder) (part : Part) → b .building ≡ true → Steps b (withPart part b)
+  unfolding withPart
+  steps-with-part b part on =
+      record {
+        fell = λ q. absurd (true≢false (sym on ∙ q));
+        folded = λ q. refl;
+        alone = λ a q. a q;
+        back = λ a p.
+            record {
+              starts = starts-less (partsBytes engine (b .parts)) (partBytes engine (part .key)) (stored ty key) (subst (λ l. Starts l (stored ty key)) (parts-snoc engine (b .parts) part) (p .starts));
+              range = λ r q. absurd (some≢none r (sym q ∙ a on .no-range));
+              edges = edged-none (b .edges .lo) (b .edges .hi) _ (a on .no-lo) (a on .no-hi);
+              guide = p .guide;
+              residuals = p .residuals;
+            };
+      }
+
+  steps-part : (n : ℕ) (part : SeekKeyPart) (path : FieldPath) (op : Narrowing) (b : SeekBuilder) → Steps b (placePart n part path op b)
+  unfolding placePart
+  steps-part n part path op b =
+      by-test (Steps b) (b .building) (λ on. steps-with-part b (record { key = part; node = n }) on) (λ off. steps-residual b (record { path = path; op = op; node = n }))
+
+  steps-prefix : (n : ℕ) (path : FieldPath) (prefix : List ℕ) (b : SeekBuilder) → Steps b (placePrefix n path prefix b)
+  unfolding placePrefix fall withRange
+  steps-prefix n path prefix b =
+      by-test (Steps b) (b .building)
+      (λ on. record {
+        fell = λ q. refl;
+        folded = λ q. refl;
+        alone = λ a q. absurd (true≢false (sym q));
+        back = λ a p. record { starts = p .starts; range = λ r q. absurd (some≢none r (sym q ∙ a on .no-range)); edges = p .edges; guide = p .guide; residuals = p .residuals };
+      })
+      (λ off. steps-residual b (record { path = path; op = Narrowing.Prefix prefix; node = n }))
+
+  -- a guide is set once
+  attach-none : (b : SeekBuilder) (path : FieldPath) → attachable b path ≡ true → b .guide ≡ none
+  unfolding attachable
+  attach-none b path = by-option (λ r. r ≡ true → b .guide ≡ none) (b .guide) (λ e r. e) (λ g e r. absurd (true≢false (sym r)))
+
+  steps-fuzzy : (n : ℕ) (path : FieldPath) (x distance : ℕ) (anchor : Anchor) (b : SeekBuilder) → Steps b (placeFuzzy n path x distance anchor b)
+  unfolding placeFuzzy fall withGuide
+  steps-fuzzy n path x distance anchor b =
+      by-test (Steps b) (attachable b path)
+      (λ on. record {
+        fell = λ q. refl;
+        folded = λ q. refl;
+        alone = λ a q. absurd (true≢false (sym q));
+        back = λ a p. record { starts = p .starts; range = p .range; edges = p .edges; guide = λ g q. absurd (some≢none g (sym q ∙ attach-none b path on)); residuals = p .residuals };
+      })
+      (λ off. steps-residual b (record { path = path; op = Narrowing.Fuzzy x distance anchor; node = n }))
+
+  pub steps-narrowing : (n : ℕ) (path : FieldPath) (x : Narrowing) (b : SeekBuilder) → Steps b (placeNarrowing n path x b)
+  unfolding placeNarrowing
+  steps-narrowing n path (Narrowing.Bytes bytes) b = steps-part n _ path _ b
+  steps-narrowing n path (Narrowing.Tag disc) b = steps-part n _ path _ b
+  steps-narrowing n path (Narrowing.RegisterField a at) b = steps-part n _ path _ b
+  steps-narrowing n path (Narrowing.FactId a) b = steps-part n _ path _ b
+  steps-narrowing n path (Narrowing.Prefix prefix) b = steps-prefix n path prefix b
+  steps-narrowing n path (Narrowing.Fuzzy x d a) b = steps-fuzzy n path x d a b
+
+  steps-counted : (b b′ : SeekBuilder) → Steps b b′ → Steps b (withCloser b′)
+  unfolding withCloser
+  steps-counted b b′ s =
+      record {
+        fell = s .fell;
+        folded = s .folded;
+        alone = s .alone;
+        back = λ a p. s .back a (record { starts = p .starts; range = p .range; edges = p .edges; guide = p .guide; residuals = p .residuals });
+      }
+
+  pub steps-closer : (n : ℕ) (b : SeekBuilder) → Steps b (placeCloser n b)
+  unfolding placeCloser
+  steps-closer n b = by-test (Steps b) (b .building) (λ on. steps-counted b _ (steps-with-part b _ on)) (λ off. steps-same b)
+
+  -- a bound and the skip after it
+  pub steps-bound : (T : Tables) (x t : ℕ) (b : SeekBuilder) → Steps b (fall (placeBound T x t b))
+  unfolding placeBound fall withEdges
+  steps-bound T x t b =
+      by-test (λ b′. Steps b (fall b′)) (b .building)
+      (λ on. record {
+        fell = λ q. refl;
+        folded = λ q. absurd (true≢false (sym on ∙ q));
+        alone = λ a q. absurd (true≢false (sym q));
+        back = λ a p. record { starts = p .starts; range = p .range; edges = edged-none (b .edges .lo) (b .edges .hi) _ (a on .no-lo) (a on .no-hi); guide = p .guide; residuals = p .residuals };
+      })
+      (λ off. steps-fall b)
