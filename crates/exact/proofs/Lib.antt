@@ -5,3 +5,5 @@ pub mod Ends
 pub mod Placing
 pub mod Folding
 pub mod Steps
+-- The walk.
+pub mod Quiet
