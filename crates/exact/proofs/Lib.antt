@@ -7,3 +7,4 @@ pub mod Folding
 pub mod Steps
 -- The walk.
 pub mod Quiet
+pub mod Constants

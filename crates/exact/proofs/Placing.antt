@@ -10,7 +10,7 @@ use Rattle.rules.specs.Base.{Each, done, more, concatMap}
 use Rattle.rules.specs.File.{Ty, Tables, FieldPath, Anchor}
 use Rattle.rules.specs.Constant.{term}
 use Rattle.rules.specs.Events.{Narrowing}
-use Rattle.rules.specs.Placement.{SeekKeyPart, Part, Residual, Guide, Range, RangeEdge, Edges, SeekBuilder, new, withPart, withResidual, withGuide, withRange, withEdges, withCloser, fall, placePart, placePrefix, rangeAt, attachable, placeFuzzy, placeCloser, foldFrom, placeBound}
+use Rattle.rules.specs.Placement.{SeekKeyPart, Part, Residual, Guide, Range, RangeEdge, Edges, SeekBuilder, new, withPart, withResidual, withGuide, withRange, withEdges, withCloser, fall, placePart, placePrefix, rangeAt, attachable, placeFuzzy, placeOwn, placeCloser, foldFrom, placeBound}
 use Rattle.rules.proofs.Cases.{by-test, by-option, ways, true≢false, some≢none, some-injective}
 use Rattle.rules.proofs.Each.{each-snoc}
 use Rattle.exact.specs.Values.{Value, encode}
@@ -176,6 +176,16 @@ module _ (engine : Engine) (ty : Ty) (key : Value) where
       by-test (λ b′. Ready b′ y) (attachable b path)
       (λ t. ready-guide b rest y (record { path = path; term = x; distance = distance; anchor = anchor; node = n }) r h)
       (λ f. ready-residual b rest y (record { path = path; op = Narrowing.Fuzzy x distance anchor; node = n }) r (attaches b path f (λ t. r .alone t .no-guide)) h)
+
+  -- a field of the level's own row: always a residual, and building falls
+  pub ready-own : (n : ℕ) (path at : FieldPath) (b : SeekBuilder) (x y : List ℕ) → holds engine ty key path (Narrowing.OwnField at) ≡ true → Ready b x → Ready (placeOwn n path at b) y
+  unfolding placeOwn fall withResidual
+  ready-own n path at b x y h r =
+      record {
+        alone = λ q. absurd (true≢false (sym q));
+        passing = record { starts = r .passing .starts; range = r .passing .range; edges = r .passing .edges; guide = r .passing .guide; residuals = each-snoc (r .passing .residuals) h };
+        ahead = λ q. absurd (true≢false (sym q));
+      }
 
   -- a closer: the byte 00 is next
   pub ready-closer : (n : ℕ) (b : SeekBuilder) (rest : List ℕ) → Ready b (0 ∷ rest) → Ready (placeCloser n b) rest

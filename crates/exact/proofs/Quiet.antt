@@ -34,6 +34,7 @@ record Beside (w : Walk) (a : Answer Walk) (c : Answer (List Binding)) : Type 0 
   bindings : a .walk .lists .bindings ≡ w .lists .bindings
   constrained : a .walk .lists .constrained ≡ w .lists .constrained
   events : a .walk .events ≡ w .events
+  mistyped : a .walk .mistyped ≡ w .mistyped
   selects : Onwards (w .lists .selects) (a .walk .lists .selects)
   diagnostics : Onwards (w .lists .diagnostics) (a .walk .lists .diagnostics)
 
@@ -43,7 +44,7 @@ Reads r r′ = (w : Walk) → Beside w (r w) (r′ (w .lists .bindings))
 reads-give : (s : Option Slot) → Reads (give s) (give s)
 unfolding give
 reads-give s w =
-    record { slot = refl; kept = refl; bindings = refl; constrained = refl; events = refl; selects = onwards-same (w .lists .selects); diagnostics = onwards-same (w .lists .diagnostics) }
+    record { slot = refl; kept = refl; bindings = refl; constrained = refl; events = refl; mistyped = refl; selects = onwards-same (w .lists .selects); diagnostics = onwards-same (w .lists .diagnostics) }
 
 beside-next : (u : Walk) (a b : Answer Walk) (c d : Answer (List Binding)) → Beside u a c → Beside (a .walk) b d → Beside u b d
 beside-next u a b c d g h =
@@ -53,6 +54,7 @@ beside-next u a b c d g h =
       bindings = h .bindings ∙ g .bindings;
       constrained = h .constrained ∙ g .constrained;
       events = h .events ∙ g .events;
+      mistyped = h .mistyped ∙ g .mistyped;
       selects = onwards-next (u .lists .selects) (a .walk .lists .selects) (b .walk .lists .selects) (g .selects) (h .selects);
       diagnostics = onwards-next (u .lists .diagnostics) (a .walk .lists .diagnostics) (b .walk .lists .diagnostics) (g .diagnostics) (h .diagnostics);
     }
@@ -72,7 +74,7 @@ module _ (T : Tables) where
   reads-declined : (n : ℕ) (code : Code) → Reads (declined (walkOps T) T n code) (declined quiet T n code)
   unfolding declined report
   reads-declined n code w =
-      record { slot = refl; kept = refl; bindings = refl; constrained = refl; events = refl; selects = onwards-same (w .lists .selects); diagnostics = onwards-one (w .lists .diagnostics) (record { node = n; code = code }) }
+      record { slot = refl; kept = refl; bindings = refl; constrained = refl; events = refl; mistyped = refl; selects = onwards-same (w .lists .selects); diagnostics = onwards-one (w .lists .diagnostics) (record { node = n; code = code }) }
 
   reads-fetched : (n p : ℕ) (register : Option ℕ) → Reads (fetchedRow (walkOps T) T n p register) (fetchedRow quiet T n p register)
   unfolding fetchedRow
@@ -121,7 +123,7 @@ module _ (T : Tables) where
   unfolding selected select
   reads-selected n path none = reads-give none
   reads-selected n path (some alt) = λ w.
-      record { slot = refl; kept = refl; bindings = refl; constrained = refl; events = refl; selects = onwards-one (w .lists .selects) (record { address = n; path = path; disc = alt .disc }); diagnostics = onwards-same (w .lists .diagnostics) }
+      record { slot = refl; kept = refl; bindings = refl; constrained = refl; events = refl; mistyped = refl; selects = onwards-one (w .lists .selects) (record { address = n; path = path; disc = alt .disc }); diagnostics = onwards-same (w .lists .diagnostics) }
 
   reads-select : (n : ℕ) (s : Slot) (x : ℕ) → Reads (selectSlot (walkOps T) T n s x) (selectSlot quiet T n s x)
   unfolding selectSlot
@@ -143,7 +145,7 @@ module _ (T : Tables) where
   reads-node below below′ h n (Node.Int bytes) = reads-give none
   reads-node below below′ h n (Node.Str x) = reads-give none
   reads-node below below′ h n (Node.Bytes bytes) = reads-give none
-  reads-node below below′ h n (Node.Var x) = λ w. record { slot = refl; kept = refl; bindings = refl; constrained = refl; events = refl; selects = onwards-same (w .lists .selects); diagnostics = onwards-same (w .lists .diagnostics) }
+  reads-node below below′ h n (Node.Var x) = λ w. record { slot = refl; kept = refl; bindings = refl; constrained = refl; events = refl; mistyped = refl; selects = onwards-same (w .lists .selects); diagnostics = onwards-same (w .lists .diagnostics) }
   reads-node below below′ h n Node.Wildcard = reads-give none
   reads-node below below′ h n Node.Never = reads-give none
   reads-node below below′ h n (Node.Prefix x) = reads-give none
@@ -154,7 +156,7 @@ module _ (T : Tables) where
   reads-node below below′ h n (Node.Select x base) = reads-base below below′ h n base (λ place. selectSlot (walkOps T) T n place x) (λ place. selectSlot quiet T n place x) (λ s. reads-select n s x)
   reads-node below below′ h n Node.Disjunction = reads-give none
   reads-node below below′ h n Node.Subquery = reads-give none
-  reads-node below below′ h n (Node.Fact p key′) = λ w. record { slot = refl; kept = refl; bindings = refl; constrained = refl; events = refl; selects = onwards-same (w .lists .selects); diagnostics = onwards-same (w .lists .diagnostics) }
+  reads-node below below′ h n (Node.Fact p key′) = λ w. record { slot = refl; kept = refl; bindings = refl; constrained = refl; events = refl; mistyped = refl; selects = onwards-same (w .lists .selects); diagnostics = onwards-same (w .lists .diagnostics) }
   reads-node below below′ h n Node.Arith = reads-give none
   reads-node below below′ h n Node.Error = reads-give none
 
@@ -173,8 +175,8 @@ module _ (T : Tables) where
     pub same : Clean (resolve (walkOps T) T n w .walk) → resolve (walkOps T) T n w .walk ≡ w
 
   -- a walk by its parts
-  walk-is : (a w : Walk) → a .lists .bindings ≡ w .lists .bindings → a .lists .constrained ≡ w .lists .constrained → a .lists .selects ≡ w .lists .selects → a .lists .diagnostics ≡ w .lists .diagnostics → a .events ≡ w .events → a ≡ w
-  walk-is a w b c s d e = λ i. record { lists = record { bindings = b i; constrained = c i; selects = s i; diagnostics = d i }; events = e i }
+  walk-is : (a w : Walk) → a .lists .bindings ≡ w .lists .bindings → a .lists .constrained ≡ w .lists .constrained → a .lists .selects ≡ w .lists .selects → a .lists .diagnostics ≡ w .lists .diagnostics → a .events ≡ w .events → a .mistyped ≡ w .mistyped → a ≡ w
+  walk-is a w b c s d e m = λ i. record { lists = record { bindings = b i; constrained = c i; selects = s i; diagnostics = d i }; events = e i; mistyped = m i }
 
   pub read-is : (n : ℕ) (w : Walk) → Read n w
   unfolding resolve slotOf
@@ -188,5 +190,5 @@ module _ (T : Tables) where
         bindings = p .bindings;
         events = p .events;
         clean = λ k. record { selects = s k; diagnostics = d k };
-        same = λ k. walk-is a w (p .bindings) (p .constrained) (k .selects ∙ sym (s k)) (k .diagnostics ∙ sym (d k)) (p .events);
+        same = λ k. walk-is a w (p .bindings) (p .constrained) (k .selects ∙ sym (s k)) (k .diagnostics ∙ sym (d k)) (p .events) (p .mistyped);
       }

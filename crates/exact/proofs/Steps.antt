@@ -8,7 +8,7 @@ use Prim.Native.Nat.{ℕ}
 use Rattle.rules.specs.Base.{Each, done, more}
 use Rattle.rules.specs.File.{Ty, Tables, FieldPath, Anchor}
 use Rattle.rules.specs.Events.{Narrowing, Event}
-use Rattle.rules.specs.Placement.{SeekKeyPart, Part, Residual, Guide, Range, Edges, SeekBuilder, withPart, withResidual, withGuide, withRange, withEdges, withCloser, fall, placePart, placePrefix, attachable, placeFuzzy, placeNarrowing, placeCloser, foldFrom, placeBound, place}
+use Rattle.rules.specs.Placement.{SeekKeyPart, Part, Residual, Guide, Range, Edges, SeekBuilder, withPart, withResidual, withGuide, withRange, withEdges, withCloser, fall, placePart, placePrefix, attachable, placeFuzzy, placeOwn, placeNarrowing, placeCloser, foldFrom, placeBound, place}
 use Rattle.rules.proofs.Cases.{by-test, by-option, true≢false, some≢none}
 use Rattle.exact.specs.Values.{Value}
 use Rattle.exact.specs.Keys.{Engine, stored, holds}
@@ -115,13 +115,14 @@ module _ (engine : Engine) (ty : Ty) (key : Value) where
       (λ off. steps-residual b (record { path = path; op = Narrowing.Fuzzy x distance anchor; node = n }))
 
   pub steps-narrowing : (n : ℕ) (path : FieldPath) (x : Narrowing) (b : SeekBuilder) → Steps b (placeNarrowing n path x b)
-  unfolding placeNarrowing
+  unfolding placeNarrowing placeOwn
   steps-narrowing n path (Narrowing.Bytes bytes) b = steps-part n _ path _ b
   steps-narrowing n path (Narrowing.Tag disc) b = steps-part n _ path _ b
   steps-narrowing n path (Narrowing.RegisterField a at) b = steps-part n _ path _ b
   steps-narrowing n path (Narrowing.FactId a) b = steps-part n _ path _ b
   steps-narrowing n path (Narrowing.Prefix prefix) b = steps-prefix n path prefix b
   steps-narrowing n path (Narrowing.Fuzzy x d a) b = steps-fuzzy n path x d a b
+  steps-narrowing n path (Narrowing.OwnField at) b = steps-next b _ _ (steps-residual b _) (steps-fall _)
 
   steps-counted : (b b′ : SeekBuilder) → Steps b b′ → Steps b (withCloser b′)
   unfolding withCloser

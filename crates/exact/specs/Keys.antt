@@ -4,7 +4,7 @@ use mathlib.Core.List.{List, [], _∷_, _++_}
 use mathlib.Core.Option.{Option, none, some}
 use Prim.Native.Nat.{ℕ, zero, suc}
 use lib.Dec.{eqb, ltb}
-use Rattle.rules.specs.Base.{both, _whenSome_ as _>>=_}
+use Rattle.rules.specs.Base.{both, either, _whenSome_ as _>>=_}
 use Rattle.rules.specs.File.{Anchor, CompareOp, Ty, FieldPath, recordTy}
 use Rattle.rules.specs.Lookup.{sameSteps}
 use Rattle.rules.specs.Events.{Narrowing}
@@ -104,6 +104,7 @@ says engine ty key (Narrowing.RegisterField address at) v = hasBytes (engine .fi
 says engine ty key (Narrowing.FactId address) v = hasBytes (encodeFact (engine .row address)) v
 says engine ty key (Narrowing.Prefix bytes) v = begins bytes (encode v)
 says engine ty key (Narrowing.Fuzzy x distance anchor) v = near engine x distance anchor v
+says engine ty key (Narrowing.OwnField at) v = sameAs ty key at v
 
 unfoldable pub holds : Engine → Ty → Value → FieldPath → Narrowing → Bool
 holds engine ty key path op = elim (valueAt ty key path) [ some v ↦ says engine ty key op v | none ↦ false ]
@@ -115,10 +116,6 @@ less [] (b ∷ bs) = true
 less (a ∷ as′) [] = false
 less (a ∷ as′) (b ∷ bs) = elim (ltb a b) [ true ↦ true | false ↦ both (eqb a b) (less as′ bs) ]
 
-unfoldable pub either : Bool → Bool → Bool
-either true b = true
-either false b = b
-
 -- a comparison of byte strings
 unfoldable pub ordered : CompareOp → List ℕ → List ℕ → Bool
 ordered CompareOp.Lt a b = less a b
@@ -127,5 +124,5 @@ ordered CompareOp.Gt a b = less b a
 ordered CompareOp.Ge a b = either (less b a) (sameBytes a b)
 
 unfoldable pub openKeys : Unit {0}
-unfolding stored nth step follow start valueAt begins hasDisc textOf textPasses near hasBytes sameAs says holds less either ordered
+unfolding stored nth step follow start valueAt begins hasDisc textOf textPasses near hasBytes sameAs says holds less ordered
 openKeys = tt

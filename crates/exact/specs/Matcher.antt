@@ -31,6 +31,7 @@ quiet =
       skip = λ bound. bound;
       closer = λ n bound. bound;
       bound = λ x t bound. bound;
+      brings = λ slot ty bound. bound;
     }
 
 unfoldable pub slotOf : Tables → ℕ → List Binding → Option Slot
