@@ -8,3 +8,4 @@ pub mod Steps
 -- The walk.
 pub mod Quiet
 pub mod Constants
+pub mod Grows

@@ -14,10 +14,11 @@ use Rattle.rules.proofs.Choices.{by-test₂, by-option₂}
 use Rattle.rules.proofs.Lists.{Onwards, onwards-same, onwards-next, onwards-one}
 use Rattle.exact.specs.Matcher.{quiet, slotOf}
 
--- no diagnostics and no selects
+-- no diagnostics and no selects, and no constant was brought to a type that gives it no bytes
 pub record Clean (w : Walk) : Type 0 where
   pub selects : w .lists .selects ≡ []
   pub diagnostics : w .lists .diagnostics ≡ []
+  pub typed : w .mistyped ≡ false
 
 abbrev IsNil : {A : Type 0} → List A → Type 0
 IsNil [] = Unit {0}
@@ -189,6 +190,6 @@ module _ (T : Tables) where
         slot = sym (p .slot);
         bindings = p .bindings;
         events = p .events;
-        clean = λ k. record { selects = s k; diagnostics = d k };
+        clean = λ k. record { selects = s k; diagnostics = d k; typed = sym (p .mistyped) ∙ k .typed };
         same = λ k. walk-is a w (p .bindings) (p .constrained) (k .selects ∙ sym (s k)) (k .diagnostics ∙ sym (d k)) (p .events) (p .mistyped);
       }

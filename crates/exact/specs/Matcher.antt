@@ -156,25 +156,25 @@ module _ (T : Tables) (engine : Engine) (address : ℕ) (ty : Ty) (key : Value) 
     recordAt fields (Ty.Record fs) v path bound = recordMatches fields fs v path bound
     recordAt fields (Ty.Union alts) v path bound = unionMatches (onlyField fields) alts v path bound
 
-    -- a literal or a record, as it is written
+    -- a literal or a record, as it is written. Nothing else is constant, so of a Const slot nothing else is met (refusal 13).
     unfoldable pub writtenMatches : Node → ℕ → Value → FieldPath → List Binding → Option (List Binding)
     writtenMatches (Node.Int bytes) t v path bound = accept (isInt bytes v) bound
     writtenMatches (Node.Str x) t v path bound = accept (textPasses (sameBytes (nameAt T x)) v) bound
     writtenMatches (Node.Bytes bytes) t v path bound = accept (isBytes bytes v) bound
-    writtenMatches (Node.Var x) t v path bound = some bound
-    writtenMatches Node.Wildcard t v path bound = some bound
-    writtenMatches Node.Never t v path bound = some bound
-    writtenMatches (Node.Prefix x) t v path bound = some bound
-    writtenMatches (Node.Fuzzy x d a) t v path bound = some bound
+    writtenMatches (Node.Var x) t v path bound = none
+    writtenMatches Node.Wildcard t v path bound = none
+    writtenMatches Node.Never t v path bound = none
+    writtenMatches (Node.Prefix x) t v path bound = none
+    writtenMatches (Node.Fuzzy x d a) t v path bound = none
     writtenMatches (Node.Record fs) t v path bound = recordAt fs (typeAt T t) v path bound
-    writtenMatches (Node.Access x n) t v path bound = some bound
-    writtenMatches (Node.Value n) t v path bound = some bound
-    writtenMatches (Node.Select x n) t v path bound = some bound
-    writtenMatches Node.Disjunction t v path bound = some bound
-    writtenMatches Node.Subquery t v path bound = some bound
-    writtenMatches (Node.Fact p n) t v path bound = some bound
-    writtenMatches Node.Arith t v path bound = some bound
-    writtenMatches Node.Error t v path bound = some bound
+    writtenMatches (Node.Access x n) t v path bound = none
+    writtenMatches (Node.Value n) t v path bound = none
+    writtenMatches (Node.Select x n) t v path bound = none
+    writtenMatches Node.Disjunction t v path bound = none
+    writtenMatches Node.Subquery t v path bound = none
+    writtenMatches (Node.Fact p n) t v path bound = none
+    writtenMatches Node.Arith t v path bound = none
+    writtenMatches Node.Error t v path bound = none
 
     -- a pattern that stands for a slot: the value that the slot holds
     unfoldable pub slotMatches : Slot → ℕ → Value → FieldPath → List Binding → Option (List Binding)
