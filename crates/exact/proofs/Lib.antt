@@ -9,3 +9,6 @@ pub mod Steps
 pub mod Quiet
 pub mod Constants
 pub mod Grows
+pub mod Values
+-- No fact is skipped.
+pub mod Forward
