@@ -12,3 +12,4 @@ pub mod Grows
 pub mod Values
 -- No fact is skipped.
 pub mod Forward
+pub mod Names
