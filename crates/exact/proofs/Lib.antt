@@ -13,3 +13,4 @@ pub mod Values
 -- No fact is skipped.
 pub mod Forward
 pub mod Names
+pub mod Pieces
