@@ -8,7 +8,7 @@ use native.Mathlib.Nat.{zero-add, not-suc-le-zero}
 use native.Mathlib.Omega.{arith}
 use lib.Dec.{eqb}
 use lib.ListN.{length, getD, take, List·getD-eq-default}
-use Rattle.rules.specs.Base.{_whenSome_}
+use Rattle.rules.specs.Base.{_whenSome_, bottomUp}
 use Rattle.rules.specs.File.{Tables, FieldTy, Alternative, Ty, Anchor, FieldPattern, Node, FieldPath, Slot, Binding, nameAt, typeAt, nodeAt, varName, then, payload, constantOf, constants, isConstant}
 use Rattle.rules.specs.Constant.{Const, bytesOnly, fieldPattern, alternativeOf, onlyField, lookup, constNode, constOf, standsFor, atInt, atStr, atBytes, encodeInt, encodeStr, encodeBytes, encodeRecord, encodeUnion, constantFields, constantRecord, constantNode, constantBelow, constant, encodePrefix}
 use Rattle.rules.specs.Resolve.{Resolver, give, resolveNode, resolveBelow, resolve}
@@ -158,6 +158,17 @@ pub read-node : (T : Tables) (n limit : ℕ) (bound : List Binding) → isConsta
 unfolding resolveBelow
 read-node T n limit bound e =
     ap (λ (b : Bool). (elim b as (λ _. Resolver (List Binding)) [ true ↦ give (some (Slot.Const n)) | false ↦ resolveNode quiet T (resolveBelow quiet T limit) n (nodeAt T n) ]) bound .slot) e
+
+-- a node of a kind that is never constant
+pub not-constant : (T : Tables) (node : Node) (n : ℕ) → nodeAt T n ≡ node → ((cs : List Bool) → constantOf cs node ≡ false) → isConstant T n ≡ false
+unfolding isConstant constants nodeAt
+not-constant T node n e h =
+    by-order n (length (T .nodes))
+    (λ l. rw (zero-add n) at (at-place constantOf [] (T .nodes) n false Node.Error l) ∙ ap (constantOf (take n (constants T))) e ∙ h (take n (constants T)))
+    (λ l. List·getD-eq-default (constants T) false (many l))
+  where
+    many : length (T .nodes) ≤ n → length (bottomUp constantOf [] (T .nodes)) ≤ n
+    many l = let r = extends constantOf [] (T .nodes) in omega (arith, l, r .2, ap length (r .1))
 
 pub slot-of-var : (T : Tables) (n x : ℕ) (bound : List Binding) → nodeAt T n ≡ Node.Var x → slotOf T n bound ≡ lookup bound x
 unfolding slotOf resolve resolveNode

@@ -14,3 +14,4 @@ pub mod Values
 pub mod Forward
 pub mod Names
 pub mod Pieces
+pub mod Patterns

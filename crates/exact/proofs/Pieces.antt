@@ -124,7 +124,7 @@ module _ (T : Tables) (engine : Engine) (address : ℕ) (ty : Ty) (key : Value) 
     partial-fields-grow (some fields) none path w = grows-same T engine ty key w
     partial-fields-grow (some fields) (some fs) path w = goes-each T engine address ty key folded Fell walkBelow matchBelow (λ x. x) (then path) fields ih miss-none 0 fs w .grows
 
-    partial-grows : (n t : ℕ) (path : FieldPath) (w : Walk) → Grows T engine ty key w (partial (walkOps T) T address walkBelow n t path w)
+    pub partial-grows : (n t : ℕ) (path : FieldPath) (w : Walk) → Grows T engine ty key w (partial (walkOps T) T address walkBelow n t path w)
     unfolding partial
     partial-grows n t path w = grows-next T engine ty key w (emit Event.skip w) _ (grows-skip T engine ty key w) (partial-fields-grow (recordFields (nodeAt T n)) (recordTy (typeAt T t)) path (emit Event.skip w))
 
@@ -139,7 +139,7 @@ module _ (T : Tables) (engine : Engine) (address : ℕ) (ty : Ty) (key : Value) 
     goes-opened fields (Ty.Record fs) path w e = goes-fields fields fs path w
     goes-opened fields (Ty.Union alts) path w e = absurd (some≢none alts e)
 
-    goes-partial : (n t : ℕ) (path : FieldPath) (w : Walk) (fields : List FieldPattern) → nodeAt T n ≡ Node.Record fields → unionTy (typeAt T t) ≡ none
+    pub goes-partial : (n t : ℕ) (path : FieldPath) (w : Walk) (fields : List FieldPattern) → nodeAt T n ≡ Node.Record fields → unionTy (typeAt T t) ≡ none
         → Goes T engine address ty key folded w (partial (walkOps T) T address walkBelow n t path w) path (λ v. recordAt T engine address ty key folded matchBelow fields (typeAt T t) v path (w .lists .bindings))
     unfolding partial recordFields
     goes-partial n t path w fields q e =
@@ -158,14 +158,14 @@ module _ (T : Tables) (engine : Engine) (address : ℕ) (ty : Ty) (key : Value) 
     const-choice-is n c t path w (some k) = refl
 
     -- where the walk noted nothing, both are records
-    noted : (c t : ℕ) (path : FieldPath) (w : Walk) → Clean (partial (walkOps T) T address walkBelow c t path (brings T (Slot.Const c) (typeAt T t) w))
+    pub noted : (c t : ℕ) (path : FieldPath) (w : Walk) → Clean (partial (walkOps T) T address walkBelow c t path (brings T (Slot.Const c) (typeAt T t) w))
         → (gs : List FieldPattern) × (hs : List FieldTy) × (recordFields (nodeAt T c) ≡ some gs) × (recordTy (typeAt T t) ≡ some hs)
     unfolding brings isMistyped
     noted c t path w cl =
         both-records (recordFields (nodeAt T c)) (recordTy (typeAt T t))
         (either-right (w .mistyped) (unlessRecords (recordFields (nodeAt T c)) (recordTy (typeAt T t))) (partial-grows c t path (brings T (Slot.Const c) (typeAt T t) w) .clean cl .typed))
 
-    no-union : (u : Ty) (fs : List FieldTy) → recordTy u ≡ some fs → unionTy u ≡ none
+    pub no-union : (u : Ty) (fs : List FieldTy) → recordTy u ≡ some fs → unionTy u ≡ none
     unfolding recordTy unionTy
     no-union Ty.Int fs e = refl
     no-union Ty.Str fs e = refl
@@ -233,7 +233,7 @@ module _ (T : Tables) (engine : Engine) (address : ℕ) (ty : Ty) (key : Value) 
           (p .1, ready-own engine ty key n path other (built T w) (encode v ++ r) r (holds-at ty key engine path (Narrowing.OwnField other) v at (p .0))))
 
     -- what a slot stands for
-    goes-matched : (n : ℕ) (slot : Slot) (t : ℕ) (path : FieldPath) (w : Walk)
+    pub goes-matched : (n : ℕ) (slot : Slot) (t : ℕ) (path : FieldPath) (w : Walk)
         → Goes T engine address ty key folded w (matched (walkOps T) T address walkBelow n slot t path w) path (λ v. slotMatches T engine address ty key folded matchBelow slot t v path (w .lists .bindings))
     unfolding matched slotMatches
     goes-matched n (Slot.Row from p) t path w = go (refersTo p (factTy (typeAt T t)))
