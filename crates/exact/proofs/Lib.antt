@@ -15,3 +15,5 @@ pub mod Forward
 pub mod Names
 pub mod Pieces
 pub mod Patterns
+pub mod Level
+pub mod Planned

@@ -3,3 +3,4 @@ pub mod Values
 pub mod Keys
 pub mod Passes
 pub mod Matcher
+pub mod Conditions

@@ -6,7 +6,7 @@ use mathlib.Core.Path.{_≡_}
 use Prim.Native.Nat.{ℕ, zero, suc, _/_, _%_, _<_}
 use lib.ListN.{length}
 use lib.Dec.{eqb}
-use Rattle.rules.specs.Base.{Each, both, all}
+use Rattle.rules.specs.Base.{Each, both, all, first}
 use Rattle.rules.specs.File.{Tables, FieldTy, Alternative, Ty, typeAt}
 use Rattle.rules.specs.Constant.{term, encodeInt, encodeStr, encodeBytes, encodeRecord, encodeUnion}
 use Rattle.rules.specs.Demand1.{Byte}
@@ -68,6 +68,25 @@ unfoldable mutual
   pub allZeroFree : Values → Bool
   allZeroFree Values.no-more = true
   allZeroFree (v and vs) = both (zeroFree v) (allZeroFree vs)
+
+-- Values of a type. A union's value has the disc of one of its alternatives, and under it a value of that alternative's type; refusal 10 lets
+-- no disc stand twice.
+abbrev mutual
+  pub OfType : Tables → Value → Ty → Type 0
+  OfType T (Value.Int bytes) ty = (ty ≡ Ty.Int) × (length bytes ≡ 8) × Each Byte bytes
+  OfType T (Value.Str text) ty = (ty ≡ Ty.Str) × Each Byte text
+  OfType T (Value.Bytes bytes) ty = (ty ≡ Ty.Bytes) × Each Byte bytes
+  OfType T (Value.Fact id) ty = (p : ℕ) × (ty ≡ Ty.Fact p) × (id < 18446744073709551616)
+  OfType T (Value.Rec fields) ty = (fs : List FieldTy) × (ty ≡ Ty.Record fs) × OfTypes T fields fs
+  OfType T (Value.Uni disc v) ty =
+      (alts : List Alternative) × (alt : Alternative) × (ty ≡ Ty.Union alts) × (first (λ a. eqb (a .disc) disc) alts ≡ some alt) ×
+      OfType T v (typeAt T (alt .type))
+
+  pub OfTypes : Tables → Values → List FieldTy → Type 0
+  OfTypes T Values.no-more [] = Unit {0}
+  OfTypes T Values.no-more (f ∷ fs) = ⊥
+  OfTypes T (v and vs) [] = ⊥
+  OfTypes T (v and vs) (f ∷ fs) = OfType T v (typeAt T (f .type)) × OfTypes T vs fs
 
 unfoldable pub openValues : Unit {0}
 unfolding bigEndian64 encodeFact encode noZero zeroFree

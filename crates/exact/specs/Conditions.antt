@@ -1,0 +1,79 @@
+-- Request [10]'s conditions on a file, on a key and on what the engine holds.
+use mathlib.Core.Bool.{Bool, true, false}
+use mathlib.Core.List.{List, [], _∷_}
+use mathlib.Core.Option.{Option, none, some}
+use mathlib.Core.Path.{_≡_}
+use Prim.Native.Nat.{ℕ}
+use Rattle.rules.specs.Base.{Each, both, all}
+use Rattle.rules.specs.File.{Tables, FieldTy, Ty, Node, Binding, LevelEntry, nodeAt, recordTy}
+use Rattle.rules.specs.Checks.{checks, fault}
+use Rattle.rules.specs.Constant.{lookup}
+use Rattle.rules.specs.Events.{Lists}
+use Rattle.rules.specs.Levels.{Level, level, levels, starting}
+use Rattle.rules.specs.Plan.{plan}
+use Rattle.exact.specs.Matcher.{keyType}
+
+-- "whose constraints are all prefixes or fuzzies"
+unfoldable pub isText : Node → Bool
+isText (Node.Int bytes) = false
+isText (Node.Str x) = false
+isText (Node.Bytes bytes) = false
+isText (Node.Var x) = false
+isText Node.Wildcard = false
+isText Node.Never = false
+isText (Node.Prefix x) = true
+isText (Node.Fuzzy x d a) = true
+isText (Node.Record fs) = false
+isText (Node.Access x n) = false
+isText (Node.Value n) = false
+isText (Node.Select x n) = false
+isText Node.Disjunction = false
+isText Node.Subquery = false
+isText (Node.Fact p n) = false
+isText Node.Arith = false
+isText Node.Error = false
+
+unfoldable pub constraintsAreTexts : Tables → Bool
+constraintsAreTexts T = all (λ k. isText (nodeAt T (k .node))) (T .constraints)
+
+-- "whose levels' own nodes are records, wildcards or names (new ones where the key is a record)"
+unfoldable pub isNew : Option (List FieldTy) → List Binding → ℕ → Bool
+isNew none bound x = true
+isNew (some fs) bound x = elim (lookup bound x) [ none ↦ true | some slot ↦ false ]
+
+unfoldable pub isOwn : Node → Ty → List Binding → Bool
+isOwn (Node.Int bytes) ty bound = false
+isOwn (Node.Str x) ty bound = false
+isOwn (Node.Bytes bytes) ty bound = false
+isOwn (Node.Var x) ty bound = isNew (recordTy ty) bound x
+isOwn Node.Wildcard ty bound = true
+isOwn Node.Never ty bound = false
+isOwn (Node.Prefix x) ty bound = false
+isOwn (Node.Fuzzy x d a) ty bound = false
+isOwn (Node.Record fs) ty bound = true
+isOwn (Node.Access x n) ty bound = false
+isOwn (Node.Value n) ty bound = false
+isOwn (Node.Select x n) ty bound = false
+isOwn Node.Disjunction ty bound = false
+isOwn Node.Subquery ty bound = false
+isOwn (Node.Fact p n) ty bound = false
+isOwn Node.Arith ty bound = false
+isOwn Node.Error ty bound = false
+
+-- of each level, with the bindings that it starts from
+unfoldable pub ownNodes : Tables → Lists → List LevelEntry → Bool
+ownNodes T start [] = true
+ownNodes T start (l ∷ ls) = both (isOwn (nodeAt T (l .node)) (keyType T l) (start .bindings)) (ownNodes T (level T l start .left) ls)
+
+-- "an accepted file without diagnostics and selects". No level's walk brings a constant to a type that gives it no bytes: refusal 19.
+pub record Plain (T : Tables) : Type 0 where
+  pub accepted : fault checks T ≡ none
+  pub typed : Each (λ l. l .mistyped ≡ false) (levels T)
+  pub no-diagnostics : plan T .diagnostics ≡ []
+  pub no-selects : plan T .selects ≡ []
+  pub texts : constraintsAreTexts T ≡ true
+  pub own : ownNodes T (starting T) (T .levels) ≡ true
+
+unfoldable pub openConditions : Unit {0}
+unfolding isText constraintsAreTexts isNew isOwn ownNodes
+openConditions = tt
