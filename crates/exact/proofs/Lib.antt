@@ -17,3 +17,4 @@ pub mod Pieces
 pub mod Patterns
 pub mod Level
 pub mod Planned
+pub mod NoFactSkipped

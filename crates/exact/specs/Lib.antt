@@ -4,3 +4,4 @@ pub mod Keys
 pub mod Passes
 pub mod Matcher
 pub mod Conditions
+pub mod Claims
