@@ -229,7 +229,7 @@ module _ (T : Tables) (engine : Engine) (address : ℕ) (ty : Ty) (key : Value) 
         let rest = bind-some (constantFields (constantBelow T limit) fields fs) _ b (own .2) in
         let first = bind-some (elim (fieldPattern fields (g .name)) as (λ _. Option (List Binding)) [ none ↦ some bound | some n ↦ below f n (g .type) v (place i) bound ]) _ after m in
         let h = ih (pattern .0) (g .type) (own .0) (constant .1 ∙ ap some (only-bytes (constant .0) (own .0) (own .1))) f v (place i) bound (first .0) c
-              (ap (λ (o : Option ℕ). elim o as (λ _. Option (List Binding)) [ none ↦ some bound | some n ↦ below f n (g .type) v (place i) bound ]) (sym (pattern .1)) ∙ first .1) in
+        (ap (λ (o : Option ℕ). elim o as (λ _. Option (List Binding)) [ none ↦ some bound | some n ↦ below f n (g .type) v (place i) bound ]) (sym (pattern .1)) ∙ first .1) in
         let k = fields-bytes fields fs (rest .0) (rest .1) place (suc i) vs bound after c (ap (λ (l : List Binding). eachMatches (below f) place fields (suc i) fs vs l) (sym (h .1)) ∙ first .2) in
         (ap₂ (λ (x y : List ℕ). x ++ y) (h .0) (k .0) ∙ some-injective (own .0 ++ rest .0) b (rest .2), k .1)
 
@@ -397,7 +397,7 @@ module _ (T : Tables) (engine : Engine) (address : ℕ) (ty : Ty) (key : Value) 
       → writtenMatches T engine address ty key folded (below f) node t v path bound ≡ some after → Written k v bound after
   written-is node limit f n t k v path bound after q e b i c m =
       let h = written-bytes limit (constant-bytes limit) f node t b v path bound after
-            (ap (λ (x : Node). constantNode T (constantBelow T limit) x (typeAt T t)) (sym q) ∙ e ∙ ap some i) c m in
+      (ap (λ (x : Node). constantNode T (constantBelow T limit) x (typeAt T t)) (sym q) ∙ e ∙ ap some i) c m in
       record { bytes = b; is = i; encoded = h .0; same = h .1 }
 
   pub written-constant : (node : Node) (f n t : ℕ) (k : Const) (v : Value) (path : FieldPath) (bound after : List Binding) → nodeAt T n ≡ node → constant T n t ≡ some k → Consts bound

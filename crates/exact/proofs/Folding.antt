@@ -126,7 +126,7 @@ module _ (engine : Engine) (ty : Ty) (key : Value) where
       let e : Edges = foldFrom T x t 0 (T .comparisons) (b .edges) in
       let g = good-fold T folded x t v 0 (T .comparisons) (b .edges) (good-new (encode v) (b .edges) (o .no-lo) (o .no-hi)) (λ j q. subst (Has j) k q) h in
       let left : drop (length (partsBytes engine (b .parts))) (stored ty key) ≡ encode v ++ rest =
-            ap (drop (length (partsBytes engine (b .parts)))) (r .ahead on) ∙ drop-append-seam (partsBytes engine (b .parts)) (encode v ++ rest) in
+      ap (drop (length (partsBytes engine (b .parts)))) (r .ahead on) ∙ drop-append-seam (partsBytes engine (b .parts)) (encode v ++ rest) in
       record {
         alone = λ q. absurd (true≢false (sym q));
         passing = record {

@@ -89,7 +89,7 @@ module _ (T : Tables) (engine : Engine) (address : ℕ) (ty : Ty) (key : Value) 
   -- one narrowing
   pub goes-narrow : (n : ℕ) (path : FieldPath) (x : Narrowing) (w : Walk) (m : Value → Option (List Binding))
       → ((v : Value) (r : List ℕ) (after : List Binding) → valueAt ty key path ≡ some v → Consts T engine address ty key folded (w .lists .bindings) → m v ≡ some after
-        → (after ≡ w .lists .bindings) × (Ready engine ty key (built T w) (encode v ++ r) → Ready engine ty key (placeNarrowing n path x (built T w)) r))
+      → (after ≡ w .lists .bindings) × (Ready engine ty key (built T w) (encode v ++ r) → Ready engine ty key (placeNarrowing n path x (built T w)) r))
       → Goes w (emit (Event.narrow n path x) w) path m
   unfolding place
   goes-narrow n path x w m h =
@@ -111,10 +111,12 @@ module _ (T : Tables) (engine : Engine) (address : ℕ) (ty : Ty) (key : Value) 
   goes-written n path k w m h =
       goes-narrow n path (narrowing k) w m
       (λ v r after at c q.
-        let p = h v after c q in
-        (p .same, λ rd. subst (λ (x : Const). Ready engine ty key (placeNarrowing n path (narrowing x) (built T w)) r) (sym (p .is))
-        (ready-part engine ty key n (SeekKeyPart.Bytes (p .bytes)) path (Narrowing.Bytes (p .bytes)) (built T w) (encode v) r (sym (p .encoded))
-        (holds-at ty key engine path (Narrowing.Bytes (p .bytes)) v at (eq-same (encode v) (p .bytes) (p .encoded))) rd)))
+      let p = h v after c q in (
+        p .same,
+        λ rd. subst (λ (x : Const). Ready engine ty key (placeNarrowing n path (narrowing x) (built T w)) r) (sym (p .is))
+            (ready-part engine ty key n (SeekKeyPart.Bytes (p .bytes)) path (Narrowing.Bytes (p .bytes)) (built T w) (encode v) r (sym (p .encoded))
+            (holds-at ty key engine path (Narrowing.Bytes (p .bytes)) v at (eq-same (encode v) (p .bytes) (p .encoded))) rd),
+      ))
 
   -- the fields of a record, one after another. `J` is what the walk keeps for the fields that the pattern does not name.
   pub record GoesAll (J : Walk → Type 0) (w w′ : Walk) (place : ℕ → FieldPath) (i : ℕ) (m : Values → Option (List Binding)) : Type 0 where
@@ -177,9 +179,9 @@ module _ (T : Tables) (engine : Engine) (address : ℕ) (ty : Ty) (key : Value) 
         let m = bind-some (elim (fieldPattern fields (g .name)) as (λ _. Option (List Binding)) [ none ↦ some (w .lists .bindings) | some n ↦ match n (g .type) v (place i) (w .lists .bindings) ]) _ after q in
         let here : valueAt ty key (place i) ≡ some v = ap (λ l. valueAt ty key (place l)) (omega arith) ∙ at 0 in
         let first = first-live (fieldPattern fields (g .name)) (g .type) i w v (encodeAll vs ++ r) (wh .0) (apart-all vs r a) here j
-              (subst Clean e c₁) (subst Final e f₁) k
-              (subst (Ready engine ty key (built T w)) (append-assoc (encode v) (encodeAll vs) r) rd)
-              (m .0) (first-match-is (fieldPattern fields (g .name)) (g .type) i v (w .lists .bindings) ∙ m .1) in
+        (subst Clean e c₁) (subst Final e f₁) k
+        (subst (Ready engine ty key (built T w)) (append-assoc (encode v) (encodeAll vs) r) rd)
+        (m .0) (first-match-is (fieldPattern fields (g .name)) (g .type) i v (w .lists .bindings) ∙ m .1) in
         let first₁ : Reached w₁ (encodeAll vs ++ r) (m .0) = subst (λ u. Reached u (encodeAll vs ++ r) (m .0)) (sym e) first in
         rest .live vs r (wh .1) a (λ l. ap (λ n. valueAt ty key (place n)) (omega arith) ∙ at (suc l)) (miss .keeps w w₁ grew j) c f
         (λ x. grew .consts x ∙ k x) (first₁ .ready) after

@@ -75,9 +75,9 @@ module _ (T : Tables) (engine : Engine) (address : ℕ) (ty : Ty) (key : Value) 
               let is = is-union (alt .disc) v (h .0) (h .1) in
               let last = grows-closer T engine ty key n u′ in
               let there = inner .live (h .0) (0 ∷ r) (subst Whole is wh) refl (value-payload ty key path (alt .disc) (h .0) (at ∙ ap some is)) (last .clean c) (final-back T engine address ty key folded u′ (emit (Event.closer n) u′) last f′)
-                    (subst (Consts T engine address ty key folded) (sym (emit-bound (Event.narrow n path (Narrowing.Tag (alt .disc))) w)) k)
-                    (ready-tag n (alt .disc) path w (h .0) r (at ∙ ap some is) (subst (λ (x : Value). Ready engine ty key (built T w) (encode x ++ r)) is rd)) after
-                    (ap (λ (bound : List Binding). matchBelow (f .node) (alt .type) (h .0) (payload path (alt .disc)) bound) (emit-bound (Event.narrow n path (Narrowing.Tag (alt .disc))) w) ∙ h .2) in
+              (subst (Consts T engine address ty key folded) (sym (emit-bound (Event.narrow n path (Narrowing.Tag (alt .disc))) w)) k)
+              (ready-tag n (alt .disc) path w (h .0) r (at ∙ ap some is) (subst (λ (x : Value). Ready engine ty key (built T w) (encode x ++ r)) is rd)) after
+              (ap (λ (bound : List Binding). matchBelow (f .node) (alt .type) (h .0) (payload path (alt .disc)) bound) (emit-bound (Event.narrow n path (Narrowing.Tag (alt .disc))) w) ∙ h .2) in
               record { ready = closed u′ r (there .ready); bound = emit-bound (Event.closer n) u′ ∙ there .bound };
         }
       where
@@ -154,8 +154,8 @@ module _ (T : Tables) (engine : Engine) (address : ℕ) (ty : Ty) (key : Value) 
         go (some c) e =
             goes-narrow T engine address ty key folded n path (narrowing c) w _
             (λ v r after at cs m.
-              let p = accepted (textMatches T engine node v) (w .lists .bindings) after m in
-              (p .1, λ rd. ready-text T engine address ty key folded node n n t path c v (built T w) r r q i e (p .0) at rd))
+            let p = accepted (textMatches T engine node v) (w .lists .bindings) after m in
+            (p .1, λ rd. ready-text T engine address ty key folded node n n t path c v (built T w) r r q i e (p .0) at rd))
 
     -- a pattern that stands for itself: a literal, or a record at no union
     own-slot : (node : Node) (n : ℕ) (bound : List Binding) → nodeAt T n ≡ node → ((f : ℕ → Resolver (List Binding)) → resolveNode quiet T f n node bound .slot ≡ none) → (slot : Slot) → slotOf T n bound ≡ some slot → slot ≡ Slot.Const n

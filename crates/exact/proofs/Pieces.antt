@@ -211,26 +211,30 @@ module _ (T : Tables) (engine : Engine) (address : ℕ) (ty : Ty) (key : Value) 
     goes-fact n from path w =
         goes-narrow T engine address ty key folded n path (Narrowing.FactId from) w _
         (λ v r after at c q.
-          let p = accepted (sameBytes (encode v) (encodeFact (engine .row from))) (w .lists .bindings) after q in
-          (p .1, ready-part engine ty key n (SeekKeyPart.RegisterFactId from) path (Narrowing.FactId from) (built T w) (encode v) r (sym (same-eq (encode v) (encodeFact (engine .row from)) (p .0)))
-          (holds-at ty key engine path (Narrowing.FactId from) v at (p .0))))
+        let p = accepted (sameBytes (encode v) (encodeFact (engine .row from))) (w .lists .bindings) after q in (
+          p .1,
+          ready-part engine ty key n (SeekKeyPart.RegisterFactId from) path (Narrowing.FactId from) (built T w) (encode v) r (sym (same-eq (encode v) (encodeFact (engine .row from)) (p .0)))
+              (holds-at ty key engine path (Narrowing.FactId from) v at (p .0)),
+        ))
 
     goes-register : (n from : ℕ) (other path : FieldPath) (w : Walk) → Goes T engine address ty key folded w (emit (Event.narrow n path (Narrowing.RegisterField from other)) w) path (λ v. accept (hasBytes (engine .fields from other) v) (w .lists .bindings))
     unfolding placeNarrowing partBytes says hasBytes
     goes-register n from other path w =
         goes-narrow T engine address ty key folded n path (Narrowing.RegisterField from other) w _
         (λ v r after at c q.
-          let p = accepted (sameBytes (encode v) (engine .fields from other)) (w .lists .bindings) after q in
-          (p .1, ready-part engine ty key n (SeekKeyPart.RegisterField from other) path (Narrowing.RegisterField from other) (built T w) (encode v) r (sym (same-eq (encode v) (engine .fields from other) (p .0)))
-          (holds-at ty key engine path (Narrowing.RegisterField from other) v at (p .0))))
+        let p = accepted (sameBytes (encode v) (engine .fields from other)) (w .lists .bindings) after q in (
+          p .1,
+          ready-part engine ty key n (SeekKeyPart.RegisterField from other) path (Narrowing.RegisterField from other) (built T w) (encode v) r (sym (same-eq (encode v) (engine .fields from other) (p .0)))
+              (holds-at ty key engine path (Narrowing.RegisterField from other) v at (p .0)),
+        ))
 
     goes-own : (n : ℕ) (other path : FieldPath) (w : Walk) → Goes T engine address ty key folded w (emit (Event.narrow n path (Narrowing.OwnField other)) w) path (λ v. accept (sameAs ty key other v) (w .lists .bindings))
     unfolding placeNarrowing says
     goes-own n other path w =
         goes-narrow T engine address ty key folded n path (Narrowing.OwnField other) w _
         (λ v r after at c q.
-          let p = accepted (sameAs ty key other v) (w .lists .bindings) after q in
-          (p .1, ready-own engine ty key n path other (built T w) (encode v ++ r) r (holds-at ty key engine path (Narrowing.OwnField other) v at (p .0))))
+        let p = accepted (sameAs ty key other v) (w .lists .bindings) after q in
+        (p .1, ready-own engine ty key n path other (built T w) (encode v ++ r) r (holds-at ty key engine path (Narrowing.OwnField other) v at (p .0))))
 
     -- what a slot stands for
     pub goes-matched : (n : ℕ) (slot : Slot) (t : ℕ) (path : FieldPath) (w : Walk)

@@ -96,8 +96,8 @@ module _ (engine : Engine) (ty : Ty) (key : Value) where
   ready-with-part b x rest part r t e =
       let o = r .alone t in
       let on : stored ty key ≡ partsBytes engine (b .parts ++ (part ∷ [])) ++ rest =
-            r .ahead t ∙ sym (append-assoc (partsBytes engine (b .parts)) x rest)
-            ∙ ap (λ (l : List ℕ). l ++ rest) (ap (λ (l : List ℕ). partsBytes engine (b .parts) ++ l) (sym e) ∙ sym (parts-snoc engine (b .parts) part)) in
+      r .ahead t ∙ sym (append-assoc (partsBytes engine (b .parts)) x rest)
+      ∙ ap (λ (l : List ℕ). l ++ rest) (ap (λ (l : List ℕ). partsBytes engine (b .parts) ++ l) (sym e) ∙ sym (parts-snoc engine (b .parts) part)) in
       record {
         alone = λ q. record { no-range = o .no-range; no-guide = o .no-guide; no-lo = o .no-lo; no-hi = o .no-hi; no-folded = o .no-folded };
         passing = record {

@@ -27,7 +27,6 @@ mutual
     _and_ : Value → Values → Values
 
 infixr 5 _and_
-
 -- a number's eight bytes, the highest first
 unfoldable pub bigEndian64 : ℕ → List ℕ
 bigEndian64 n =
