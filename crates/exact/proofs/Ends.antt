@@ -62,7 +62,7 @@ text-ends (x ∷ s) r h =
     (λ e. text-ends s r h)
     (λ e. ap (λ t. textEnd t ((escape s ++ term) ++ r)) e ∙ text-ends s r h)
 
-flip-length : (bytes : List ℕ) → length (flipSign bytes) ≡ length bytes
+pub flip-length : (bytes : List ℕ) → length (flipSign bytes) ≡ length bytes
 unfolding flipSign
 flip-length [] = refl
 flip-length (b ∷ bs) = refl

@@ -18,3 +18,5 @@ pub mod Patterns
 pub mod Level
 pub mod Planned
 pub mod NoFactSkipped
+-- What passes matches.
+pub mod Unique
