@@ -20,3 +20,4 @@ pub mod Planned
 pub mod NoFactSkipped
 -- What passes matches.
 pub mod Unique
+pub mod Typed
