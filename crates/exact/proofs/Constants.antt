@@ -80,7 +80,7 @@ bytesOf (Const.Bytes bytes) = bytes
 bytesOf (Const.Prefix bytes) = []
 bytesOf (Const.Fuzzy x d a) = []
 
-const-bytes : (a b : List ℕ) → some (Const.Bytes a) ≡ some (Const.Bytes b) → a ≡ b
+pub const-bytes : (a b : List ℕ) → some (Const.Bytes a) ≡ some (Const.Bytes b) → a ≡ b
 unfolding bytesOf
 const-bytes a b e = ap bytesOf (some-injective (Const.Bytes a) (Const.Bytes b) e)
 
@@ -90,7 +90,7 @@ only-bytes (Const.Bytes a) b e = ap Const.Bytes (some-injective a b e)
 only-bytes (Const.Prefix a) b e = absurd (some≢none b (sym e))
 only-bytes (Const.Fuzzy x d a) b e = absurd (some≢none b (sym e))
 
-abbrev IsBytes : Const → Type 0
+abbrev pub IsBytes : Const → Type 0
 IsBytes (Const.Bytes bytes) = Unit {0}
 IsBytes (Const.Prefix bytes) = ⊥
 IsBytes (Const.Fuzzy x d a) = ⊥
@@ -207,11 +207,11 @@ module _ (T : Tables) (engine : Engine) (address : ℕ) (ty : Ty) (key : Value) 
       → (f : ℕ) (v : Value) (path : FieldPath) (bound after : List Binding) → Consts bound → below f n t v path bound ≡ some after → (encode v ≡ b) × (after ≡ bound)
 
   -- the node that a pattern stands for
-  node-stands : (n : ℕ) → varName (nodeAt T n) ≡ none → standsFor T n ≡ n
+  pub node-stands : (n : ℕ) → varName (nodeAt T n) ≡ none → standsFor T n ≡ n
   unfolding standsFor constOf _whenSome_
   node-stands n e = ap (λ (o : Option ℕ). Option·getD (o whenSome λ x. lookup (T .bindings) x whenSome constNode) n) e
 
-  var-stands : (n x : ℕ) → nodeAt T n ≡ Node.Var x → standsFor T n ≡ Option·getD (constBound (T .bindings) x) n
+  pub var-stands : (n x : ℕ) → nodeAt T n ≡ Node.Var x → standsFor T n ≡ Option·getD (constBound (T .bindings) x) n
   unfolding standsFor constOf varName _whenSome_
   var-stands n x e = ap (λ (node : Node). Option·getD (varName node whenSome λ y. lookup (T .bindings) y whenSome constNode) n) e
 
@@ -360,7 +360,7 @@ module _ (T : Tables) (engine : Engine) (address : ℕ) (ty : Ty) (key : Value) 
   constant-bytes (suc limit) n t b e zero v path bound after c m = absurd (some≢none after (sym m))
   constant-bytes (suc limit) n t b e (suc f) v path bound after c m = node-bytes limit (constant-bytes limit) f (nodeAt T n) n t b v path bound after refl e c m
 
-  constant-of : (n t : ℕ) (k : Const) → constant T n t ≡ some k → varName (nodeAt T n) ≡ none → (limit : ℕ) × (constantNode T (constantBelow T limit) (nodeAt T n) (typeAt T t) ≡ some k)
+  pub constant-of : (n t : ℕ) (k : Const) → constant T n t ≡ some k → varName (nodeAt T n) ≡ none → (limit : ℕ) × (constantNode T (constantBelow T limit) (nodeAt T n) (typeAt T t) ≡ some k)
   unfolding constant constantBelow
   constant-of n t k e o = go (length (T .types)) e
     where

@@ -21,3 +21,4 @@ pub mod NoFactSkipped
 -- What passes matches.
 pub mod Unique
 pub mod Typed
+pub mod Accepts
