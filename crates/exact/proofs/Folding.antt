@@ -21,7 +21,7 @@ use Rattle.exact.proofs.Ends.{Apart, Whole, first-value}
 use Rattle.exact.proofs.Placing.{Open, Edged, Passing, Ready, ready-fall}
 
 -- a number stands in a list
-abbrev Has : ℕ → List ℕ → Type 0
+abbrev pub Has : ℕ → List ℕ → Type 0
 Has i ns = (j : ℕ) × (first (eqb i) ns ≡ some j)
 
 has-append : (i : ℕ) (ns ms : List ℕ) → Has i ns → Has i (ns ++ ms)
@@ -76,7 +76,7 @@ good-edge w i CompareOp.Ge value e g h =
     by-option (λ e′. (Has i (e′ .folded) → ordered CompareOp.Ge w value ≡ true) → Good w e′) (e .lo) (λ q k. record { lo = k (has-last i (e .folded)); hi = g .hi }) (λ x q k. g) h
 
 -- what the matcher asks of comparison i
-abbrev asked : Tables → List ℕ → ℕ → ℕ → Value → ℕ → Comparison → Bool
+abbrev pub asked : Tables → List ℕ → ℕ → ℕ → Value → ℕ → Comparison → Bool
 asked T folded x t v i c = elim (first (eqb i) folded) [ none ↦ true | some j ↦ comparisonHolds T x t v c ]
 
 asked-holds : (T : Tables) (folded : List ℕ) (x t : ℕ) (v : Value) (i : ℕ) (c : Comparison) → Has i folded → asked T folded x t v i c ≡ true → comparisonHolds T x t v c ≡ true

@@ -22,3 +22,5 @@ pub mod NoFactSkipped
 pub mod Unique
 pub mod Typed
 pub mod Accepts
+pub mod Unplaced
+pub mod Folded

@@ -10,6 +10,7 @@ use Rattle.rules.specs.File.{Ty, Tables, FieldPath, Anchor}
 use Rattle.rules.specs.Events.{Narrowing, Event}
 use Rattle.rules.specs.Placement.{SeekKeyPart, Part, Residual, Guide, Range, Edges, SeekBuilder, withPart, withResidual, withGuide, withRange, withEdges, withCloser, fall, placePart, placePrefix, attachable, placeFuzzy, placeOwn, placeNarrowing, placeCloser, foldFrom, placeBound, place}
 use Rattle.rules.proofs.Cases.{by-test, by-option, true≢false, some≢none}
+use Rattle.rules.proofs.Lists.{Onwards, onwards-same, onwards-next, onwards-one}
 use Rattle.exact.specs.Values.{Value}
 use Rattle.exact.specs.Keys.{Engine, stored, holds}
 use Rattle.exact.specs.Passes.{partBytes, partsBytes}
@@ -28,17 +29,19 @@ module _ (engine : Engine) (ty : Ty) (key : Value) where
   pub record Steps (b b′ : SeekBuilder) : Type 0 where
     pub fell : b .building ≡ false → b′ .building ≡ false
     pub folded : b .building ≡ false → b′ .edges .folded ≡ b .edges .folded
+    pub parts : Onwards (b .parts) (b′ .parts)
     pub alone : Alone b → Alone b′
     pub back : Alone b → Passing engine ty key b′ → Passing engine ty key b
 
   pub steps-same : (b : SeekBuilder) → Steps b b
-  steps-same b = record { fell = λ q. q; folded = λ q. refl; alone = λ a. a; back = λ a p. p }
+  steps-same b = record { fell = λ q. q; folded = λ q. refl; parts = onwards-same (b .parts); alone = λ a. a; back = λ a p. p }
 
   pub steps-next : (a b c : SeekBuilder) → Steps a b → Steps b c → Steps a c
   steps-next a b c g h =
       record {
         fell = λ q. h .fell (g .fell q);
         folded = λ q. h .folded (g .fell q) ∙ g .folded q;
+        parts = onwards-next (a .parts) (b .parts) (c .parts) (g .parts) (h .parts);
         alone = λ q. h .alone (g .alone q);
         back = λ q p. g .back q (h .back (g .alone q) p);
       }
@@ -49,6 +52,7 @@ module _ (engine : Engine) (ty : Ty) (key : Value) where
       record {
         fell = λ q. refl;
         folded = λ q. refl;
+        parts = onwards-same (b .parts);
         alone = λ a q. absurd (true≢false (sym q));
         back = λ a p. record { starts = p .starts; range = p .range; edges = p .edges; guide = p .guide; residuals = p .residuals };
       }
@@ -59,6 +63,7 @@ module _ (engine : Engine) (ty : Ty) (key : Value) where
       record {
         fell = λ q. q;
         folded = λ q. refl;
+        parts = onwards-same (b .parts);
         alone = λ a q. a q;
         back = λ a p. record { starts = p .starts; range = p .range; edges = p .edges; guide = p .guide; residuals = each-init (b .residuals) residual (p .residuals) };
       }
@@ -69,6 +74,7 @@ module _ (engine : Engine) (ty : Ty) (key : Value) where
       record {
         fell = λ q. absurd (true≢false (sym on ∙ q));
         folded = λ q. refl;
+        parts = onwards-one (b .parts) part;
         alone = λ a q. a q;
         back = λ a p.
             record {
@@ -92,6 +98,7 @@ module _ (engine : Engine) (ty : Ty) (key : Value) where
       (λ on. record {
         fell = λ q. refl;
         folded = λ q. refl;
+        parts = onwards-same (b .parts);
         alone = λ a q. absurd (true≢false (sym q));
         back = λ a p. record { starts = p .starts; range = λ r q. absurd (some≢none r (sym q ∙ a on .no-range)); edges = p .edges; guide = p .guide; residuals = p .residuals };
       })
@@ -109,6 +116,7 @@ module _ (engine : Engine) (ty : Ty) (key : Value) where
       (λ on. record {
         fell = λ q. refl;
         folded = λ q. refl;
+        parts = onwards-same (b .parts);
         alone = λ a q. absurd (true≢false (sym q));
         back = λ a p. record { starts = p .starts; range = p .range; edges = p .edges; guide = λ g q. absurd (some≢none g (sym q ∙ attach-none b path on)); residuals = p .residuals };
       })
@@ -130,6 +138,7 @@ module _ (engine : Engine) (ty : Ty) (key : Value) where
       record {
         fell = s .fell;
         folded = s .folded;
+        parts = s .parts;
         alone = s .alone;
         back = λ a p. s .back a (record { starts = p .starts; range = p .range; edges = p .edges; guide = p .guide; residuals = p .residuals });
       }
@@ -146,6 +155,7 @@ module _ (engine : Engine) (ty : Ty) (key : Value) where
       (λ on. record {
         fell = λ q. refl;
         folded = λ q. absurd (true≢false (sym on ∙ q));
+        parts = onwards-same (b .parts);
         alone = λ a q. absurd (true≢false (sym q));
         back = λ a p. record { starts = p .starts; range = p .range; edges = edged-none (b .edges .lo) (b .edges .hi) _ (a on .no-lo) (a on .no-hi); guide = p .guide; residuals = p .residuals };
       })
