@@ -182,3 +182,148 @@ module _ (T : Tables) (bound : List Binding) (consts : (x : ℕ) → constBound 
           ap (λ (o : Option Compared). o whenSome λ other. constant T (other .node) t whenSome λ k. bytesOnly k whenSome λ value. some (record { op = other .op; value = value }))
           (ap (λ (b : Bool). elim b as (λ _. Option Compared) [ true ↦ some (record { op = c .op; node = c .right }) | false ↦ elim (isVar T y (c .right)) [ true ↦ some (record { op = flipped (c .op); node = c .left }) | false ↦ none ] ]) p
           ∙ ap (λ (b : Bool). elim b as (λ _. Option Compared) [ true ↦ some (record { op = flipped (c .op); node = c .left }) | false ↦ none ]) q)
+
+-- The matcher's question about comparisons, answered.
+all-from : (i : ℕ) (p : ℕ → Comparison → Bool) (c : Comparison) (cs : List Comparison) → p i c ≡ true → allFrom (suc i) p cs ≡ true → allFrom i p (c ∷ cs) ≡ true
+unfolding allFrom
+all-from i p c cs e h = ap (λ (b : Bool). elim b as (λ _. Bool) [ true ↦ allFrom (suc i) p cs | false ↦ false ]) e ∙ h
+
+asked-unless : (T : Tables) (folded : List ℕ) (x t : ℕ) (v : Value) (i : ℕ) (c : Comparison) → (Has i folded → comparisonHolds T x t v c ≡ true) → asked T folded x t v i c ≡ true
+asked-unless T folded x t v i c h = by-option (λ (b : Bool). b ≡ true) (first (eqb i) folded) (λ e. refl) (λ j e. h (j, e))
+
+holds-none : (T : Tables) (x t : ℕ) (v : Value) (c : Comparison) → sided T x t c ≡ none → comparisonHolds T x t v c ≡ true
+unfolding comparisonHolds
+holds-none T x t v c e = ap (λ (o : Option Sided). elim o as (λ _. Bool) [ none ↦ true | some s ↦ ordered (s .op) (encode v) (s .value) ]) e
+
+holds-some : (T : Tables) (x t : ℕ) (v : Value) (c : Comparison) (s : Sided) → sided T x t c ≡ some s → ordered (s .op) (encode v) (s .value) ≡ true → comparisonHolds T x t v c ≡ true
+unfolding comparisonHolds
+holds-some T x t v c s e h = ap (λ (o : Option Sided). elim o as (λ _. Bool) [ none ↦ true | some s′ ↦ ordered (s′ .op) (encode v) (s′ .value) ]) e ∙ h
+
+module _ (T : Tables) (folded : List ℕ) (x t : ℕ) (v : Value) where
+  -- none of the folded ones has the name on a side
+  all-silent : (i : ℕ) (cs : List Comparison) → ((k : ℕ) → k < length cs → comparisonAt T (i + k) ≡ getD cs k (record { op = CompareOp.Lt; left = 0; right = 0 })) → ((j : ℕ) → Has j folded → sided T x t (comparisonAt T j) ≡ none)
+      → allFrom i (asked T folded x t v) cs ≡ true
+  all-silent i [] at h = unfold allFrom in refl
+  all-silent i (c ∷ cs) at h =
+      let here : comparisonAt T i ≡ c = ap (comparisonAt T) (omega arith) ∙ at 0 (omega arith) in
+      all-from i (asked T folded x t v) c cs
+      (asked-unless T folded x t v i c (λ k. holds-none T x t v c (ap (sided T x t) (sym here) ∙ h i k)))
+      (all-silent (suc i) cs (λ k l. ap (comparisonAt T) (omega arith) ∙ at (suc k) (omega (arith, l))) h)
+
+  pub silent : ((j : ℕ) → Has j folded → sided T x t (comparisonAt T j) ≡ none) → foldedHold T folded x t v ≡ true
+  unfolding foldedHold comparisonAt
+  silent h = all-silent 0 (T .comparisons) (λ k l. ap (comparisonAt T) (omega arith)) h
+
+  -- the edge that an op and a constant give
+  abbrev EdgeOf : CompareOp → List ℕ → Edges → Type 0
+  EdgeOf CompareOp.Lt value e = e .hi ≡ some (edge value false)
+  EdgeOf CompareOp.Le value e = e .hi ≡ some (edge value true)
+  EdgeOf CompareOp.Gt value e = e .lo ≡ some (edge value false)
+  EdgeOf CompareOp.Ge value e = e .lo ≡ some (edge value true)
+
+  edge-says : (op : CompareOp) (value w : List ℕ) (e : Edges) → EdgeOf op value e → above (e .lo) w ≡ true → under (e .hi) w ≡ true → ordered op w value ≡ true
+  unfolding above under
+  edge-says CompareOp.Lt value w e q lo hi = ap (λ (o : Option RangeEdge). under o w) (sym q) ∙ hi
+  edge-says CompareOp.Le value w e q lo hi = ap (λ (o : Option RangeEdge). under o w) (sym q) ∙ hi
+  edge-says CompareOp.Gt value w e q lo hi = ap (λ (o : Option RangeEdge). above o w) (sym q) ∙ lo
+  edge-says CompareOp.Ge value w e q lo hi = ap (λ (o : Option RangeEdge). above o w) (sym q) ∙ lo
+
+  edge-taken : (i : ℕ) (op : CompareOp) (value : List ℕ) (e : Edges) → Has i (takeEdge i op value e .folded) → (Has i (e .folded) → ⊥) → EdgeOf op value (takeEdge i op value e)
+  unfolding takeEdge takeHi takeLo
+  edge-taken i CompareOp.Lt value e = by-option (λ (e′ : Edges). Has i (e′ .folded) → (Has i (e .folded) → ⊥) → e′ .hi ≡ some (edge value false)) (e .hi) (λ q h k. refl) (λ y q h k. absurd (k h))
+  edge-taken i CompareOp.Le value e = by-option (λ (e′ : Edges). Has i (e′ .folded) → (Has i (e .folded) → ⊥) → e′ .hi ≡ some (edge value true)) (e .hi) (λ q h k. refl) (λ y q h k. absurd (k h))
+  edge-taken i CompareOp.Gt value e = by-option (λ (e′ : Edges). Has i (e′ .folded) → (Has i (e .folded) → ⊥) → e′ .lo ≡ some (edge value false)) (e .lo) (λ q h k. refl) (λ y q h k. absurd (k h))
+  edge-taken i CompareOp.Ge value e = by-option (λ (e′ : Edges). Has i (e′ .folded) → (Has i (e .folded) → ⊥) → e′ .lo ≡ some (edge value true)) (e .lo) (λ q h k. refl) (λ y q h k. absurd (k h))
+
+  -- an edge that is set stays
+  record Stays (e e′ : Edges) : Type 0 where
+    lo : (z : RangeEdge) → e .lo ≡ some z → e′ .lo ≡ some z
+    hi : (z : RangeEdge) → e .hi ≡ some z → e′ .hi ≡ some z
+
+  stays-hi : (i : ℕ) (z : RangeEdge) (e : Edges) → Stays e (takeHi i z e)
+  unfolding takeHi
+  stays-hi i z e = by-option (Stays e) (e .hi) (λ q. record { lo = λ y h. h; hi = λ y h. absurd (some≢none y (sym h ∙ q)) }) (λ y q. record { lo = λ y′ h. h; hi = λ y′ h. h })
+
+  stays-lo : (i : ℕ) (z : RangeEdge) (e : Edges) → Stays e (takeLo i z e)
+  unfolding takeLo
+  stays-lo i z e = by-option (Stays e) (e .lo) (λ q. record { lo = λ y h. absurd (some≢none y (sym h ∙ q)); hi = λ y h. h }) (λ y q. record { lo = λ y′ h. h; hi = λ y′ h. h })
+
+  stays-edge : (i : ℕ) (op : CompareOp) (value : List ℕ) (e : Edges) → Stays e (takeEdge i op value e)
+  unfolding takeEdge
+  stays-edge i CompareOp.Lt value e = stays-hi i _ e
+  stays-edge i CompareOp.Le value e = stays-hi i _ e
+  stays-edge i CompareOp.Gt value e = stays-lo i _ e
+  stays-edge i CompareOp.Ge value e = stays-lo i _ e
+
+  stays-after : (i : ℕ) (c : Comparison) (e : Edges) → Stays e (after T x t i c e)
+  unfolding after
+  stays-after i c e = by-option (Stays e) (sided T x t c) (λ q. record { lo = λ y h. h; hi = λ y h. h }) (λ s q. stays-edge i (s .op) (s .value) e)
+
+  stays-fold : (i : ℕ) (cs : List Comparison) (e : Edges) → Stays e (foldFrom T x t i cs e)
+  unfolding foldFrom after
+  stays-fold i [] e = record { lo = λ y h. h; hi = λ y h. h }
+  stays-fold i (c ∷ cs) e =
+      let g = stays-after i c e in
+      let h = stays-fold (suc i) cs (after T x t i c e) in
+      record { lo = λ y q. h .lo y (g .lo y q); hi = λ y q. h .hi y (g .hi y q) }
+
+  edge-stays : (op : CompareOp) (value : List ℕ) (e e′ : Edges) → Stays e e′ → EdgeOf op value e → EdgeOf op value e′
+  edge-stays CompareOp.Lt value e e′ s h = s .hi (edge value false) h
+  edge-stays CompareOp.Le value e e′ s h = s .hi (edge value true) h
+  edge-stays CompareOp.Gt value e e′ s h = s .lo (edge value false) h
+  edge-stays CompareOp.Ge value e e′ s h = s .lo (edge value true) h
+
+  -- what is folded later has a higher index
+  later : (i : ℕ) (cs : List Comparison) (e : Edges) (j : ℕ) → Has j (foldFrom T x t i cs e .folded) → Or (Has j (e .folded)) (i ≤ j)
+  unfolding foldFrom after
+  later i [] e j h = left h
+  later i (c ∷ cs) e j h = back (later (suc i) cs (after T x t i c e) j h)
+    where
+      here : Or (Has j (e .folded)) ((j ≡ i) × (s : Sided) × (sided T x t c ≡ some s)) → Or (Has j (e .folded)) (i ≤ j)
+      here (left z) = left z
+      here (right z) = right (omega (arith, z .0))
+
+      back : Or (Has j (after T x t i c e .folded)) (suc i ≤ j) → Or (Has j (e .folded)) (i ≤ j)
+      back (left y) = here (taken-one T x t j i c e y)
+      back (right y) = right (omega (arith, y))
+
+  -- every comparison that gave an edge holds, where the bytes are within the edges
+  answered : (i : ℕ) (cs : List Comparison) (e : Edges) → ((j : ℕ) → Has j (e .folded) → j < i) → foldFrom T x t i cs e .folded ≡ folded
+      → above (foldFrom T x t i cs e .lo) (encode v) ≡ true → under (foldFrom T x t i cs e .hi) (encode v) ≡ true → allFrom i (asked T folded x t v) cs ≡ true
+  unfolding foldFrom after
+  answered i [] e low f lo hi = unfold allFrom in refl
+  answered i (c ∷ cs) e low f lo hi =
+      all-from i (asked T folded x t v) c cs
+      (asked-unless T folded x t v i c (λ k. own (sided T x t c) refl (subst (Has i) (sym f) k)))
+      (answered (suc i) cs (after T x t i c e) (λ j k. lower j (taken-one T x t j i c e k)) f lo hi)
+    where
+      lower : (j : ℕ) → Or (Has j (e .folded)) ((j ≡ i) × (s : Sided) × (sided T x t c ≡ some s)) → j < suc i
+      lower j (left z) = omega (arith, low j z)
+      lower j (right z) = omega (arith, z .0)
+
+      not-before : Has i (e .folded) → ⊥
+      not-before k = absurd (omega (arith, low i k))
+
+      was-here : Or (Has i (after T x t i c e .folded)) (suc i ≤ i) → Has i (after T x t i c e .folded)
+      was-here (left z) = z
+      was-here (right z) = absurd (omega (arith, z))
+
+      after-some : (s : Sided) → sided T x t c ≡ some s → after T x t i c e ≡ takeEdge i (s .op) (s .value) e
+      after-some s q = ap (λ (o : Option Sided). elim o as (λ _. Edges) [ none ↦ e | some s′ ↦ takeEdge i (s′ .op) (s′ .value) e ]) q
+
+      own : (o : Option Sided) → sided T x t c ≡ o → Has i (foldFrom T x t (suc i) cs (after T x t i c e) .folded) → comparisonHolds T x t v c ≡ true
+      own none q k = holds-none T x t v c q
+      own (some s) q k =
+          let m = was-here (later (suc i) cs (after T x t i c e) i k) in
+          let g = edge-taken i (s .op) (s .value) e (subst (λ (e′ : Edges). Has i (e′ .folded)) (after-some s q) m) not-before in
+          holds-some T x t v c s q
+          (edge-says (s .op) (s .value) (encode v) (foldFrom T x t (suc i) cs (after T x t i c e))
+          (edge-stays (s .op) (s .value) (after T x t i c e) (foldFrom T x t (suc i) cs (after T x t i c e)) (stays-fold (suc i) cs (after T x t i c e)) (subst (EdgeOf (s .op) (s .value)) (sym (after-some s q)) g)) lo hi)
+
+  pub within-holds : (e : Edges) → e .folded ≡ [] → foldFrom T x t 0 (T .comparisons) e .folded ≡ folded
+      → above (foldFrom T x t 0 (T .comparisons) e .lo) (encode v) ≡ true → under (foldFrom T x t 0 (T .comparisons) e .hi) (encode v) ≡ true → foldedHold T folded x t v ≡ true
+  unfolding foldedHold
+  within-holds e n f lo hi = answered 0 (T .comparisons) e (λ j k. absurd (empty j (subst (Has j) n k))) f lo hi
+    where
+      empty : (j : ℕ) → Has j [] → ⊥
+      empty j h = unfold first in some≢none (h .0) (sym (h .1))
