@@ -23,7 +23,7 @@ use Rattle.exact.proofs.Folding.{Has, asked}
 use Rattle.exact.proofs.Unplaced.{Or, left, right}
 
 -- comparison number i
-pub comparisonAt : Tables → ℕ → Comparison
+unfoldable pub comparisonAt : Tables → ℕ → Comparison
 comparisonAt T i = getD (T .comparisons) i (record { op = CompareOp.Lt; left = 0; right = 0 })
 
 has-snoc : (j i : ℕ) (ns : List ℕ) → Has j (ns ++ (i ∷ [])) → Or (Has j ns) (j ≡ i)
@@ -48,7 +48,7 @@ taken j i CompareOp.Gt value e = by-option (λ (e′ : Edges). Has j (e′ .fold
 taken j i CompareOp.Ge value e = by-option (λ (e′ : Edges). Has j (e′ .folded) → Or (Has j (e .folded)) (j ≡ i)) (e .lo) (λ q h. has-snoc j i (e .folded) h) (λ x q h. left h)
 
 -- after one comparison
-after : Tables → ℕ → ℕ → ℕ → Comparison → Edges → Edges
+pub after : Tables → ℕ → ℕ → ℕ → Comparison → Edges → Edges
 after T x t i c e = elim (sided T x t c) [ none ↦ e | some s ↦ takeEdge i (s .op) (s .value) e ]
 
 taken-one : (T : Tables) (x t j i : ℕ) (c : Comparison) (e : Edges) → Has j (after T x t i c e .folded) → Or (Has j (e .folded)) ((j ≡ i) × (s : Sided) × (sided T x t c ≡ some s))

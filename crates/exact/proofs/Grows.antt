@@ -3,19 +3,26 @@ use mathlib.Core.Bool.{Bool, true, false}
 use mathlib.Core.List.{List, [], _∷_, _++_}
 use mathlib.Core.Option.{Option, none, some}
 use mathlib.Core.Path.{_≡_, refl, sym, ap, _∙_, subst}
-use Prim.Native.Nat.{ℕ}
-use Rattle.rules.specs.Base.{either}
-use Rattle.rules.specs.File.{Tables, Ty, FieldPath, Slot}
+use Prim.Native.Nat.{ℕ, _+_}
+use native.Mathlib.Omega.{arith}
+use borrow.Author.Tests.{eq-eqb}
+use lib.Dec.{eqb}
+use Rattle.rules.specs.Base.{either, lastOr, _whenSome_}
+use Rattle.rules.specs.File.{Tables, Ty, FieldPath, Slot, Binding}
 use Rattle.rules.specs.Constant.{lookup, constNode}
 use Rattle.rules.specs.Events.{Code, Narrowing, Event, Walk, bind, constrained, report, emit, isMistyped, brings, walkOps}
 use Rattle.rules.specs.Resolve.{resolve}
-use Rattle.rules.specs.Placement.{SeekBuilder, new, fall, placeNarrowing, placeCloser, placeBound, place, placeAll}
+use Rattle.rules.specs.Placement.{SeekKeyPart, Edges, SeekBuilder, new, withPart, withResidual, withGuide, withRange, withEdges, withCloser, fall, placePart, placePrefix, attachable, placeFuzzy, placeOwn, placeNarrowing, placeCloser, Sided, sided, foldFrom, placeBound, place, placeAll}
+use Rattle.rules.proofs.Cases.{by-test}
 use Rattle.rules.proofs.Kept.{placeAll-append}
 use Rattle.rules.proofs.Lists.{onwards-one}
 use Rattle.rules.proofs.Consts.{SameConsts, constBound, const-snoc}
 use Rattle.exact.specs.Values.{Value}
 use Rattle.exact.specs.Keys.{Engine}
 use Rattle.exact.proofs.Steps.{Steps, steps-same, steps-next, steps-fall, steps-narrowing, steps-closer, steps-bound}
+use Rattle.exact.proofs.Folding.{Has}
+use Rattle.exact.proofs.Unplaced.{Or, left, right}
+use Rattle.exact.proofs.Folded.{comparisonAt, fold-of}
 use Rattle.exact.proofs.Quiet.{Clean, onwards-nil, Read, read-is}
 
 -- what a walk has placed
@@ -39,6 +46,29 @@ pub dirty : (n : ℕ) (code : Code) (w : Walk) → Clean (report n code w) → �
 unfolding report
 dirty n code w c = snoc-nil (w .lists .diagnostics) (record { node = n; code = code }) (c .diagnostics)
 
+-- a name that is bound stays bound
+last-more : (found : Option Binding) (p : Binding → Bool) (bs : List Binding) (b : Binding) → lastOr found p (bs ++ (b ∷ [])) ≡ elim (p b) as (λ _. Option Binding) [ true ↦ some b | false ↦ lastOr found p bs ]
+unfolding lastOr
+last-more found p [] b = refl
+last-more found p (c ∷ bs) b =
+    by-test (λ (o : Option Binding). lastOr found p ((c ∷ bs) ++ (b ∷ [])) ≡ elim (p b) as (λ _. Option Binding) [ true ↦ some b | false ↦ o ]) (p c)
+    (λ t. ap (λ (x : Bool). elim x as (λ _. Option Binding) [ true ↦ lastOr (some c) p (bs ++ (b ∷ [])) | false ↦ lastOr found p (bs ++ (b ∷ [])) ]) t ∙ last-more (some c) p bs b)
+    (λ t. ap (λ (x : Bool). elim x as (λ _. Option Binding) [ true ↦ lastOr (some c) p (bs ++ (b ∷ [])) | false ↦ lastOr found p (bs ++ (b ∷ [])) ]) t ∙ last-more found p bs b)
+
+pub lookup-more : (bs : List Binding) (b : Binding) (x : ℕ) (slot : Slot) → lookup bs x ≡ some slot → (slot′ : Slot) × (lookup (bs ++ (b ∷ [])) x ≡ some slot′)
+unfolding lookup _whenSome_
+lookup-more bs b x slot e = go (eqb (b .name) x) refl
+  where
+    go : (t : Bool) → eqb (b .name) x ≡ t → (slot′ : Slot) × (lookup (bs ++ (b ∷ [])) x ≡ some slot′)
+    go true q = (b .slot, ap (λ (o : Option Binding). o whenSome λ c. some (c .slot)) (last-more none (λ c. eqb (c .name) x) bs b ∙ ap (λ (t : Bool). elim t as (λ _. Option Binding) [ true ↦ some b | false ↦ lastOr none (λ c. eqb (c .name) x) bs ]) q))
+    go false q = (slot, ap (λ (o : Option Binding). o whenSome λ c. some (c .slot)) (last-more none (λ c. eqb (c .name) x) bs b ∙ ap (λ (t : Bool). elim t as (λ _. Option Binding) [ true ↦ some b | false ↦ lastOr none (λ c. eqb (c .name) x) bs ]) q) ∙ e)
+
+pub lookup-last : (bs : List Binding) (x : ℕ) (slot : Slot) → lookup (bs ++ (record { name = x; slot = slot } ∷ [])) x ≡ some slot
+unfolding lookup _whenSome_
+lookup-last bs x slot =
+    ap (λ (o : Option Binding). o whenSome λ c. some (c .slot))
+    (last-more none (λ c. eqb (c .name) x) bs (record { name = x; slot = slot }) ∙ ap (λ (t : Bool). elim t as (λ _. Option Binding) [ true ↦ some (record { name = x; slot = slot }) | false ↦ lastOr none (λ c. eqb (c .name) x) bs ]) (eq-eqb x x refl))
+
 either-left : (a b : Bool) → either a b ≡ false → a ≡ false
 either-left true b e = e
 either-left false b e = refl
@@ -51,21 +81,46 @@ either-right true b e = absurd (subst IsFalse e tt)
     IsFalse false = ⊥
 either-right false b e = e
 
+-- Edges are set by a bound alone.
+edges-part : (n : ℕ) (part : SeekKeyPart) (path : FieldPath) (op : Narrowing) (b : SeekBuilder) → placePart n part path op b .edges ≡ b .edges
+unfolding placePart withPart withResidual
+edges-part n part path op b = by-test (λ (b′ : SeekBuilder). b′ .edges ≡ b .edges) (b .building) (λ e. refl) (λ e. refl)
+
+pub edges-narrowing : (n : ℕ) (path : FieldPath) (x : Narrowing) (b : SeekBuilder) → placeNarrowing n path x b .edges ≡ b .edges
+unfolding placeNarrowing placePrefix placeFuzzy placeOwn withRange withGuide withResidual fall
+edges-narrowing n path (Narrowing.Bytes bytes) b = edges-part n _ path _ b
+edges-narrowing n path (Narrowing.Tag disc) b = edges-part n _ path _ b
+edges-narrowing n path (Narrowing.RegisterField a at) b = edges-part n _ path _ b
+edges-narrowing n path (Narrowing.FactId a) b = edges-part n _ path _ b
+edges-narrowing n path (Narrowing.Prefix prefix) b = by-test (λ (b′ : SeekBuilder). b′ .edges ≡ b .edges) (b .building) (λ e. refl) (λ e. refl)
+edges-narrowing n path (Narrowing.Fuzzy x d a) b = by-test (λ (b′ : SeekBuilder). b′ .edges ≡ b .edges) (attachable b path) (λ e. refl) (λ e. refl)
+edges-narrowing n path (Narrowing.OwnField at) b = refl
+
+edges-closer : (n : ℕ) (b : SeekBuilder) → placeCloser n b .edges ≡ b .edges
+unfolding placeCloser withCloser withPart
+edges-closer n b = by-test (λ (b′ : SeekBuilder). b′ .edges ≡ b .edges) (b .building) (λ e. refl) (λ e. refl)
+
+-- each comparison that the level has folded has a name on one side that is bound, and a constant on the other
+abbrev pub Known : Tables → Walk → Type 0
+Known T w =
+    (i : ℕ) → Has i (built T w .edges .folded) → (x : ℕ) × (u : ℕ) × (s : Sided) × (slot : Slot) × (sided T x u (comparisonAt T i) ≡ some s) × (lookup (w .lists .bindings) x ≡ some slot)
+
 module _ (T : Tables) (engine : Engine) (ty : Ty) (key : Value) where
   pub record Grows (w w′ : Walk) : Type 0 where
     pub clean : Clean w′ → Clean w
     pub steps : Steps engine ty key (built T w) (built T w′)
     pub consts : SameConsts w w′
+    pub known : Known T w → Known T w′
 
   pub grows-same : (w : Walk) → Grows w w
-  grows-same w = record { clean = λ c. c; steps = steps-same engine ty key (built T w); consts = λ x. refl }
+  grows-same w = record { clean = λ c. c; steps = steps-same engine ty key (built T w); consts = λ x. refl; known = λ k. k }
 
   pub grows-next : (u v w : Walk) → Grows u v → Grows v w → Grows u w
   grows-next u v w g h =
-      record { clean = λ c. g .clean (h .clean c); steps = steps-next engine ty key (built T u) (built T v) (built T w) (g .steps) (h .steps); consts = λ x. h .consts x ∙ g .consts x }
+      record { clean = λ c. g .clean (h .clean c); steps = steps-next engine ty key (built T u) (built T v) (built T w) (g .steps) (h .steps); consts = λ x. h .consts x ∙ g .consts x; known = λ k. h .known (g .known k) }
 
-  grows-emit : (e : Event) (w : Walk) → Steps engine ty key (built T w) (place T e (built T w)) → Grows w (emit e w)
-  grows-emit e w s = record { clean = cleaned; steps = subst (Steps engine ty key (built T w)) (sym (built-emit T e w)) s; consts = same }
+  grows-emit : (e : Event) (w : Walk) → Steps engine ty key (built T w) (place T e (built T w)) → place T e (built T w) .edges ≡ built T w .edges → Grows w (emit e w)
+  grows-emit e w s d = record { clean = cleaned; steps = subst (Steps engine ty key (built T w)) (sym (built-emit T e w)) s; consts = same; known = knows }
     where
       cleaned : Clean (emit e w) → Clean w
       cleaned c = unfold emit in record { selects = c .selects; diagnostics = c .diagnostics; typed = c .typed }
@@ -73,29 +128,54 @@ module _ (T : Tables) (engine : Engine) (ty : Ty) (key : Value) where
       same : SameConsts w (emit e w)
       same x = unfold emit in refl
 
+      folds : built T (emit e w) .edges .folded ≡ built T w .edges .folded
+      folds = ap (λ (b : SeekBuilder). b .edges .folded) (built-emit T e w) ∙ ap (λ (z : Edges). z .folded) d
+
+      stays : (x : ℕ) (slot : Slot) → lookup (w .lists .bindings) x ≡ some slot → lookup (emit e w .lists .bindings) x ≡ some slot
+      stays x slot h = unfold emit in h
+
+      knows : Known T w → Known T (emit e w)
+      knows k i h =
+          let p = k i (subst (Has i) folds h) in
+          (p .0, p .1, p .2, p .3, p .4, stays (p .0) (p .3) (p .5))
+
   pub grows-narrow : (n : ℕ) (path : FieldPath) (x : Narrowing) (w : Walk) → Grows w (emit (Event.narrow n path x) w)
   unfolding place
-  grows-narrow n path x w = grows-emit (Event.narrow n path x) w (steps-narrowing engine ty key n path x (built T w))
+  grows-narrow n path x w = grows-emit (Event.narrow n path x) w (steps-narrowing engine ty key n path x (built T w)) (edges-narrowing n path x (built T w))
 
   pub grows-skip : (w : Walk) → Grows w (emit Event.skip w)
-  unfolding place
-  grows-skip w = grows-emit Event.skip w (steps-fall engine ty key (built T w))
+  unfolding place fall
+  grows-skip w = grows-emit Event.skip w (steps-fall engine ty key (built T w)) refl
 
   pub grows-closer : (n : ℕ) (w : Walk) → Grows w (emit (Event.closer n) w)
   unfolding place
-  grows-closer n w = grows-emit (Event.closer n) w (steps-closer engine ty key n (built T w))
+  grows-closer n w = grows-emit (Event.closer n) w (steps-closer engine ty key n (built T w)) (edges-closer n (built T w))
 
   pub built-bound : (x t : ℕ) (w : Walk) → built T (emit Event.skip (emit (Event.bound x t) w)) ≡ fall (placeBound T x t (built T w))
   unfolding place
   built-bound x t w = built-emit T Event.skip (emit (Event.bound x t) w) ∙ ap fall (built-emit T (Event.bound x t) w)
 
-  pub grows-bound : (x t : ℕ) (w : Walk) → Grows w (emit Event.skip (emit (Event.bound x t) w))
+  -- what a bound folds is its name's
+  known-bound : (x t : ℕ) (w : Walk) (slot : Slot) → lookup (w .lists .bindings) x ≡ some slot → Known T w → (i : ℕ) → Has i (fall (placeBound T x t (built T w)) .edges .folded)
+      → (y : ℕ) × (u : ℕ) × (s : Sided) × (slot′ : Slot) × (sided T y u (comparisonAt T i) ≡ some s) × (lookup (w .lists .bindings) y ≡ some slot′)
+  unfolding placeBound withEdges fall comparisonAt
+  known-bound x t w slot e k i =
+      by-test (λ (b : SeekBuilder). Has i (b .edges .folded) → (y : ℕ) × (u : ℕ) × (s : Sided) × (slot′ : Slot) × (sided T y u (comparisonAt T i) ≡ some s) × (lookup (w .lists .bindings) y ≡ some slot′)) (built T w .building)
+      (λ on h. from (fold-of T x t 0 (T .comparisons) (built T w .edges) (λ l m. ap (comparisonAt T) (omega arith)) i h))
+      (λ off h. k i h)
+    where
+      from : Or (Has i (built T w .edges .folded)) ((s : Sided) × (sided T x t (comparisonAt T i) ≡ some s)) → (y : ℕ) × (u : ℕ) × (s : Sided) × (slot′ : Slot) × (sided T y u (comparisonAt T i) ≡ some s) × (lookup (w .lists .bindings) y ≡ some slot′)
+      from (left h) = k i h
+      from (right h) = (x, t, h .0, slot, h .1, e)
+
+  pub grows-bound : (x t : ℕ) (w : Walk) (slot : Slot) → lookup (w .lists .bindings) x ≡ some slot → Grows w (emit Event.skip (emit (Event.bound x t) w))
   unfolding emit
-  grows-bound x t w =
+  grows-bound x t w slot e =
       record {
         clean = λ c. record { selects = c .selects; diagnostics = c .diagnostics; typed = c .typed };
         steps = subst (Steps engine ty key (built T w)) (sym (built-bound x t w)) (steps-bound engine ty key T x t (built T w));
         consts = λ y. refl;
+        known = λ k i h. known-bound x t w slot e k i (subst (λ (b : SeekBuilder). Has i (b .edges .folded)) (built-bound x t w) h);
       }
 
   pub grows-report : (n : ℕ) (code : Code) (w : Walk) → Grows w (report n code w)
@@ -105,6 +185,7 @@ module _ (T : Tables) (engine : Engine) (ty : Ty) (key : Value) where
         clean = λ c. absurd (dirty n code w c);
         steps = steps-same engine ty key (built T w);
         consts = λ x. refl;
+        known = λ k. k;
       }
 
   pub grows-constrained : (x : ℕ) (w : Walk) → Grows w (constrained x w)
@@ -114,6 +195,7 @@ module _ (T : Tables) (engine : Engine) (ty : Ty) (key : Value) where
         clean = λ c. record { selects = c .selects; diagnostics = c .diagnostics; typed = c .typed };
         steps = steps-same engine ty key (built T w);
         consts = λ y. refl;
+        known = λ k. k;
       }
 
   pub grows-bind : (x : ℕ) (slot : Slot) (w : Walk) → lookup (w .lists .bindings) x ≡ none → constNode slot ≡ none → Grows w (bind x slot w)
@@ -123,6 +205,10 @@ module _ (T : Tables) (engine : Engine) (ty : Ty) (key : Value) where
         clean = λ c. record { selects = c .selects; diagnostics = c .diagnostics; typed = c .typed };
         steps = steps-same engine ty key (built T w);
         consts = λ y. const-snoc (w .lists .bindings) (record { name = x; slot = slot }) y e k;
+        known = λ h i p.
+            let f = h i p in
+            let l = lookup-more (w .lists .bindings) (record { name = x; slot = slot }) (f .0) (f .3) (f .5) in
+            (f .0, f .1, f .2, l .0, f .4, l .1);
       }
 
   pub grows-brings : (slot : Slot) (u : Ty) (w : Walk) → Grows w (brings T slot u w)
@@ -132,6 +218,7 @@ module _ (T : Tables) (engine : Engine) (ty : Ty) (key : Value) where
         clean = λ c. record { selects = c .selects; diagnostics = c .diagnostics; typed = either-left (w .mistyped) (isMistyped T slot u) (c .typed) };
         steps = steps-same engine ty key (built T w);
         consts = λ x. refl;
+        known = λ k. k;
       }
 
   -- a read
@@ -142,4 +229,7 @@ module _ (T : Tables) (engine : Engine) (ty : Ty) (key : Value) where
         clean = r .clean;
         steps = subst (Steps engine ty key (built T w)) (ap (λ es. placeAll T es new) (sym (r .events))) (steps-same engine ty key (built T w));
         consts = λ x. ap (λ bs. constBound bs x) (r .bindings);
+        known = λ h i p.
+            let f = h i (subst (λ es. Has i (placeAll T es new .edges .folded)) (r .events) p) in
+            (f .0, f .1, f .2, f .3, f .4, ap (λ bs. lookup bs (f .0)) (r .bindings) ∙ f .5);
       }

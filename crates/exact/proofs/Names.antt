@@ -21,7 +21,7 @@ use Rattle.exact.proofs.Ends.{Apart, Whole}
 use Rattle.exact.proofs.Placing.{Ready, ready-prefix, ready-fuzzy}
 use Rattle.exact.proofs.Folding.{ready-bound}
 use Rattle.exact.proofs.Quiet.{Clean}
-use Rattle.exact.proofs.Grows.{built, built-emit, built-bound, dirty, Grows, grows-same, grows-next, grows-skip, grows-narrow, grows-report, grows-bound, grows-constrained, grows-bind}
+use Rattle.exact.proofs.Grows.{built, built-emit, built-bound, dirty, Grows, grows-same, grows-next, grows-skip, grows-narrow, grows-report, grows-bound, grows-constrained, grows-bind, lookup-last}
 use Rattle.exact.proofs.Constants.{Consts, accepted, is-text, prefix-constant, fuzzy-constant}
 use Rattle.exact.proofs.Values.{holds-at}
 use Rattle.exact.proofs.Forward.{Final, final-back, Reached, Kept, Goes}
@@ -175,10 +175,10 @@ module _ (T : Tables) (engine : Engine) (address : ℕ) (ty : Ty) (key : Value) 
       fallen b h = unfold fall in h refl
 
   -- all that is asked of a name: `ks` are its constraints by rank
-  by-grows : (ks : List Constraint) (x t : ℕ) (path : FieldPath) (w : Walk) → Grows T engine ty key w (constrainBy (walkOps T) T ks x t path w)
+  by-grows : (ks : List Constraint) (x t : ℕ) (path : FieldPath) (w : Walk) (slot : Slot) → lookup (w .lists .bindings) x ≡ some slot → Grows T engine ty key w (constrainBy (walkOps T) T ks x t path w)
   unfolding constrainBy
-  by-grows [] x t path w = grows-bound T engine ty key x t w
-  by-grows (k ∷ ks) x t path w = grows-next T engine ty key w (constrained x w) _ (grows-constrained T engine ty key x w) (constraints-grow (k ∷ ks) t path (constrained x w))
+  by-grows [] x t path w slot e = grows-bound T engine ty key x t w slot e
+  by-grows (k ∷ ks) x t path w slot e = grows-next T engine ty key w (constrained x w) _ (grows-constrained T engine ty key x w) (constraints-grow (k ∷ ks) t path (constrained x w))
 
   by-bound : (ks : List Constraint) (x t : ℕ) (path : FieldPath) (w : Walk) → constrainBy (walkOps T) T ks x t path w .lists .bindings ≡ w .lists .bindings
   unfolding constrainBy emit constrained
@@ -200,7 +200,7 @@ module _ (T : Tables) (engine : Engine) (address : ℕ) (ty : Ty) (key : Value) 
     goes-new x t path w e =
         let u : Walk = bind x (Slot.Field address path t) w in
         record {
-          grows = grows-next T engine ty key w u (constrainBy (walkOps T) T (ranked T x) x t path u) (grows-bind T engine ty key x (Slot.Field address path t) w e refl) (by-grows (ranked T x) x t path u);
+          grows = grows-next T engine ty key w u (constrainBy (walkOps T) T (ranked T x) x t path u) (grows-bind T engine ty key x (Slot.Field address path t) w e refl) (by-grows (ranked T x) x t path u (Slot.Field address path t) (lookup-last (w .lists .bindings) x (Slot.Field address path t)));
           live = λ v r wh a at c f k rd after q.
               let p = accepted (both (constraintsHold T engine x v) (foldedHold T folded x t v)) (w .lists .bindings ++ (record { name = x; slot = Slot.Field address path t } ∷ [])) after q in
               let hs = each-passes (λ (l : Constraint). textMatches T engine (nodeAt T (l .node)) v) (filter (λ (l : Constraint). eqb (l .name) x) (T .constraints)) (both-left (constraintsHold T engine x v) (foldedHold T folded x t v) (p .0)) in
