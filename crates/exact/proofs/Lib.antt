@@ -24,3 +24,4 @@ pub mod Typed
 pub mod Accepts
 pub mod Unplaced
 pub mod Folded
+pub mod ConstSlots
