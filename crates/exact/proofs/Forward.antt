@@ -131,31 +131,31 @@ module _ (T : Tables) (engine : Engine) (address : ℕ) (ty : Ty) (key : Value) 
 
   module _ (J : Walk → Type 0) (walk : FieldWalk Walk) (match : Matching) (missing : Walk → Walk) (place : ℕ → FieldPath) (fields : List FieldPattern) (goes : Walks walk match) (miss : Missing J missing) where
     -- one field, named by the pattern or not
-    first-walk : Option ℕ → ℕ → ℕ → Walk → Walk
+    unfoldable pub first-walk : Option ℕ → ℕ → ℕ → Walk → Walk
     first-walk none t i w = missing w
     first-walk (some n) t i w = walk n t (place i) w
 
-    first-match : Option ℕ → ℕ → ℕ → Value → List Binding → Option (List Binding)
+    unfoldable pub first-match : Option ℕ → ℕ → ℕ → Value → List Binding → Option (List Binding)
     first-match none t i v bound = some bound
     first-match (some n) t i v bound = match n t v (place i) bound
 
-    first-grows : (o : Option ℕ) (t i : ℕ) (w : Walk) → Grows T engine ty key w (first-walk o t i w)
+    pub first-grows : (o : Option ℕ) (t i : ℕ) (w : Walk) → Grows T engine ty key w (first-walk o t i w)
     unfolding first-walk
     first-grows none t i w = miss .grows w
     first-grows (some n) t i w = goes n t (place i) w .grows
 
-    first-live : (o : Option ℕ) (t i : ℕ) (w : Walk) (v : Value) (r : List ℕ) → Whole v → Apart r → valueAt ty key (place i) ≡ some v → J w
+    pub first-live : (o : Option ℕ) (t i : ℕ) (w : Walk) (v : Value) (r : List ℕ) → Whole v → Apart r → valueAt ty key (place i) ≡ some v → J w
         → Kept w (first-walk o t i w) (first-match o t i v (w .lists .bindings)) (encode v ++ r) r
     unfolding first-walk first-match
     first-live none t i w v r wh a at j c f k rd after q = record { ready = miss .ready w (encode v ++ r) r j rd; bound = miss .bound w ∙ some-injective (w .lists .bindings) after q }
     first-live (some n) t i w v r wh a at j c f k rd after q = goes n t (place i) w .live v r wh a at c f k rd after q
 
-    first-walk-is : (o : Option ℕ) (t i : ℕ) (w : Walk) → first-walk o t i w ≡ elim o as (λ _. Walk) [ none ↦ missing w | some n ↦ walk n t (place i) w ]
+    pub first-walk-is : (o : Option ℕ) (t i : ℕ) (w : Walk) → first-walk o t i w ≡ elim o as (λ _. Walk) [ none ↦ missing w | some n ↦ walk n t (place i) w ]
     unfolding first-walk
     first-walk-is none t i w = refl
     first-walk-is (some n) t i w = refl
 
-    first-match-is : (o : Option ℕ) (t i : ℕ) (v : Value) (bound : List Binding) → first-match o t i v bound ≡ elim o as (λ _. Option (List Binding)) [ none ↦ some bound | some n ↦ match n t v (place i) bound ]
+    pub first-match-is : (o : Option ℕ) (t i : ℕ) (v : Value) (bound : List Binding) → first-match o t i v bound ≡ elim o as (λ _. Option (List Binding)) [ none ↦ some bound | some n ↦ match n t v (place i) bound ]
     unfolding first-match
     first-match-is none t i v bound = refl
     first-match-is (some n) t i v bound = refl

@@ -25,3 +25,4 @@ pub mod Accepts
 pub mod Unplaced
 pub mod Folded
 pub mod ConstSlots
+pub mod Backward

@@ -60,10 +60,10 @@ each-ranked T x P h = each-append (each-append (each-append (at 0) (at 1)) (at 2
     at r = each-filter (λ k. eqb (rank (nodeAt T (k .node))) r) h
 
 module _ (T : Tables) (engine : Engine) (address : ℕ) (ty : Ty) (key : Value) (folded : List ℕ) where
-  abbrev Holds : Value → Constraint → Type 0
+  abbrev pub Holds : Value → Constraint → Type 0
   Holds v k = textMatches T engine (nodeAt T (k .node)) v ≡ true
 
-  abbrev Text : Constraint → Type 0
+  abbrev pub Text : Constraint → Type 0
   Text k = IsText (nodeAt T (k .node))
 
   -- a Prefix or a Fuzzy that holds of the value: whatever is ahead afterwards, since building falls
@@ -96,7 +96,7 @@ module _ (T : Tables) (engine : Engine) (address : ℕ) (ty : Ty) (key : Value) 
   ready-text Node.Error n made t path c v b r y q i e h at rd = absurd i
 
   -- one constraint
-  one : Option Const → Constraint → FieldPath → Walk → Walk
+  unfoldable pub one : Option Const → Constraint → FieldPath → Walk → Walk
   one none k path w = report (k .node) Code.RejectTypeMismatch (emit Event.skip w)
   one (some c) k path w = emit (Event.narrow (k .node) path (narrowing c)) w
 
@@ -106,12 +106,12 @@ module _ (T : Tables) (engine : Engine) (address : ℕ) (ty : Ty) (key : Value) 
   one-is none k path w = refl
   one-is (some c) k path w = refl
 
-  one-grows : (o : Option Const) (k : Constraint) (path : FieldPath) (w : Walk) → Grows T engine ty key w (one o k path w)
+  pub one-grows : (o : Option Const) (k : Constraint) (path : FieldPath) (w : Walk) → Grows T engine ty key w (one o k path w)
   unfolding one
   one-grows none k path w = grows-next T engine ty key w _ _ (grows-skip T engine ty key w) (grows-report T engine ty key (k .node) Code.RejectTypeMismatch (emit Event.skip w))
   one-grows (some c) k path w = grows-narrow T engine ty key (k .node) path (narrowing c) w
 
-  one-live : (o : Option Const) (k : Constraint) (t : ℕ) (path : FieldPath) (w : Walk) (v : Value) (r y : List ℕ) → constant T (k .node) t ≡ o → Text k → Holds v k → valueAt ty key path ≡ some v
+  pub one-live : (o : Option Const) (k : Constraint) (t : ℕ) (path : FieldPath) (w : Walk) (v : Value) (r y : List ℕ) → constant T (k .node) t ≡ o → Text k → Holds v k → valueAt ty key path ≡ some v
       → Clean (one o k path w) → Ready engine ty key (built T w) (encode v ++ r) → Ready engine ty key (built T (one o k path w)) y
   unfolding one place
   one-live none k t path w v r y e i h at c rd = absurd (dirty _ _ _ c)
@@ -125,14 +125,14 @@ module _ (T : Tables) (engine : Engine) (address : ℕ) (ty : Ty) (key : Value) 
   one-bound (some c) k path w = refl
 
   -- the walk after one constraint
-  next : Constraint → ℕ → FieldPath → Walk → Walk
+  unfoldable pub next : Constraint → ℕ → FieldPath → Walk → Walk
   next k t path w = one (constant T (k .node) t) k path w
 
-  each-is : (k : Constraint) (ks : List Constraint) (t : ℕ) (path : FieldPath) (w : Walk) → constrainEach (walkOps T) T (k ∷ ks) t path w ≡ constrainEach (walkOps T) T ks t path (next k t path w)
+  pub each-is : (k : Constraint) (ks : List Constraint) (t : ℕ) (path : FieldPath) (w : Walk) → constrainEach (walkOps T) T (k ∷ ks) t path w ≡ constrainEach (walkOps T) T ks t path (next k t path w)
   unfolding constrainEach next
   each-is k ks t path w = ap (constrainEach (walkOps T) T ks t path) (sym (one-is (constant T (k .node) t) k path w))
 
-  constraints-grow : (ks : List Constraint) (t : ℕ) (path : FieldPath) (w : Walk) → Grows T engine ty key w (constrainEach (walkOps T) T ks t path w)
+  pub constraints-grow : (ks : List Constraint) (t : ℕ) (path : FieldPath) (w : Walk) → Grows T engine ty key w (constrainEach (walkOps T) T ks t path w)
   unfolding next
   constraints-grow [] t path w = unfold constrainEach in grows-same T engine ty key w
   constraints-grow (k ∷ ks) t path w =
@@ -146,7 +146,7 @@ module _ (T : Tables) (engine : Engine) (address : ℕ) (ty : Ty) (key : Value) 
       ap (λ (u : Walk). u .lists .bindings) (each-is k ks t path w) ∙ constraints-bound ks t path (next k t path w) ∙ one-bound (constant T (k .node) t) k path w
 
   -- the constraints of a name, of which there is one
-  constraints-live : (k : Constraint) (ks : List Constraint) (t : ℕ) (path : FieldPath) (w : Walk) (v : Value) (r y : List ℕ) → Each Text (k ∷ ks) → Each (Holds v) (k ∷ ks) → valueAt ty key path ≡ some v
+  pub constraints-live : (k : Constraint) (ks : List Constraint) (t : ℕ) (path : FieldPath) (w : Walk) (v : Value) (r y : List ℕ) → Each Text (k ∷ ks) → Each (Holds v) (k ∷ ks) → valueAt ty key path ≡ some v
       → Clean (constrainEach (walkOps T) T (k ∷ ks) t path w) → Ready engine ty key (built T w) (encode v ++ r) → Ready engine ty key (built T (constrainEach (walkOps T) T (k ∷ ks) t path w)) y
   unfolding next
   constraints-live k [] t path w v r y (more i is) (more h hs) at c rd =
@@ -175,7 +175,7 @@ module _ (T : Tables) (engine : Engine) (address : ℕ) (ty : Ty) (key : Value) 
       fallen b h = unfold fall in h refl
 
   -- all that is asked of a name: `ks` are its constraints by rank
-  by-grows : (ks : List Constraint) (x t : ℕ) (path : FieldPath) (w : Walk) (slot : Slot) → lookup (w .lists .bindings) x ≡ some slot → Grows T engine ty key w (constrainBy (walkOps T) T ks x t path w)
+  pub by-grows : (ks : List Constraint) (x t : ℕ) (path : FieldPath) (w : Walk) (slot : Slot) → lookup (w .lists .bindings) x ≡ some slot → Grows T engine ty key w (constrainBy (walkOps T) T ks x t path w)
   unfolding constrainBy
   by-grows [] x t path w slot e = grows-bound T engine ty key x t w slot e
   by-grows (k ∷ ks) x t path w slot e = grows-next T engine ty key w (constrained x w) _ (grows-constrained T engine ty key x w) (constraints-grow (k ∷ ks) t path (constrained x w))
