@@ -26,3 +26,4 @@ pub mod Unplaced
 pub mod Folded
 pub mod ConstSlots
 pub mod Backward
+pub mod NamesBack

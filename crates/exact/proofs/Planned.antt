@@ -34,7 +34,7 @@ parts-joined engine (p ∷ parts) bytes e =
     let b = bind-some (joined parts) _ bytes (a .2) in
     ap₂ (λ (x y : List ℕ). x ++ y) (part-joined engine (p .key) (a .0) (a .1)) (parts-joined engine parts (b .0) (b .1)) ∙ some-injective (a .0 ++ b .0) bytes (b .2)
 
-all-true : {A : Type 0} (p : A → Bool) {xs : List A} → Each (λ x. p x ≡ true) xs → all p xs ≡ true
+pub all-true : {A : Type 0} (p : A → Bool) {xs : List A} → Each (λ x. p x ≡ true) xs → all p xs ≡ true
 unfolding all
 all-true p done = refl
 all-true p (more {x} {xs} h hs) = by-test (λ r. r ≡ true) (p x) (λ e. all-true p hs) (λ e. absurd (true≢false (sym h ∙ e)))
