@@ -369,7 +369,7 @@ module _ (T : Tables) (engine : Engine) (address : ℕ) (ty : Ty) (key : Value) 
       go (suc l) q = (l, ap (λ (m : ℕ). constantNode T (constantBelow T l) (nodeAt T m) (typeAt T t)) (sym (node-stands n o)) ∙ q)
 
   -- a record's constant is bytes
-  record-constant : (limit : ℕ) (fields : List FieldPattern) (u : Ty) (k : Const) → constantRecord (constantBelow T limit) fields u ≡ some k → (b : List ℕ) × (k ≡ Const.Bytes b)
+  pub record-constant : (limit : ℕ) (fields : List FieldPattern) (u : Ty) (k : Const) → constantRecord (constantBelow T limit) fields u ≡ some k → (b : List ℕ) × (k ≡ Const.Bytes b)
   unfolding constantRecord
   record-constant limit fields Ty.Int k e = absurd (some≢none k (sym e))
   record-constant limit fields Ty.Str k e = absurd (some≢none k (sym e))

@@ -27,3 +27,4 @@ pub mod Folded
 pub mod ConstSlots
 pub mod Backward
 pub mod NamesBack
+pub mod PiecesBack

@@ -34,12 +34,12 @@ module _ (T : Tables) (engine : Engine) (address : ℕ) (ty : Ty) (key : Value) 
   emitted : (e : Event) (w : Walk) (r : List ℕ) → Ready engine ty key (place T e (built T w)) r → Ready engine ty key (built T (emit e w)) r
   emitted e w r h = subst (λ b. Ready engine ty key b r) (sym (built-emit T e w)) h
 
-  emit-bound : (e : Event) (w : Walk) → emit e w .lists .bindings ≡ w .lists .bindings
+  pub emit-bound : (e : Event) (w : Walk) → emit e w .lists .bindings ≡ w .lists .bindings
   unfolding emit
   emit-bound e w = refl
 
   -- a tag, before what the union holds
-  ready-tag : (n disc : ℕ) (path : FieldPath) (w : Walk) (v : Value) (r : List ℕ) → valueAt ty key path ≡ some (Value.Uni disc v) → Ready engine ty key (built T w) (encode (Value.Uni disc v) ++ r)
+  pub ready-tag : (n disc : ℕ) (path : FieldPath) (w : Walk) (v : Value) (r : List ℕ) → valueAt ty key path ≡ some (Value.Uni disc v) → Ready engine ty key (built T w) (encode (Value.Uni disc v) ++ r)
       → Ready engine ty key (built T (emit (Event.narrow n path (Narrowing.Tag disc)) w)) (encode v ++ (0 ∷ r))
   unfolding place placeNarrowing partBytes says hasDisc encode encodeUnion
   ready-tag n disc path w v r at rd =
@@ -116,12 +116,12 @@ module _ (T : Tables) (engine : Engine) (address : ℕ) (ty : Ty) (key : Value) 
         (λ q. goes-skip T engine address ty key folded w path m h))
 
     -- what a match of pattern n has to be, for a read
-    record Agrees (n t : ℕ) (path : FieldPath) (bound : List Binding) (m : Value → Option (List Binding)) : Type 0 where
-      found : (slot : Slot) → slotOf T n bound ≡ some slot → (v : Value) → m v ≡ slotMatches T engine address ty key folded matchBelow slot t v path bound
-      opened : slotOf T n bound ≡ none → (fields : List FieldPattern) → recordFields (nodeAt T n) ≡ some fields → (unionTy (typeAt T t) ≡ none) × ((v : Value) → m v ≡ recordAt T engine address ty key folded matchBelow fields (typeAt T t) v path bound)
-      nothing : slotOf T n bound ≡ none → recordFields (nodeAt T n) ≡ none → (v : Value) (after : List Binding) → m v ≡ some after → after ≡ bound
+    pub record Agrees (n t : ℕ) (path : FieldPath) (bound : List Binding) (m : Value → Option (List Binding)) : Type 0 where
+      pub found : (slot : Slot) → slotOf T n bound ≡ some slot → (v : Value) → m v ≡ slotMatches T engine address ty key folded matchBelow slot t v path bound
+      pub opened : slotOf T n bound ≡ none → (fields : List FieldPattern) → recordFields (nodeAt T n) ≡ some fields → (unionTy (typeAt T t) ≡ none) × ((v : Value) → m v ≡ recordAt T engine address ty key folded matchBelow fields (typeAt T t) v path bound)
+      pub nothing : slotOf T n bound ≡ none → recordFields (nodeAt T n) ≡ none → (v : Value) (after : List Binding) → m v ≡ some after → after ≡ bound
 
-    goes-answer : (n t : ℕ) (path : FieldPath) (w u : Walk) (m : Value → Option (List Binding)) → Agrees n t path (u .lists .bindings) m → (o : Option Slot) → slotOf T n (u .lists .bindings) ≡ o
+    pub goes-answer : (n t : ℕ) (path : FieldPath) (w u : Walk) (m : Value → Option (List Binding)) → Agrees n t path (u .lists .bindings) m → (o : Option Slot) → slotOf T n (u .lists .bindings) ≡ o
         → Goes T engine address ty key folded u (readAnswer (walkOps T) T address walkBelow n o t path w u) path m
     unfolding readAnswer
     goes-answer n t path w u m a (some slot) e = goes-agree T engine address ty key folded u _ path m _ (a .found slot e) (goes-matched T engine address ty key folded limit ih n slot t path u)
@@ -169,7 +169,7 @@ module _ (T : Tables) (engine : Engine) (address : ℕ) (ty : Ty) (key : Value) 
             (λ t e. sym (some-injective _ slot e))
             (λ t e. absurd (some≢none slot (sym e ∙ ap (λ (x : Node). resolveNode quiet T (resolveBelow quiet T l) n x bound .slot) q ∙ h (resolveBelow quiet T l))))
 
-    agrees-written : (node : Node) (n t : ℕ) (path : FieldPath) (bound : List Binding) → nodeAt T n ≡ node → ((f : ℕ → Resolver (List Binding)) → resolveNode quiet T f n node bound .slot ≡ none)
+    pub agrees-written : (node : Node) (n t : ℕ) (path : FieldPath) (bound : List Binding) → nodeAt T n ≡ node → ((f : ℕ → Resolver (List Binding)) → resolveNode quiet T f n node bound .slot ≡ none)
         → ((fields : List FieldPattern) → recordFields node ≡ some fields → (unionTy (typeAt T t) ≡ none) × ((v : Value) → writtenMatches T engine address ty key folded matchBelow node t v path bound ≡ recordAt T engine address ty key folded matchBelow fields (typeAt T t) v path bound))
         → (recordFields node ≡ none → (v : Value) (after : List Binding) → writtenMatches T engine address ty key folded matchBelow node t v path bound ≡ some after → after ≡ bound)
         → Agrees n t path bound (λ v. writtenMatches T engine address ty key folded matchBelow node t v path bound)
@@ -184,7 +184,7 @@ module _ (T : Tables) (engine : Engine) (address : ℕ) (ty : Ty) (key : Value) 
         }
 
     -- a pattern that is read through its slot
-    agrees-read : (n t : ℕ) (path : FieldPath) (bound : List Binding) → recordFields (nodeAt T n) ≡ none → Agrees n t path bound (λ v. readMatches T engine address ty key folded matchBelow n t v path bound)
+    pub agrees-read : (n t : ℕ) (path : FieldPath) (bound : List Binding) → recordFields (nodeAt T n) ≡ none → Agrees n t path bound (λ v. readMatches T engine address ty key folded matchBelow n t v path bound)
     unfolding readMatches
     agrees-read n t path bound o =
         record {
@@ -194,7 +194,7 @@ module _ (T : Tables) (engine : Engine) (address : ℕ) (ty : Ty) (key : Value) 
         }
 
     -- nothing is read, nothing is bound
-    agrees-none : (node : Node) (n t : ℕ) (path : FieldPath) (bound : List Binding) → nodeAt T n ≡ node → ((f : ℕ → Resolver (List Binding)) → resolveNode quiet T f n node bound .slot ≡ none) → recordFields node ≡ none
+    pub agrees-none : (node : Node) (n t : ℕ) (path : FieldPath) (bound : List Binding) → nodeAt T n ≡ node → ((f : ℕ → Resolver (List Binding)) → resolveNode quiet T f n node bound .slot ≡ none) → recordFields node ≡ none
         → isConstant T n ≡ false → Agrees n t path bound (λ v. some bound)
     unfolding slotOf resolve resolveBelow give
     agrees-none node n t path bound q h o i =

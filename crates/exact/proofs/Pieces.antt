@@ -78,10 +78,10 @@ both-records (some gs) (some hs) e = (gs, hs, refl, refl)
 
 module _ (T : Tables) (engine : Engine) (address : ℕ) (ty : Ty) (key : Value) (folded : List ℕ) where
   -- once building fell, a field that the pattern does not name asks nothing
-  abbrev Fell : Walk → Type 0
+  abbrev pub Fell : Walk → Type 0
   Fell w = built T w .building ≡ false
 
-  miss-none : Missing T engine address ty key folded Fell (λ w. w)
+  pub miss-none : Missing T engine address ty key folded Fell (λ w. w)
   miss-none =
       record {
         grows = grows-same T engine ty key;
@@ -90,7 +90,7 @@ module _ (T : Tables) (engine : Engine) (address : ℕ) (ty : Ty) (key : Value) 
         keeps = λ w w′ g j. g .steps .fell j;
       }
 
-  fell-skip : (w : Walk) → Fell (emit Event.skip w)
+  pub fell-skip : (w : Walk) → Fell (emit Event.skip w)
   unfolding place fall
   fell-skip w = ap (λ (b : SeekBuilder). b .building) (built-emit T Event.skip w)
 
@@ -102,7 +102,7 @@ module _ (T : Tables) (engine : Engine) (address : ℕ) (ty : Ty) (key : Value) 
     matchBelow = below T engine address ty key folded limit
 
     -- a record's fields, after a skip
-    goes-fields : (fields : List FieldPattern) (fs : List FieldTy) (path : FieldPath) (w : Walk)
+    pub goes-fields : (fields : List FieldPattern) (fs : List FieldTy) (path : FieldPath) (w : Walk)
         → Goes T engine address ty key folded w (eachField walkBelow (λ u. u) (then path) fields 0 fs (emit Event.skip w)) path (λ v. recordMatches T engine address ty key folded matchBelow fields fs v path (w .lists .bindings))
     unfolding recordMatches emit
     goes-fields fields fs path w =
@@ -147,11 +147,11 @@ module _ (T : Tables) (engine : Engine) (address : ℕ) (ty : Ty) (key : Value) 
         (sym q) (goes-opened fields (typeAt T t) path w e)
 
     -- a Const slot
-    const-choice : ℕ → ℕ → ℕ → FieldPath → Walk → Option Const → Walk
+    unfoldable pub const-choice : ℕ → ℕ → ℕ → FieldPath → Walk → Option Const → Walk
     const-choice n c t path w none = partial (walkOps T) T address walkBelow c t path (brings T (Slot.Const c) (typeAt T t) w)
     const-choice n c t path w (some k) = emit (Event.narrow n path (narrowing k)) w
 
-    const-choice-is : (n c t : ℕ) (path : FieldPath) (w : Walk) (o : Option Const)
+    pub const-choice-is : (n c t : ℕ) (path : FieldPath) (w : Walk) (o : Option Const)
         → const-choice n c t path w o ≡ elim o as (λ _. Walk) [ some k ↦ narrowBy (walkOps T) T n k path w | none ↦ partial (walkOps T) T address walkBelow c t path (brings T (Slot.Const c) (typeAt T t) w) ]
     unfolding const-choice narrowBy
     const-choice-is n c t path w none = refl
