@@ -28,3 +28,4 @@ pub mod ConstSlots
 pub mod Backward
 pub mod NamesBack
 pub mod PiecesBack
+pub mod PatternsBack
