@@ -29,3 +29,4 @@ pub mod Backward
 pub mod NamesBack
 pub mod PiecesBack
 pub mod PatternsBack
+pub mod FileFacts

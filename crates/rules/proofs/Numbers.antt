@@ -14,7 +14,7 @@ use Rattle.rules.specs.Read.{Read, got, refused, Reader, many, several, 
 use Rattle.rules.specs.Demand1.{Byte}
 use Rattle.rules.proofs.Cases.{leb-le}
 use Rattle.rules.proofs.Each.{Any}
-use Rattle.rules.proofs.Readers.{Answer, gives, refuses, Reads, reads-pure, reads-refuse, reads-bind, reads-u8, reads-u16, reads-many, reads-several, reads-kind, reads-section, reads-end, reads-name, reads-predicate, reads-anchor, reads-fieldPattern, reads-binding, reads-hoisted, reads-fetched, reads-constraint, reads-comparison, reads-whole}
+use Rattle.rules.proofs.Readers.{Answer, gives, refuses, Reads, reads-pure, reads-refuse, reads-bind, reads-u8, reads-u16, reads-several, reads-kind, reads-section, reads-end, reads-name, reads-predicate, reads-anchor, reads-fieldPattern, reads-binding, reads-hoisted, reads-fetched, reads-constraint, reads-comparison, reads-whole}
 
 -- fewer fields than a byte counts, discs of four bytes
 abbrev pub TypeNumbers : Ty → Type 0
@@ -25,9 +25,14 @@ TypeNumbers (Ty.Fact p) = Unit {0}
 TypeNumbers (Ty.Record fs) = length fs < 256
 TypeNumbers (Ty.Union alts) = Each (λ a. a .disc < 4294967296) alts
 
--- a Var's name
+-- as many as were asked for
+pub record Many {A : Type 0} (Q : A → Type 0) (n : ℕ) (xs : List A) : Type 0 where
+  pub each : Each Q xs
+  pub count : length xs ≡ n
+
+-- an Int's eight bytes, a Var's name
 abbrev pub NodeNumbers : Node → Type 0
-NodeNumbers (Node.Int bytes) = Unit {0}
+NodeNumbers (Node.Int bytes) = Many Byte 8 bytes
 NodeNumbers (Node.Str x) = Unit {0}
 NodeNumbers (Node.Bytes bytes) = Unit {0}
 NodeNumbers (Node.Var x) = x < 65536
@@ -50,11 +55,6 @@ pub record Bounded (T : Tables) : Type 0 where
   pub types : Each TypeNumbers (T .types)
   pub nodes : Each NodeNumbers (T .nodes)
   pub levels : Each (λ l. l .address < 65536) (T .levels)
-
--- as many as were asked for
-pub record Many {A : Type 0} (Q : A → Type 0) (n : ℕ) (xs : List A) : Type 0 where
-  pub each : Each Q xs
-  pub count : length xs ≡ n
 
 pub u16-bound : Reads Byte (λ n. n < 65536) Read.u16
 unfolding Read.u16
@@ -126,7 +126,7 @@ node-bound : Reads Byte NodeNumbers Read.node
 unfolding Read.node Read.intNode Read.bytesNode Read.fuzzyNode Read.recordNode
 node-bound =
     reads-kind
-    (more (reads-bind (reads-many 8 reads-u8) λ bytes _. reads-pure _ tt)
+    (more (reads-bind (many-bound 8 reads-u8) λ bytes h. reads-pure _ h)
     (more (one-bound _ λ a _. tt)
     (more (reads-bind (reads-several reads-u8) λ bytes _. reads-pure _ tt)
     (more (one-bound _ λ a h. h)
