@@ -21,6 +21,10 @@ use Rattle.exact.proofs.Placing.{Open, Edged, edged-none, parts-snoc, P
 abbrev pub Alone : SeekBuilder → Type 0
 Alone b = b .building ≡ true → Open (b .range) (b .guide) (b .edges)
 
+-- a range excludes edges
+abbrev pub Excludes : SeekBuilder → Type 0
+Excludes b = (r : Range) → b .range ≡ some r → (b .edges .lo ≡ none) × (b .edges .hi ≡ none)
+
 each-init : {A : Type 0} {P : A → Type 0} (xs : List A) (x : A) → Each P (xs ++ (x ∷ [])) → Each P xs
 each-init [] x h = done
 each-init (y ∷ xs) x (more p h) = more p (each-init xs x h)
@@ -31,10 +35,11 @@ module _ (engine : Engine) (ty : Ty) (key : Value) where
     pub folded : b .building ≡ false → b′ .edges .folded ≡ b .edges .folded
     pub parts : Onwards (b .parts) (b′ .parts)
     pub alone : Alone b → Alone b′
+    pub excludes : Alone b → Excludes b → Excludes b′
     pub back : Alone b → Passing engine ty key b′ → Passing engine ty key b
 
   pub steps-same : (b : SeekBuilder) → Steps b b
-  steps-same b = record { fell = λ q. q; folded = λ q. refl; parts = onwards-same (b .parts); alone = λ a. a; back = λ a p. p }
+  steps-same b = record { fell = λ q. q; folded = λ q. refl; parts = onwards-same (b .parts); alone = λ a. a; excludes = λ a x. x; back = λ a p. p }
 
   pub steps-next : (a b c : SeekBuilder) → Steps a b → Steps b c → Steps a c
   steps-next a b c g h =
@@ -43,6 +48,7 @@ module _ (engine : Engine) (ty : Ty) (key : Value) where
         folded = λ q. h .folded (g .fell q) ∙ g .folded q;
         parts = onwards-next (a .parts) (b .parts) (c .parts) (g .parts) (h .parts);
         alone = λ q. h .alone (g .alone q);
+        excludes = λ q x. h .excludes (g .alone q) (g .excludes q x);
         back = λ q p. g .back q (h .back (g .alone q) p);
       }
 
@@ -54,6 +60,7 @@ module _ (engine : Engine) (ty : Ty) (key : Value) where
         folded = λ q. refl;
         parts = onwards-same (b .parts);
         alone = λ a q. absurd (true≢false (sym q));
+        excludes = λ a x. x;
         back = λ a p. record { starts = p .starts; range = p .range; edges = p .edges; guide = p .guide; residuals = p .residuals };
       }
 
@@ -65,6 +72,7 @@ module _ (engine : Engine) (ty : Ty) (key : Value) where
         folded = λ q. refl;
         parts = onwards-same (b .parts);
         alone = λ a q. a q;
+        excludes = λ a x. x;
         back = λ a p. record { starts = p .starts; range = p .range; edges = p .edges; guide = p .guide; residuals = each-init (b .residuals) residual (p .residuals) };
       }
 
@@ -76,6 +84,7 @@ module _ (engine : Engine) (ty : Ty) (key : Value) where
         folded = λ q. refl;
         parts = onwards-one (b .parts) part;
         alone = λ a q. a q;
+        excludes = λ a x. x;
         back = λ a p.
             record {
               starts = starts-less (partsBytes engine (b .parts)) (partBytes engine (part .key)) (stored ty key) (subst (λ l. Starts l (stored ty key)) (parts-snoc engine (b .parts) part) (p .starts));
@@ -100,6 +109,7 @@ module _ (engine : Engine) (ty : Ty) (key : Value) where
         folded = λ q. refl;
         parts = onwards-same (b .parts);
         alone = λ a q. absurd (true≢false (sym q));
+        excludes = λ a x r e. (a on .no-lo, a on .no-hi);
         back = λ a p. record { starts = p .starts; range = λ r q. absurd (some≢none r (sym q ∙ a on .no-range)); edges = p .edges; guide = p .guide; residuals = p .residuals };
       })
       (λ off. steps-residual b (record { path = path; op = Narrowing.Prefix prefix; node = n }))
@@ -118,6 +128,7 @@ module _ (engine : Engine) (ty : Ty) (key : Value) where
         folded = λ q. refl;
         parts = onwards-same (b .parts);
         alone = λ a q. absurd (true≢false (sym q));
+        excludes = λ a x. x;
         back = λ a p. record { starts = p .starts; range = p .range; edges = p .edges; guide = λ g q. absurd (some≢none g (sym q ∙ attach-none b path on)); residuals = p .residuals };
       })
       (λ off. steps-residual b (record { path = path; op = Narrowing.Fuzzy x distance anchor; node = n }))
@@ -140,6 +151,7 @@ module _ (engine : Engine) (ty : Ty) (key : Value) where
         folded = s .folded;
         parts = s .parts;
         alone = s .alone;
+        excludes = s .excludes;
         back = λ a p. s .back a (record { starts = p .starts; range = p .range; edges = p .edges; guide = p .guide; residuals = p .residuals });
       }
 
@@ -157,6 +169,7 @@ module _ (engine : Engine) (ty : Ty) (key : Value) where
         folded = λ q. absurd (true≢false (sym on ∙ q));
         parts = onwards-same (b .parts);
         alone = λ a q. absurd (true≢false (sym q));
+        excludes = λ a x r e. absurd (some≢none r (sym e ∙ a on .no-range));
         back = λ a p. record { starts = p .starts; range = p .range; edges = edged-none (b .edges .lo) (b .edges .hi) _ (a on .no-lo) (a on .no-hi); guide = p .guide; residuals = p .residuals };
       })
       (λ off. steps-fall b)

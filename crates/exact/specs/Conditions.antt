@@ -10,7 +10,10 @@ use Rattle.rules.specs.Checks.{checks, fault}
 use Rattle.rules.specs.Constant.{lookup}
 use Rattle.rules.specs.Events.{Lists}
 use Rattle.rules.specs.Levels.{Level, level, levels, starting}
+use Rattle.rules.specs.Placement.{SeekKeyPart, Part, SeekKey}
 use Rattle.rules.specs.Plan.{plan}
+use Rattle.exact.specs.Values.{Value, encode, OfType}
+use Rattle.exact.specs.Keys.{Engine}
 use Rattle.exact.specs.Matcher.{keyType}
 
 -- "whose constraints are all prefixes or fuzzies"
@@ -73,6 +76,19 @@ pub record Plain (T : Tables) : Type 0 where
   pub no-selects : plan T .selects ≡ []
   pub texts : constraintsAreTexts T ≡ true
   pub own : ownNodes T (starting T) (T .levels) ≡ true
+
+-- "for registers that hold an encoded value at every path read": of the parts that are read from registers, the encoding of a value of some
+-- type. Registers that residuals read may hold anything.
+abbrev pub HoldsValue : Tables → Engine → SeekKeyPart → Type 0
+HoldsValue T engine (SeekKeyPart.Bytes bytes) = Unit {0}
+HoldsValue T engine (SeekKeyPart.RegisterField address at) = (v : Value) × (ty : Ty) × OfType T v ty × (engine .fields address at ≡ encode v)
+HoldsValue T engine (SeekKeyPart.RegisterFactId address) = Unit {0}
+
+abbrev pub HoldsValues : Tables → Engine → SeekKey → Type 0
+HoldsValues T engine (SeekKey.Prefix bytes nodes) = Unit {0}
+HoldsValues T engine (SeekKey.Composite parts) = Each (λ (p : Part). HoldsValue T engine (p .key)) parts
+HoldsValues T engine (SeekKey.PrefixRange parts range) = Each (λ (p : Part). HoldsValue T engine (p .key)) parts
+HoldsValues T engine (SeekKey.Bounded parts lo hi) = Each (λ (p : Part). HoldsValue T engine (p .key)) parts
 
 unfoldable pub openConditions : Unit {0}
 unfolding isText constraintsAreTexts isNew isOwn ownNodes
