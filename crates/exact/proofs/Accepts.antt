@@ -109,7 +109,7 @@ module _ (T : Tables) (facts : Facts T) (engine : Engine) (address : ℕ) (ty : 
       let o = of-union T v (typeAt T t) alts of u in
       let d : ℕ = o .0 in
       let s = tags-same (o .0) (alt .disc) (encode (o .1) ++ (0 ∷ r)) y
-            (sym (append-assoc (unionTag (o .0) ++ encode (o .1)) term r ∙ append-assoc (unionTag (o .0)) (encode (o .1)) (0 ∷ r)) ∙ ap (λ (z : Value). encode z ++ r) (sym (o .3)) ∙ e) in
+      (sym (append-assoc (unionTag (o .0) ++ encode (o .1)) term r ∙ append-assoc (unionTag (o .0)) (encode (o .1)) (0 ∷ r)) ∙ ap (λ (z : Value). encode z ++ r) (sym (o .3)) ∙ e) in
       let tiny = facts .discs t alts u in
       let same : o .0 ≡ alt .disc = disc-same (o .0) (alt .disc) (subst (λ k. k < 4294967296) (found-disc alts (o .0) (o .2) (o .4)) (each-first _ tiny (o .2) (o .4))) (each-first _ tiny alt n) (s .front) in
       let alternative : o .2 ≡ alt = some-injective (o .2) alt (sym (o .4) ∙ ap (λ k. first (λ (b : Alternative). eqb (b .disc) k) alts) same ∙ facts .once t alts u x alt n) in
@@ -135,7 +135,7 @@ module _ (T : Tables) (facts : Facts T) (engine : Engine) (address : ℕ) (ty : 
         let said = constant .1 ∙ ap some (only-bytes (constant .0) (own .0) (own .1)) in
         let long : encode v ++ (encodeAll vs ++ r) ≡ (own .0 ++ rest .0) ++ s .0 = sym (append-assoc (encode v) (encodeAll vs) r) ∙ s .1 ∙ ap (λ (l′ : List ℕ). l′ ++ s .0) whole in
         let first = ih (pattern .0) (g .type) (own .0) said f l v (place i) (encodeAll vs ++ r) bound (of .0) (both-left (zeroFree v) (allZeroFree vs) z) (apart-all vs r a) c
-              (starts-less (own .0) (rest .0) (encode v ++ (encodeAll vs ++ r)) (s .0, long)) in
+        (starts-less (own .0) (rest .0) (encode v ++ (encodeAll vs ++ r)) (s .0, long)) in
         let same = constant-bytes T engine address ty key folded limit (pattern .0) (g .type) (own .0) said f v (place i) bound bound c first .0 in
         let left : encodeAll vs ++ r ≡ rest .0 ++ s .0 = cancel (own .0) _ _ (ap (λ (l′ : List ℕ). l′ ++ (encodeAll vs ++ r)) (sym same) ∙ long ∙ append-assoc (own .0) (rest .0) (s .0)) in
         ap (λ (o : Option (List Binding)). o whenSome λ onward. eachMatches (below T engine address ty key folded f) place fields (suc i) fs vs onward)
@@ -154,7 +154,7 @@ module _ (T : Tables) (facts : Facts T) (engine : Engine) (address : ℕ) (ty : 
         let whole = const-bytes _ b (own .2) in
         let rest : List ℕ = own .0 ++ (0 ∷ s .0) in
         let long : encode v ++ r ≡ unionTag (alt .0 .disc) ++ (own .0 ++ (0 ∷ s .0)) =
-              s .1 ∙ ap (λ (l : List ℕ). l ++ s .0) (sym whole) ∙ append-assoc (unionTag (alt .0 .disc) ++ own .0) term (s .0) ∙ append-assoc (unionTag (alt .0 .disc)) (own .0) (0 ∷ s .0) in
+        s .1 ∙ ap (λ (l : List ℕ). l ++ s .0) (sym whole) ∙ append-assoc (unionTag (alt .0 .disc) ++ own .0) term (s .0) ∙ append-assoc (unionTag (alt .0 .disc)) (own .0) (0 ∷ s .0) in
         let w = chosen t alts (only .0 .name) (alt .0) v r (own .0 ++ (0 ∷ s .0)) u (alt .1) of long in
         let inner = ih (only .0 .node) (alt .0 .type) (own .0) (constant .1 ∙ ap some (only-bytes (constant .0) (own .0) (own .1))) f (each-first _ low (alt .0) (alt .1)) (w .0) (payload path (alt .0 .disc)) (0 ∷ r) bound (w .2) (ap zeroFree (sym (w .1)) ∙ z) refl c (0 ∷ s .0, w .3) in
         ap (λ (o : Option FieldPattern). unionMatches T engine address ty key folded (below T engine address ty key folded f) o alts v path bound) (only .1)
@@ -175,9 +175,9 @@ module _ (T : Tables) (facts : Facts T) (engine : Engine) (address : ℕ) (ty : 
         let whole = const-bytes _ b (all .2) in
         let o = of-record T v (typeAt T t) fs of q in
         let long : encodeAll (o .0) ++ (0 ∷ r) ≡ all .0 ++ (0 ∷ s .0) =
-              sym (append-assoc (encodeAll (o .0)) term r)
-              ∙ tails 6 6 _ _ (ap (λ (x : Value). encode x ++ r) (sym (o .1)) ∙ s .1 ∙ ap (λ (l : List ℕ). l ++ s .0) (sym whole))
-              ∙ append-assoc (all .0) term (s .0) in
+        sym (append-assoc (encodeAll (o .0)) term r)
+        ∙ tails 6 6 _ _ (ap (λ (x : Value). encode x ++ r) (sym (o .1)) ∙ s .1 ∙ ap (λ (l : List ℕ). l ++ s .0) (sym whole))
+        ∙ append-assoc (all .0) term (s .0) in
         ap (λ (x : Option Values). x whenSome λ vs. eachMatches (below T engine address ty key folded f) (then path) fields 0 fs vs bound) (fields-is v (o .0) (o .1))
         ∙ fields-accepted fields fs (all .0) (all .1) (record-children (λ k. k < f) (Ty.Record fs) fs low refl) (then path) 0 (o .0) (0 ∷ r) bound (o .2) (ap zeroFree (sym (o .1)) ∙ z) refl c (0 ∷ s .0, long)
     record-accepted fields t (Ty.Union alts) b v path r bound q low e of z a c s =

@@ -103,7 +103,7 @@ module _ (T : Tables) (engine : Engine) (address : ℕ) (ty : Ty) (key : Value) 
   -- one narrowing
   pub comes-narrow : (n : ℕ) (path : FieldPath) (x : Narrowing) (w : Walk) (t : ℕ) (m : Value → Option (List Binding))
       → ((v : Value) (r : List ℕ) → OfType T v (typeAt T t) → zeroFree v ≡ true → Apart r → valueAt ty key path ≡ some v → Ready engine ty key (built T w) (encode v ++ r) → Consts T engine address ty key folded (w .lists .bindings)
-        → HeldParts engine (placeNarrowing n path x (built T w)) → Passing engine ty key (placeNarrowing n path x (built T w)) → Some (m v))
+      → HeldParts engine (placeNarrowing n path x (built T w)) → Passing engine ty key (placeNarrowing n path x (built T w)) → Some (m v))
       → Comes w (emit (Event.narrow n path x) w) path t m
   unfolding place
   comes-narrow n path x w t m h =
@@ -186,12 +186,13 @@ module _ (T : Tables) (engine : Engine) (address : ℕ) (ty : Ty) (key : Value) 
         let ap′ = apart-all vs r a in
         let s = first-back (fieldPattern fields (g .name)) (g .type) i w v (encodeAll vs ++ r) l (of .0) zv ap′ here rd′ (subst (Given w) e first) in
         let reach = first-live T engine address ty key folded J walk match missing place fields goes miss (fieldPattern fields (g .name)) (g .type) i w v (encodeAll vs ++ r) (whole T v (typeAt T (g .type)) (of .0)) ap′ here j
-              (subst Clean e (first .clean)) (subst (Final T engine address ty key folded) e (first .final)) (gv .consts) rd′ (s .0) (s .1) in
+        (subst Clean e (first .clean)) (subst (Final T engine address ty key folded) e (first .final)) (gv .consts) rd′ (s .0) (s .1) in
         let reach₁ : Reached T engine address ty key folded w₁ (encodeAll vs ++ r) (s .0) = subst (λ u. Reached T engine address ty key folded u (encodeAll vs ++ r) (s .0)) (sym e) reach in
-        let last = rest .back vs r (of .1) (both-right (zeroFree v) (allZeroFree vs) z) a (λ k. ap (λ n. valueAt ty key (place n)) (omega arith) ∙ at (suc k)) (miss .keeps w w₁ grew j) (reach₁ .ready) (given-second w w₁ w₂ grew gv) in
-        (last .0,
-        ap (λ (o : Option (List Binding)). o whenSome λ onward. eachMatches match place fields (suc i) fs vs onward)
-        (sym (first-match-is T engine address ty key folded J walk match missing place fields goes miss (fieldPattern fields (g .name)) (g .type) i v (w .lists .bindings)) ∙ s .1 ∙ ap some (sym (reach₁ .bound))) ∙ last .1)
+        let last = rest .back vs r (of .1) (both-right (zeroFree v) (allZeroFree vs) z) a (λ k. ap (λ n. valueAt ty key (place n)) (omega arith) ∙ at (suc k)) (miss .keeps w w₁ grew j) (reach₁ .ready) (given-second w w₁ w₂ grew gv) in (
+          last .0,
+          ap (λ (o : Option (List Binding)). o whenSome λ onward. eachMatches match place fields (suc i) fs vs onward)
+              (sym (first-match-is T engine address ty key folded J walk match missing place fields goes miss (fieldPattern fields (g .name)) (g .type) i v (w .lists .bindings)) ∙ s .1 ∙ ap some (sym (reach₁ .bound))) ∙ last .1,
+        )
 
     pub comes-each : (i : ℕ) {fs : List FieldTy} → Each (λ (g : FieldTy). g .type < limit) fs → (w : Walk) → ComesAll J w (eachField walk missing place fields i fs w) place i fs (λ vs. eachMatches match place fields i fs vs (w .lists .bindings))
     unfolding eachField

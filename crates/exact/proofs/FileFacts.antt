@@ -40,9 +40,9 @@ first-none d [] e a x q k = some≢none a (sym q)
 first-none d (c ∷ alts) e a x q k =
     by-test (λ (o : Option ℕ). o ≡ none → ⊥) (eqb d (c .disc)) (λ t z. some≢none _ z)
     (λ t z.
-      by-test (λ (o : Option Alternative). o ≡ some a → ⊥) (eqb (c .name) x)
-      (λ s y. true≢false (sym (eq-eqb d (c .disc) (sym (ap (λ (b : Alternative). b .disc) (some-injective c a y) ∙ k))) ∙ t))
-      (λ s y. first-none d alts z a x y k) q) e
+    by-test (λ (o : Option Alternative). o ≡ some a → ⊥) (eqb (c .name) x)
+    (λ s y. true≢false (sym (eq-eqb d (c .disc) (sym (ap (λ (b : Alternative). b .disc) (some-injective c a y) ∙ k))) ∙ t))
+    (λ s y. first-none d alts z a x y k) q) e
 
 once-in : (alts : List Alternative) → distinct (map (λ (a : Alternative). a .disc) alts) ≡ true → (x : ℕ) (a : Alternative) → first (λ (b : Alternative). eqb (b .name) x) alts ≡ some a → first (λ (b : Alternative). eqb (b .disc) (a .disc)) alts ≡ some a
 unfolding first distinct

@@ -39,7 +39,7 @@ unfolding stored
 stored-record ty fs vs e = ap (λ (o : Option (List FieldTy)). elim o as (λ _. List ℕ) [ some fs′ ↦ encodeAll vs | none ↦ encode (Value.Rec vs) ]) e
 
 module _ (T : Tables) (engine : Engine) (address t : ℕ) (key′ : Value) (folded : List ℕ) (texts : Each (λ (k : Constraint). IsText (nodeAt T (k .node))) (T .constraints)) where
-  abbrev ty : Ty
+  abbrev pub ty : Ty
   ty = typeAt T t
 
   -- a level's walk from w to w′, beside the match of the whole key
@@ -57,7 +57,7 @@ module _ (T : Tables) (engine : Engine) (address t : ℕ) (key′ : Value) (fold
       }
 
   -- a field that the pattern does not name is skipped
-  miss-skip : Missing T engine address ty key′ folded (λ w. Unit {0}) (λ w. emit Event.skip w)
+  pub miss-skip : Missing T engine address ty key′ folded (λ w. Unit {0}) (λ w. emit Event.skip w)
   unfolding emit
   miss-skip =
       record {
@@ -105,7 +105,7 @@ module _ (T : Tables) (engine : Engine) (address t : ℕ) (key′ : Value) (fold
       bound-is : (after : List Binding) → some (w .lists .bindings ++ (record { name = x; slot = Slot.Key address t } ∷ [])) ≡ some after → bind x (Slot.Key address t) (emit Event.skip w) .lists .bindings ≡ after
       bound-is after q = unfold bind emit in some-injective _ after q
 
-  is-new : (x : ℕ) (fs : List FieldTy) (bound : List Binding) → isNew (recordTy ty) bound x ≡ true → recordTy ty ≡ some fs → lookup bound x ≡ none
+  pub is-new : (x : ℕ) (fs : List FieldTy) (bound : List Binding) → isNew (recordTy ty) bound x ≡ true → recordTy ty ≡ some fs → lookup bound x ≡ none
   unfolding isNew
   is-new x fs bound h e = go (lookup bound x) (ap (λ (o : Option (List FieldTy)). isNew o bound x) (sym e) ∙ h)
     where

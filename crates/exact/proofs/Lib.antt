@@ -30,3 +30,5 @@ pub mod NamesBack
 pub mod PiecesBack
 pub mod PatternsBack
 pub mod FileFacts
+pub mod LevelBack
+pub mod Exact

@@ -204,8 +204,8 @@ module _ (T : Tables) (engine : Engine) (address : ℕ) (ty : Ty) (key : Value) 
     not-folded x t w v fresh consts known e =
         silent T folded x t v
         (λ j h.
-          let k = known j (subst (Has j) (sym e) h) in
-          other-name T (w .lists .bindings) consts x fresh (k .0) (k .1) t (k .3) (comparisonAt T j) (k .2) (k .5) (k .4))
+        let k = known j (subst (Has j) (sym e) h) in
+        other-name T (w .lists .bindings) consts x fresh (k .0) (k .1) t (k .3) (comparisonAt T j) (k .2) (k .5) (k .4))
 
     none-folded : (x t : ℕ) (v : Value) → folded ≡ [] → foldedHold T folded x t v ≡ true
     none-folded x t v e = silent T folded x t v (λ j h. absurd (empty j (subst (Has j) e h)))
@@ -227,8 +227,8 @@ module _ (T : Tables) (engine : Engine) (address : ℕ) (ty : Ty) (key : Value) 
     bound-folds x t b v r quiet wh a rd f p =
         ways (b .building) (foldedHold T folded x t v ≡ true)
         (λ on.
-          let edges = bound-back engine ty key T x t b v r wh a on rd p in
-          within-holds T folded x t v (b .edges) (rd .alone on .no-folded) (ap (λ (e : Edges). e .folded) (sym (bound-edges x t b on)) ∙ f) (edges .0) (edges .1))
+        let edges = bound-back engine ty key T x t b v r wh a on rd p in
+        within-holds T folded x t v (b .edges) (rd .alone on .no-folded) (ap (λ (e : Edges). e .folded) (sym (bound-edges x t b on)) ∙ f) (edges .0) (edges .1))
         (λ off. quiet (ap (λ (e : Edges). e .folded) (sym (bound-none x t b off)) ∙ f))
 
     -- all that is asked of a name
@@ -238,9 +238,11 @@ module _ (T : Tables) (engine : Engine) (address : ℕ) (ty : Ty) (key : Value) 
         → Each (Holds T engine address ty key folded v) ks × (foldedHold T folded x t v ≡ true)
     unfolding constrainBy constrained fall
     by-back [] x t path u v r is of z a at quiet rd c f p =
-        let e = built-bound T engine ty key x t u in
-        (done, bound-folds x t (built T u) v r quiet (whole T v (typeAt T t) of) a rd
-        (subst (λ (b : SeekBuilder). b .building ≡ false → b .edges .folded ≡ folded) e f refl) (subst (Passing engine ty key) e p))
+        let e = built-bound T engine ty key x t u in (
+          done,
+          bound-folds x t (built T u) v r quiet (whole T v (typeAt T t) of) a rd
+              (subst (λ (b : SeekBuilder). b .building ≡ false → b .edges .folded ≡ folded) e f refl) (subst (Passing engine ty key) e p),
+        )
     by-back (k ∷ ks) x t path u v r is of z a at quiet rd c f p =
         let u′ : Walk = constrained x u in
         let w′ : Walk = constrainEach (walkOps T) T (k ∷ ks) t path u′ in
@@ -259,9 +261,10 @@ module _ (T : Tables) (engine : Engine) (address : ℕ) (ty : Ty) (key : Value) 
               let u : Walk = bind x (Slot.Field address path t) w in
               let named = each-filter (λ (l : Constraint). eqb (l .name) x) texts in
               let p = by-back (ranked T x) x t path u v r (each-ranked T x (Text T engine address ty key folded) named) of z a at
-                    (λ q. not-folded x t w v e (gv .consts) (gv .known) q) rd (gv .clean) (gv .final) (gv .passing) in
-              (w .lists .bindings ++ (record { name = x; slot = Slot.Field address path t } ∷ []),
-              accept-true (both (constraintsHold T engine x v) (foldedHold T folded x t v)) _
-              (both-true (constraintsHold T engine x v) (foldedHold T folded x t v)
-              (all-true (λ (l : Constraint). textMatches T engine (nodeAt T (l .node)) v) (of-ranked T x (Holds T engine address ty key folded v) named (p .0))) (p .1)));
+              (λ q. not-folded x t w v e (gv .consts) (gv .known) q) rd (gv .clean) (gv .final) (gv .passing) in (
+                w .lists .bindings ++ (record { name = x; slot = Slot.Field address path t } ∷ []),
+                accept-true (both (constraintsHold T engine x v) (foldedHold T folded x t v)) _
+                    (both-true (constraintsHold T engine x v) (foldedHold T folded x t v)
+                    (all-true (λ (l : Constraint). textMatches T engine (nodeAt T (l .node)) v) (of-ranked T x (Holds T engine address ty key folded v) named (p .0))) (p .1)),
+              );
         }

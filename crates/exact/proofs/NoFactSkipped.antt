@@ -49,7 +49,7 @@ mutual
   whole-all T (v and vs) (f ∷ fs) h = (whole T v (typeAt T (f .type)) (h .0), whole-all T vs fs (h .1))
 
 -- a text by its test
-text-is : (node : Node) → isText node ≡ true → IsText node
+pub text-is : (node : Node) → isText node ≡ true → IsText node
 unfolding isText
 text-is (Node.Int bytes) e = absurd (true≢false (sym e))
 text-is (Node.Str x) e = absurd (true≢false (sym e))
@@ -80,13 +80,13 @@ module _ (T : Tables) (texts : Each (λ (k : Constraint). IsText (nodeAt T (k .n
   SameBound bound = (x : ℕ) → constBound bound x ≡ constBound (T .bindings) x
 
   -- the walk of one level
-  goes-level : (l : LevelEntry) (start : Lists) → isOwn (nodeAt T (l .node)) (keyType T l) (start .bindings) ≡ true → (engine : Engine) (key′ : Value) (folded : List ℕ)
+  pub goes-level : (l : LevelEntry) (start : Lists) → isOwn (nodeAt T (l .node)) (keyType T l) (start .bindings) ≡ true → (engine : Engine) (key′ : Value) (folded : List ℕ)
       → GoesKey T engine (l .address) (predicateAt T (l .predicate) .key) key′ folded texts (freshWalk start) (walkLevel T l start) (matches T engine l folded (start .bindings) key′)
   unfolding walkLevel matches keyType
   goes-level l start h engine key′ folded = goes-key T engine (l .address) (predicateAt T (l .predicate) .key) key′ folded texts (l .node) (freshWalk start) h
 
   -- what a level's walk leaves is clean
-  clean-walk : (l : LevelEntry) (start : Lists) → CleanLists (level T l start .left) → level T l start .mistyped ≡ false → Clean (walkLevel T l start)
+  pub clean-walk : (l : LevelEntry) (start : Lists) → CleanLists (level T l start .left) → level T l start .mistyped ≡ false → Clean (walkLevel T l start)
   unfolding level levelOf
   clean-walk l start c m = record { selects = c .selects; diagnostics = c .diagnostics; typed = m }
 
@@ -108,12 +108,12 @@ module _ (T : Tables) (texts : Each (λ (k : Constraint). IsText (nodeAt T (k .n
       → Grows T some-engine (typeAt T (predicateAt T (l .predicate) .key)) (Value.Fact 0) (freshWalk start) (walkLevel T l start)
   grows-level l start own = goes-level l start own some-engine (Value.Fact 0) [] .grows
 
-  next-same : (l : LevelEntry) (start : Lists) → isOwn (nodeAt T (l .node)) (keyType T l) (start .bindings) ≡ true → SameBound (start .bindings) → SameBound (level T l start .left .bindings)
+  pub next-same : (l : LevelEntry) (start : Lists) → isOwn (nodeAt T (l .node)) (keyType T l) (start .bindings) ≡ true → SameBound (start .bindings) → SameBound (level T l start .left .bindings)
   unfolding level levelOf
   next-same l start own same x = grows-level l start own .consts x ∙ same x
 
   -- what is clean at the end was clean before
-  clean-before : (start : Lists) (entries : List LevelEntry) → ownNodes T start entries ≡ true → Each (λ (l : Level). l .mistyped ≡ false) (levelsFrom T start entries)
+  pub clean-before : (start : Lists) (entries : List LevelEntry) → ownNodes T start entries ≡ true → Each (λ (l : Level). l .mistyped ≡ false) (levelsFrom T start entries)
       → CleanLists (leftBy start (levelsFrom T start entries)) → CleanLists start
   unfolding ownNodes levelsFrom leftBy
   clean-before start [] own typed clean = clean
@@ -123,11 +123,11 @@ module _ (T : Tables) (texts : Each (λ (k : Constraint). IsText (nodeAt T (k .n
       record { selects = c .selects; diagnostics = c .diagnostics }
 
   -- level k of a list that begins from `start`
-  begins : Lists → List Level → ℕ → Lists
+  unfoldable pub begins : Lists → List Level → ℕ → Lists
   begins start ls zero = start
   begins start ls (suc k) = levelAt T ls k .left
 
-  begins-next : (start : Lists) (l : Level) (ls : List Level) (k : ℕ) → begins start (l ∷ ls) (suc k) ≡ begins (l .left) ls k
+  pub begins-next : (start : Lists) (l : Level) (ls : List Level) (k : ℕ) → begins start (l ∷ ls) (suc k) ≡ begins (l .left) ls k
   unfolding begins levelAt
   begins-next start l ls zero = refl
   begins-next start l ls (suc k) = refl
@@ -153,7 +153,7 @@ module _ (T : Tables) (texts : Each (λ (k : Constraint). IsText (nodeAt T (k .n
       (sym (begins-next start (level T l start) (levelsFrom T (level T l start .left) ls) k))
       (every-level (level T l start .left) ls (next-same l start o same) rest typed clean k (le-of-suc-le-suc h) d)
 
-  begins-is : (ls : List Level) (k : ℕ) → begins (starting T) ls k ≡ startOf T ls k
+  pub begins-is : (ls : List Level) (k : ℕ) → begins (starting T) ls k ≡ startOf T ls k
   unfolding begins startOf
   begins-is ls zero = refl
   begins-is ls (suc k) = refl

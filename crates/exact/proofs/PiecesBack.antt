@@ -94,8 +94,11 @@ module _ (T : Tables) (facts : Facts T) (engine : Engine) (address : ℕ) (ty : 
     unfolding placeNarrowing narrowing partBytes says hasBytes
     comes-written n c t path k b w is o l e =
         comes-narrow T engine address ty key folded n path (narrowing k) w t _
-        (λ v r of z a at rd cs hd p. (w .lists .bindings, by v r of z a at cs
-        (part-back engine ty key n (SeekKeyPart.Bytes b) path (Narrowing.Bytes b) (built T w) (encode v ++ r) rd (subst (λ (x : Const). Passing engine ty key (placeNarrowing n path (narrowing x) (built T w))) is p))))
+        (λ v r of z a at rd cs hd p. (
+          w .lists .bindings,
+          by v r of z a at cs
+              (part-back engine ty key n (SeekKeyPart.Bytes b) path (Narrowing.Bytes b) (built T w) (encode v ++ r) rd (subst (λ (x : Const). Passing engine ty key (placeNarrowing n path (narrowing x) (built T w))) is p)),
+        ))
       where
         by : (v : Value) (r : List ℕ) → OfType T v (typeAt T t) → zeroFree v ≡ true → Apart r → valueAt ty key path ≡ some v → Consts T engine address ty key folded (w .lists .bindings)
             → Or ((built T w .building ≡ true) × Starts b (encode v ++ r)) (holds engine ty key path (Narrowing.Bytes b) ≡ true) → writtenMatches T engine address ty key folded matchBelow (nodeAt T c) t v path (w .lists .bindings) ≡ some (w .lists .bindings)
@@ -116,9 +119,9 @@ module _ (T : Tables) (facts : Facts T) (engine : Engine) (address : ℕ) (ty : 
           back = λ v r of z a at rd gv.
               let o = of-record T v (typeAt T t) fs of q in
               let s = each .back (o .0) r (o .2) (ap zeroFree (sym (o .1)) ∙ z) a
-                    (λ k. ap (λ i. valueAt ty key (then path i)) (omega arith) ∙ value-field ty key path k (o .0) (at ∙ ap some (o .1))) (fell-skip T engine address ty key folded w)
-                    (reached-skip T engine address ty key folded w (encode v ++ r) (encodeAll (o .0) ++ r) (w .lists .bindings) rd refl .ready)
-                    (given-second T engine address ty key folded w u _ (grows-skip T engine ty key w) gv) in
+              (λ k. ap (λ i. valueAt ty key (then path i)) (omega arith) ∙ value-field ty key path k (o .0) (at ∙ ap some (o .1))) (fell-skip T engine address ty key folded w)
+              (reached-skip T engine address ty key folded w (encode v ++ r) (encodeAll (o .0) ++ r) (w .lists .bindings) rd refl .ready)
+              (given-second T engine address ty key folded w u _ (grows-skip T engine ty key w) gv) in
               (s .0, ap (λ (x : Option Values). x whenSome λ vs. eachMatches matchBelow (then path) fields 0 fs vs (w .lists .bindings)) (fields-is v (o .0) (o .1)) ∙ s .1);
         }
 
@@ -229,7 +232,7 @@ module _ (T : Tables) (facts : Facts T) (engine : Engine) (address : ℕ) (ty : 
             let c = found v r of at (part-back engine ty key n (SeekKeyPart.Bytes (unionTag (alt .disc))) path (Narrowing.Tag (alt .disc)) (built T w) (encode v ++ r) rd (placed (first .passing))) in
             let rdu = ready-tag T engine address ty key folded texts n (alt .disc) path w (c .0) r (at ∙ ap some (c .1)) (subst (λ (y : Value). Ready engine ty key (built T w) (encode y ++ r)) (c .1) rd) in
             let s = comes (f .node) (alt .type) (payload path (alt .disc)) u below-it .back (c .0) (0 ∷ r) (c .2) (free v (c .0) (c .1) z) refl (value-payload ty key path (alt .disc) (c .0) (at ∙ ap some (c .1))) rdu
-                  (given-first T engine address ty key folded u u′ (emit (Event.closer n) u′) inner last (encode (c .0) ++ (0 ∷ r)) rdu (given-second T engine address ty key folded w u (emit (Event.closer n) u′) tagged gv)) in
+            (given-first T engine address ty key folded u u′ (emit (Event.closer n) u′) inner last (encode (c .0) ++ (0 ∷ r)) rdu (given-second T engine address ty key folded w u (emit (Event.closer n) u′) tagged gv)) in
             (s .0, matched-is v (c .0) (c .1) (s .0) (ap (λ (bound : List Binding). matchBelow (f .node) (alt .type) (c .0) (payload path (alt .disc)) bound) (sym (emit-bound T engine address ty key folded texts (Event.narrow n path (Narrowing.Tag (alt .disc))) w)) ∙ s .1))
 
     comes-only : (n : ℕ) (f : Option FieldPattern) (alts : List Alternative) (t : ℕ) (path : FieldPath) (w : Walk) → typeAt T t ≡ Ty.Union alts → t < suc limit

@@ -96,9 +96,9 @@ text-same (b ∷ s) (c ∷ w) r y h a e =
     ways (eqb c 0) (Split (b ∷ s) (c ∷ w) r y)
     (λ q. absurd (true≢false (sym (eq-eqb b 0 (heads b 0 ((escape s ++ term) ++ r) (255 ∷ ((escape w ++ term) ++ y)) (e′ ∙ ap (λ (l : List ℕ). (l ++ term) ++ y) (escape-zero c w q)))) ∙ z .0)))
     (λ q.
-      let e″ = e′ ∙ ap (λ (l : List ℕ). (l ++ term) ++ y) (escape-more c w q) in
-      let k = text-same s w r y (z .1) a (tails b c ((escape s ++ term) ++ r) ((escape w ++ term) ++ y) e″) in
-      record { front = λ i. heads b c ((escape s ++ term) ++ r) ((escape w ++ term) ++ y) e″ i ∷ k .front i; back = k .back })
+    let e″ = e′ ∙ ap (λ (l : List ℕ). (l ++ term) ++ y) (escape-more c w q) in
+    let k = text-same s w r y (z .1) a (tails b c ((escape s ++ term) ++ r) ((escape w ++ term) ++ y) e″) in
+    record { front = λ i. heads b c ((escape s ++ term) ++ r) ((escape w ++ term) ++ y) e″ i ∷ k .front i; back = k .back })
 
 -- a prefix of a text without zero bytes
 pub prefix-of : (x s r y : List ℕ) → noZero s ≡ true → Apart r → (escape s ++ term) ++ r ≡ escape x ++ y → begins x s ≡ true
@@ -114,8 +114,8 @@ prefix-of (c ∷ x) (b ∷ s) r y h a e =
     ways (eqb c 0) (both (eqb c b) (begins x s) ≡ true)
     (λ q. absurd (true≢false (sym (eq-eqb b 0 (heads b 0 ((escape s ++ term) ++ r) (255 ∷ (escape x ++ y)) (e′ ∙ ap (λ (l : List ℕ). l ++ y) (escape-zero c x q)))) ∙ z .0)))
     (λ q.
-      let e″ = e′ ∙ ap (λ (l : List ℕ). l ++ y) (escape-more c x q) in
-      both-true (eqb c b) (begins x s) (eq-eqb c b (sym (heads b c ((escape s ++ term) ++ r) (escape x ++ y) e″))) (prefix-of x s r y (z .1) a (tails b c ((escape s ++ term) ++ r) (escape x ++ y) e″)))
+    let e″ = e′ ∙ ap (λ (l : List ℕ). l ++ y) (escape-more c x q) in
+    both-true (eqb c b) (begins x s) (eq-eqb c b (sym (heads b c ((escape s ++ term) ++ r) (escape x ++ y) e″))) (prefix-of x s r y (z .1) a (tails b c ((escape s ++ term) ++ r) (escape x ++ y) e″)))
 
 int-length : (bytes : List ℕ) → length bytes ≡ 8 → length (encodeInt bytes) ≡ 9
 unfolding encodeInt
@@ -155,7 +155,7 @@ unis-same : (d c : ℕ) (s w r y : List ℕ) → (s ++ (0 ∷ r) ≡ w ++ (0 ∷
 unfolding encodeUnion
 unis-same d c s w r y h e =
     let t = tags-same d c (s ++ (0 ∷ r)) (w ++ (0 ∷ y))
-          (sym (append-assoc (unionTag d ++ s) term r ∙ append-assoc (unionTag d) s (0 ∷ r)) ∙ e ∙ append-assoc (unionTag c ++ w) term y ∙ append-assoc (unionTag c) w (0 ∷ y)) in
+    (sym (append-assoc (unionTag d ++ s) term r ∙ append-assoc (unionTag d) s (0 ∷ r)) ∙ e ∙ append-assoc (unionTag c ++ w) term y ∙ append-assoc (unionTag c) w (0 ∷ y)) in
     let k = h (t .back) in
     record { front = ap₂ (λ (a b : List ℕ). (a ++ b) ++ term) (t .front) (k .front); back = tails 0 0 r y (k .back) }
 

@@ -36,9 +36,15 @@ module _ (engine : Engine) (ty : Ty) (key : Value) where
   part-back n part path op b x r p =
       by-test (λ (b′ : SeekBuilder). Passing engine ty key b′ → Or ((b .building ≡ true) × Starts (partBytes engine part) x) (holds engine ty key path op ≡ true)) (b .building)
       (λ on q.
-        let s = q .starts in
-        left (on, (s .0, cancel (partsBytes engine (b .parts)) x (partBytes engine part ++ s .0)
-        (sym (r .ahead on) ∙ s .1 ∙ ap (λ (l : List ℕ). l ++ s .0) (parts-snoc engine (b .parts) (record { key = part; node = n })) ∙ append-assoc (partsBytes engine (b .parts)) (partBytes engine part) (s .0)))))
+      let s = q .starts in
+      left (
+        on,
+        (
+          s .0,
+          cancel (partsBytes engine (b .parts)) x (partBytes engine part ++ s .0)
+              (sym (r .ahead on) ∙ s .1 ∙ ap (λ (l : List ℕ). l ++ s .0) (parts-snoc engine (b .parts) (record { key = part; node = n })) ∙ append-assoc (partsBytes engine (b .parts)) (partBytes engine part) (s .0)),
+        ),
+      ))
       (λ off q. right (each-end (b .residuals) (record { path = path; op = op; node = n }) (q .residuals))) p
 
   pub prefix-back : (n : ℕ) (path : FieldPath) (prefix : List ℕ) (b : SeekBuilder) (x : List ℕ) → Ready engine ty key b x → Passing engine ty key (placePrefix n path prefix b)
@@ -47,8 +53,8 @@ module _ (engine : Engine) (ty : Ty) (key : Value) where
   prefix-back n path prefix b x r p =
       by-test (λ (b′ : SeekBuilder). Passing engine ty key b′ → Or (Starts prefix x) (holds engine ty key path (Narrowing.Prefix prefix) ≡ true)) (b .building)
       (λ on q.
-        let s = q .range (record { path = path; prefix = prefix; node = n }) refl in
-        left (s .0, cancel (partsBytes engine (b .parts)) x (prefix ++ s .0) (sym (r .ahead on) ∙ s .1 ∙ append-assoc (partsBytes engine (b .parts)) prefix (s .0))))
+      let s = q .range (record { path = path; prefix = prefix; node = n }) refl in
+      left (s .0, cancel (partsBytes engine (b .parts)) x (prefix ++ s .0) (sym (r .ahead on) ∙ s .1 ∙ append-assoc (partsBytes engine (b .parts)) prefix (s .0))))
       (λ off q. right (each-end (b .residuals) (record { path = path; op = Narrowing.Prefix prefix; node = n }) (q .residuals))) p
 
   pub fuzzy-back : (n : ℕ) (path : FieldPath) (x distance : ℕ) (anchor : Anchor) (b : SeekBuilder) → Passing engine ty key (placeFuzzy n path x distance anchor b) → holds engine ty key path (Narrowing.Fuzzy x distance anchor) ≡ true
@@ -79,7 +85,7 @@ module _ (engine : Engine) (ty : Ty) (key : Value) where
   bound-back T x t b v r w a on rd p =
       by-test (λ (b′ : SeekBuilder). Passing engine ty key (fall b′) → (above (foldFrom T x t 0 (T .comparisons) (b .edges) .lo) (encode v) ≡ true) × (under (foldFrom T x t 0 (T .comparisons) (b .edges) .hi) (encode v) ≡ true)) (b .building)
       (λ _ q.
-        within-edged (foldFrom T x t 0 (T .comparisons) (b .edges) .lo) (foldFrom T x t 0 (T .comparisons) (b .edges) .hi) (encode v)
-        (subst (Edged (foldFrom T x t 0 (T .comparisons) (b .edges) .lo) (foldFrom T x t 0 (T .comparisons) (b .edges) .hi))
-        (ap firstValue (ap (drop (length (partsBytes engine (b .parts)))) (rd .ahead on) ∙ drop-append-seam (partsBytes engine (b .parts)) (encode v ++ r)) ∙ first-value v r w a) (q .edges)))
+      within-edged (foldFrom T x t 0 (T .comparisons) (b .edges) .lo) (foldFrom T x t 0 (T .comparisons) (b .edges) .hi) (encode v)
+      (subst (Edged (foldFrom T x t 0 (T .comparisons) (b .edges) .lo) (foldFrom T x t 0 (T .comparisons) (b .edges) .hi))
+      (ap firstValue (ap (drop (length (partsBytes engine (b .parts)))) (rd .ahead on) ∙ drop-append-seam (partsBytes engine (b .parts)) (encode v ++ r)) ∙ first-value v r w a) (q .edges)))
       (λ off. absurd (true≢false (sym on ∙ off))) p

@@ -31,6 +31,11 @@ pub record NoFactSkipped (T : Tables) (k : ℕ) (engine : Engine) (key : Value) 
   pub kept : passes engine (keyTypeOf T k) (planned T k) key ≡ true
   pub bound : levelAt T (levels T) k .left .bindings ≡ after
 
+-- "a key with no zero byte in its texts and byte strings passes .. exactly when the matcher accepts it"
+pub record KeepsExactly (T : Tables) (k : ℕ) (engine : Engine) (key : Value) : Type 0 where
+  pub no-fact-skipped : (after : List Binding) → Matches T engine k key after → passes engine (keyTypeOf T k) (planned T k) key ≡ true
+  pub no-fact-added : passes engine (keyTypeOf T k) (planned T k) key ≡ true → (after : List Binding) × Matches T engine k key after
+
 unfoldable pub openClaims : Unit {0}
 unfolding planned keyTypeOf
 openClaims = tt
