@@ -32,3 +32,5 @@ pub mod PatternsBack
 pub mod FileFacts
 pub mod LevelBack
 pub mod Exact
+-- Worked keys.
+pub mod Rows

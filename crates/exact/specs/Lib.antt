@@ -5,3 +5,4 @@ pub mod Passes
 pub mod Matcher
 pub mod Conditions
 pub mod Claims
+pub mod Rows
