@@ -16,7 +16,7 @@ use Rattle.rules.specs.Demand1.{Byte}
 use Rattle.rules.proofs.Cases.{by-test, by-option, true≢false, some≢none, some-injective, bind-some, both-left, both-right, eqb-eq}
 use Rattle.rules.proofs.Each.{each-first, each-imply}
 use Rattle.rules.proofs.Keeps.{record-children, union-children}
-use Rattle.rules.proofs.Consts.{constBound}
+use Rattle.rules.specs.Constant.{constBound}
 use Rattle.exact.specs.Values.{Value, Values, _and_, encode, encodeAll, zeroFree, allZeroFree, OfType, OfTypes}
 use Rattle.exact.specs.Keys.{Engine, sameBytes, textOf, textPasses}
 use Rattle.exact.specs.Matcher.{Matching, slotOf, accept, eachMatches, fieldsOf, held, isInt, isBytes, recordMatches, alternativeMatches, unionMatches, recordAt, newName, writtenMatches, slotMatches, readMatches, nodeMatches, matchesBelow}

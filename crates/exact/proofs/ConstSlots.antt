@@ -17,7 +17,7 @@ use Rattle.rules.specs.Resolve.{Answer, Resolver, follow, _whenFound_, give, de
 use Rattle.rules.proofs.BottomUp.{extends, at-place}
 use Rattle.rules.proofs.Cases.{by-test, by-option, by-order, true≢false, some≢none, some-injective, bind-some}
 use Rattle.rules.proofs.Each.{each-passes, each-first}
-use Rattle.rules.proofs.Consts.{constBound}
+use Rattle.rules.specs.Constant.{constBound}
 use Rattle.exact.specs.Matcher.{quiet, slotOf}
 use Rattle.exact.proofs.Constants.{const-lookup, not-constant}
 use Rattle.exact.proofs.Accepts.{Facts}

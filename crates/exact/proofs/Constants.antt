@@ -14,7 +14,7 @@ use Rattle.rules.specs.Constant.{Const, bytesOnly, fieldPattern, alternativeOf,
 use Rattle.rules.specs.Resolve.{Resolver, give, resolveNode, resolveBelow, resolve}
 use Rattle.rules.proofs.BottomUp.{extends, at-place}
 use Rattle.rules.proofs.Cases.{by-test, by-option, by-order, true≢false, some≢none, some-injective, bind-some, eqb-eq}
-use Rattle.rules.proofs.Consts.{constBound}
+use Rattle.rules.specs.Constant.{constBound}
 use Rattle.exact.specs.Values.{Value, Values, _and_, encode, encodeAll}
 use Rattle.exact.specs.Keys.{Engine, sameBytes, textOf, textPasses}
 use Rattle.exact.specs.Matcher.{Matching, quiet, slotOf, accept, eachMatches, fieldsOf, held, isInt, isBytes, recordMatches, alternativeMatches, unionMatches, recordAt, newName, writtenMatches, slotMatches, readMatches, nodeMatches, matchesBelow}

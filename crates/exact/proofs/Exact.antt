@@ -24,14 +24,14 @@ use Rattle.exact.specs.Keys.{Engine}
 use Rattle.exact.specs.Passes.{passes}
 use Rattle.exact.specs.Matcher.{keyType, matches}
 use Rattle.exact.specs.Conditions.{isText, constraintsAreTexts, isOwn, ownNodes, HoldsValue, HoldsValues, Plain}
-use Rattle.exact.specs.Claims.{planned, keyTypeOf, Matches, NoFactSkipped, KeepsExactly}
+use Rattle.exact.specs.Claims.{planned, keyTypeOf, boundBefore, Matches, Passes, KeepsExactly}
 use Rattle.exact.proofs.Placing.{ready-new}
 use Rattle.exact.proofs.Steps.{Excludes}
 use Rattle.exact.proofs.Folding.{Has}
 use Rattle.exact.proofs.Grows.{Known}
 use Rattle.exact.proofs.Names.{IsText}
 use Rattle.exact.proofs.Planned.{held-parts, level-passed}
-use Rattle.exact.proofs.NoFactSkipped.{whole, text-is, CleanLists, SameBound, goes-level, clean-walk, next-same, clean-before, begins, begins-next, begins-is, no-fact-skipped}
+use Rattle.exact.proofs.NoFactSkipped.{whole, text-is, CleanLists, SameBound, goes-level, clean-walk, next-same, clean-before, begins, begins-next, begins-is, none-mistyped, no-fact-skipped}
 use Rattle.exact.proofs.Accepts.{Facts}
 use Rattle.exact.proofs.FileFacts.{file-facts}
 use Rattle.exact.proofs.Backward.{PartHeld, Some, Given}
@@ -92,21 +92,21 @@ module _ (T : Tables) (facts : Facts T) (S : Sound T) (texts : Each (λ (k : Con
       (sym (begins-next T texts start (level T l start) (levelsFrom T (level T l start .left) ls) k))
       (every-back (level T l start .left) ps (next-same T texts l start o same) rest typed clean k (le-of-suc-le-suc h) d)
 
-no-fact-added : (T : Tables) → Facts T → Plain T → (k : ℕ) → k < length (T .levels) → (engine : Engine) (key′ : Value) → HoldsValues T engine (planned T k .seek) → OfType T key′ (keyTypeOf T k) → zeroFree key′ ≡ true
-    → passes engine (keyTypeOf T k) (planned T k) key′ ≡ true → (after : List Binding) × Matches T engine k key′ after
-unfolding constraintsAreTexts keyTypeOf planned entryAt starting levels plan planOf
-no-fact-added T facts p k h engine key′ held of z q =
+adds-none : (T : Tables) → Facts T → Plain T → (k : ℕ) → k < length (T .levels) → (engine : Engine) (key′ : Value) → HoldsValues T engine (planned T k .seek) → OfType T key′ (keyTypeOf T k) → zeroFree key′ ≡ true
+    → Passes T (entryAt T k) (boundBefore T k) (planned T k) engine key′ → (after : List Binding) × Matches T (entryAt T k) (boundBefore T k) (planned T k) engine key′ after
+unfolding constraintsAreTexts keyTypeOf boundBefore planned entryAt starting levels plan planOf
+adds-none T facts p k h engine key′ held of z q =
     let S = sound T (passed-all T (p .accepted)) in
     let texts = each-imply (λ (c : Constraint) e. text-is (nodeAt T (c .node)) e) (each-passes (λ (c : Constraint). isText (nodeAt T (c .node))) (T .constraints) (p .texts)) in
     let clean : CleanLists (leftBy (starting T) (levels T)) = record { selects = p .no-selects; diagnostics = p .no-diagnostics } in
-    let claim = every-back T facts S texts (starting T) (S .levels) (λ x. refl) (p .own) (p .typed) clean k h (record { predicate = 0; node = 0; address = 0 }) in
+    let claim = every-back T facts S texts (starting T) (S .levels) (λ x. refl) (p .own) (none-mistyped (levels T) (p .typed)) clean k h (record { predicate = 0; node = 0; address = 0 }) in
     subst (λ (s : Lists). Claim T facts S texts (entryAt T k) s (levelAt T (levels T) k)) (begins-is T texts (levels T) k) claim engine key′ held of z q
 
 -- of every accepted file of bytes, every level of its whole list, every key, and whatever the engine holds
 pub keeps-exactly : (bytes : List ℕ) → Each Byte bytes → (T : Tables) → file bytes ≡ got T [] → Plain T → (k : ℕ) → k < length (T .levels) → (engine : Engine) → HoldsValues T engine (planned T k .seek)
-    → (key′ : Value) → OfType T key′ (keyTypeOf T k) → zeroFree key′ ≡ true → KeepsExactly T k engine key′
+    → (key′ : Value) → OfType T key′ (keyTypeOf T k) → zeroFree key′ ≡ true → KeepsExactly T (entryAt T k) (boundBefore T k) (planned T k) engine key′
 keeps-exactly bytes b T e p k h engine held key′ of z =
     record {
-      no-fact-skipped = λ after m. no-fact-skipped T p k h engine key′ of after m .kept;
-      no-fact-added = no-fact-added T (file-facts bytes b T e (p .accepted)) p k h engine key′ held of z;
+      no-fact-skipped = no-fact-skipped T p k h engine key′ of .kept;
+      no-fact-added = adds-none T (file-facts bytes b T e (p .accepted)) p k h engine key′ held of z;
     }

@@ -14,7 +14,7 @@ use Rattle.rules.specs.Constant.{Const, bytesOnly, lookup, constNode, constOf, 
 use Rattle.rules.specs.Placement.{RangeEdge, Edges, Compared, isVar, flipped, compared, Sided, sided, takeHi, takeLo, takeEdge, edge, foldFrom}
 use Rattle.rules.proofs.Cases.{by-test, by-option, true≢false, some≢none, some-injective, bind-some, eqb-eq}
 use Rattle.rules.proofs.Each.{each-append}
-use Rattle.rules.proofs.Consts.{constBound}
+use Rattle.rules.specs.Constant.{constBound}
 use Rattle.exact.specs.Values.{Value, encode}
 use Rattle.exact.specs.Keys.{ordered}
 use Rattle.exact.specs.Passes.{above, under}

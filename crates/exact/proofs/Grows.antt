@@ -16,7 +16,8 @@ use Rattle.rules.specs.Placement.{SeekKeyPart, Edges, SeekBuilder, new, withPar
 use Rattle.rules.proofs.Cases.{by-test}
 use Rattle.rules.proofs.Kept.{placeAll-append}
 use Rattle.rules.proofs.Lists.{onwards-one}
-use Rattle.rules.proofs.Consts.{SameConsts, constBound, const-snoc}
+use Rattle.rules.specs.Constant.{constBound}
+use Rattle.rules.proofs.Consts.{SameConsts, const-snoc}
 use Rattle.exact.specs.Values.{Value}
 use Rattle.exact.specs.Keys.{Engine}
 use Rattle.exact.proofs.Steps.{Steps, steps-same, steps-next, steps-fall, steps-narrowing, steps-closer, steps-bound}
@@ -69,7 +70,7 @@ lookup-last bs x slot =
     ap (λ (o : Option Binding). o whenSome λ c. some (c .slot))
     (last-more none (λ c. eqb (c .name) x) bs (record { name = x; slot = slot }) ∙ ap (λ (t : Bool). elim t as (λ _. Option Binding) [ true ↦ some (record { name = x; slot = slot }) | false ↦ lastOr none (λ c. eqb (c .name) x) bs ]) (eq-eqb x x refl))
 
-either-left : (a b : Bool) → either a b ≡ false → a ≡ false
+pub either-left : (a b : Bool) → either a b ≡ false → a ≡ false
 either-left true b e = e
 either-left false b e = refl
 

@@ -11,22 +11,22 @@ use Rattle.rules.specs.File.{Tables, Ty, Node, FieldTy, Binding, Constraint, Le
 use Rattle.rules.specs.Events.{Lists, Walk}
 use Rattle.rules.specs.Walk.{freshWalk, walkLevel, key}
 use Rattle.rules.specs.Placement.{new, placeAll}
-use Rattle.rules.specs.Levels.{Level, starting, levelOf, level, levelsFrom, levels, leftBy}
+use Rattle.rules.specs.Levels.{Level, starting, levelOf, level, levelsFrom, levels, leftBy, anyMistyped}
 use Rattle.rules.specs.Plan.{planLevel, planOf, plan}
 use Rattle.rules.specs.Demand3.{entryAt, levelAt, startOf}
 use Rattle.rules.proofs.Cases.{true≢false, both-left, both-right}
 use Rattle.rules.proofs.Each.{each-passes, each-imply}
-use Rattle.rules.proofs.Consts.{constBound}
+use Rattle.rules.specs.Constant.{constBound}
 use Rattle.exact.specs.Values.{Value, Values, _and_, OfType, OfTypes}
 use Rattle.exact.specs.Keys.{Engine, stored}
 use Rattle.exact.specs.Passes.{passes}
 use Rattle.exact.specs.Matcher.{keyMatches, keyType, matches}
 use Rattle.exact.specs.Conditions.{isText, constraintsAreTexts, isOwn, ownNodes, Plain}
-use Rattle.exact.specs.Claims.{planned, keyTypeOf, Matches, NoFactSkipped}
+use Rattle.exact.specs.Claims.{planned, keyTypeOf, boundBefore, Matches, Passes, NoFactSkipped}
 use Rattle.exact.proofs.Ends.{Whole, WholeAll}
 use Rattle.exact.proofs.Placing.{Ready, ready-new}
 use Rattle.exact.proofs.Quiet.{Clean}
-use Rattle.exact.proofs.Grows.{built, Grows}
+use Rattle.exact.proofs.Grows.{built, Grows, either-left, either-right}
 use Rattle.exact.proofs.Forward.{Reached}
 use Rattle.exact.proofs.Names.{IsText}
 use Rattle.exact.proofs.Level.{GoesKey, goes-key}
@@ -158,13 +158,22 @@ module _ (T : Tables) (texts : Each (λ (k : Constraint). IsText (nodeAt T (k .n
   begins-is ls zero = refl
   begins-is ls (suc k) = refl
 
--- of every level of the whole list, every engine and every key of the level's type
-pub no-fact-skipped : (T : Tables) → Plain T → (k : ℕ) → k < length (T .levels) → (engine : Engine) (key′ : Value) → OfType T key′ (keyTypeOf T k) → (after : List Binding) → Matches T engine k key′ after
-    → NoFactSkipped T k engine key′ after
-unfolding constraintsAreTexts keyTypeOf planned entryAt starting levels plan planOf
-no-fact-skipped T p k h engine key′ of after m =
+-- none of the levels was mistyped
+pub none-mistyped : (ls : List Level) → anyMistyped ls ≡ false → Each (λ (l : Level). l .mistyped ≡ false) ls
+unfolding anyMistyped
+none-mistyped [] e = done
+none-mistyped (l ∷ ls) e = more (either-left (l .mistyped) (anyMistyped ls) e) (none-mistyped ls (either-right (l .mistyped) (anyMistyped ls) e))
+
+-- of every level of the whole list, every engine and every key of the level's type: a key that the matcher accepts passes, and the names are bound as the level's
+-- walk binds them
+pub skips-none : (T : Tables) → Plain T → (k : ℕ) → k < length (T .levels) → (engine : Engine) (key′ : Value) → OfType T key′ (keyTypeOf T k) → (after : List Binding) → Matches T (entryAt T k) (boundBefore T k) (planned T k) engine key′ after
+    → Passes T (entryAt T k) (boundBefore T k) (planned T k) engine key′ × (levelAt T (levels T) k .left .bindings ≡ after)
+unfolding constraintsAreTexts keyTypeOf boundBefore planned entryAt starting levels plan planOf
+skips-none T p k h engine key′ of after m =
     let texts = each-imply (λ (c : Constraint) e. text-is (nodeAt T (c .node)) e) (each-passes (λ (c : Constraint). isText (nodeAt T (c .node))) (T .constraints) (p .texts)) in
     let clean : CleanLists (leftBy (starting T) (levels T)) = record { selects = p .no-selects; diagnostics = p .no-diagnostics } in
-    let claim = every-level T texts (starting T) (T .levels) (λ x. refl) (p .own) (p .typed) clean k h (record { predicate = 0; node = 0; address = 0 }) in
-    let r = subst (λ (s : Lists). Claim T texts (entryAt T k) s (levelAt T (levels T) k)) (begins-is T texts (levels T) k) claim engine key′ of after m in
-    record { kept = r .0; bound = r .1 }
+    let claim = every-level T texts (starting T) (T .levels) (λ x. refl) (p .own) (none-mistyped (levels T) (p .typed)) clean k h (record { predicate = 0; node = 0; address = 0 }) in
+    subst (λ (s : Lists). Claim T texts (entryAt T k) s (levelAt T (levels T) k)) (begins-is T texts (levels T) k) claim engine key′ of after m
+
+pub no-fact-skipped : (T : Tables) → Plain T → (k : ℕ) → k < length (T .levels) → (engine : Engine) (key′ : Value) → OfType T key′ (keyTypeOf T k) → NoFactSkipped T (entryAt T k) (boundBefore T k) (planned T k) engine key′
+no-fact-skipped T p k h engine key′ of = record { kept = λ after m. skips-none T p k h engine key′ of after m .0 }

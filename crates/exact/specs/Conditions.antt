@@ -9,7 +9,7 @@ use Rattle.rules.specs.File.{Tables, FieldTy, Ty, Node, Binding, LevelEntry, no
 use Rattle.rules.specs.Checks.{checks, fault}
 use Rattle.rules.specs.Constant.{lookup}
 use Rattle.rules.specs.Events.{Lists}
-use Rattle.rules.specs.Levels.{Level, level, levels, starting}
+use Rattle.rules.specs.Levels.{level, levels, starting, anyMistyped}
 use Rattle.rules.specs.Placement.{SeekKeyPart, Part, SeekKey}
 use Rattle.rules.specs.Plan.{plan}
 use Rattle.exact.specs.Values.{Value, encode, OfType}
@@ -68,10 +68,11 @@ unfoldable pub ownNodes : Tables → Lists → List LevelEntry → Bool
 ownNodes T start [] = true
 ownNodes T start (l ∷ ls) = both (isOwn (nodeAt T (l .node)) (keyType T l) (start .bindings)) (ownNodes T (level T l start .left) ls)
 
--- "an accepted file without diagnostics and selects". No level's walk brings a constant to a type that gives it no bytes: refusal 19.
+-- "an accepted file without diagnostics and selects": it passed the checks 8 to 14, and no level's walk brings a constant to a type that
+-- gives it no bytes, which is refusal 19
 pub record Plain (T : Tables) : Type 0 where
   pub accepted : fault checks T ≡ none
-  pub typed : Each (λ l. l .mistyped ≡ false) (levels T)
+  pub typed : anyMistyped (levels T) ≡ false
   pub no-diagnostics : plan T .diagnostics ≡ []
   pub no-selects : plan T .selects ≡ []
   pub texts : constraintsAreTexts T ≡ true

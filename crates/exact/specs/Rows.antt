@@ -13,14 +13,14 @@ use Rattle.rules.specs.Events.{openEvents}
 use Rattle.rules.specs.Resolve.{openResolve}
 use Rattle.rules.specs.Walk.{openWalk}
 use Rattle.rules.specs.Placement.{openPlacement}
-use Rattle.rules.specs.Levels.{levels, openLevels}
+use Rattle.rules.specs.Levels.{openLevels}
 use Rattle.rules.specs.Plan.{openPlan}
-use Rattle.rules.specs.Demand3.{entryAt, startOf, openDemand3}
+use Rattle.rules.specs.Demand3.{entryAt, openDemand3}
 use Rattle.exact.specs.Values.{Value, Values, _and_, encode, openValues}
 use Rattle.exact.specs.Keys.{Engine, begins, openKeys}
 use Rattle.exact.specs.Passes.{passes, openPasses}
 use Rattle.exact.specs.Matcher.{matches, openMatcher}
-use Rattle.exact.specs.Claims.{planned, keyTypeOf, openClaims}
+use Rattle.exact.specs.Claims.{planned, keyTypeOf, boundBefore, openClaims}
 
 -- texts: a, b, ab, none, and a zero byte
 abbrev pub a : List ℕ
@@ -88,7 +88,7 @@ keeps r = passes engine (keyTypeOf (r .file) 0) (planned (r .file) 0) (r .key)
 
 unfoldable pub accepts : Row → Bool
 accepts r =
-    isSome (matches (r .file) engine (entryAt (r .file) 0) (planned (r .file) 0 .folded) (startOf (r .file) (levels (r .file)) 0 .bindings) (r .key))
+    isSome (matches (r .file) engine (entryAt (r .file) 0) (planned (r .file) 0 .folded) (boundBefore (r .file) 0) (r .key))
 
 -- what a row claims: the two answers are as written
 unfoldable pub same : Bool → Bool → Bool
