@@ -32,5 +32,7 @@ pub mod PatternsBack
 pub mod FileFacts
 pub mod LevelBack
 pub mod Exact
+-- Of the exported function.
+pub mod Contract
 -- Worked keys.
 pub mod Rows

@@ -4,6 +4,7 @@ use mathlib.Core.List.{List, [], _∷_}
 use mathlib.Core.Option.{Option, none, some}
 use mathlib.Core.Path.{_≡_}
 use Prim.Native.Nat.{ℕ}
+use lib.ListN.{getD}
 use Rattle.rules.specs.Base.{Each, both, all}
 use Rattle.rules.specs.File.{Tables, FieldTy, Ty, Node, Binding, LevelEntry, nodeAt, recordTy}
 use Rattle.rules.specs.Checks.{checks, fault}
@@ -11,7 +12,8 @@ use Rattle.rules.specs.Constant.{lookup}
 use Rattle.rules.specs.Events.{Lists}
 use Rattle.rules.specs.Levels.{level, levels, starting, anyMistyped}
 use Rattle.rules.specs.Placement.{SeekKeyPart, Part, SeekKey}
-use Rattle.rules.specs.Plan.{plan}
+use Rattle.rules.specs.Plan.{PlanLevel, Plan, plan}
+use Rattle.rules.specs.Demand3.{Demand3}
 use Rattle.exact.specs.Values.{Value, encode, OfType}
 use Rattle.exact.specs.Keys.{Engine}
 use Rattle.exact.specs.Matcher.{keyType}
@@ -78,6 +80,20 @@ pub record Plain (T : Tables) : Type 0 where
   pub texts : constraintsAreTexts T ≡ true
   pub own : ownNodes T (starting T) (T .levels) ≡ true
 
+-- The same of a call that wrote a plan: `Demand3` is what the exported function's contract gives of the file's bytes and the plan's.
+pub record PlainPlan (bytes out : List ℕ) (d : Demand3 bytes out) : Type 0 where
+  pub typed : anyMistyped (d .levels) ≡ false
+  pub no-diagnostics : d .plan .diagnostics ≡ []
+  pub no-selects : d .plan .selects ≡ []
+  pub texts : constraintsAreTexts (d .tables) ≡ true
+  pub own : ownNodes (d .tables) (starting (d .tables)) (d .tables .levels) ≡ true
+
+-- level k of a plan; the last argument of `getD` is never met
+unfoldable pub planLevelAt : Plan → ℕ → PlanLevel
+planLevelAt p k =
+    getD (p .levels) k
+    (record { narrowings = 0; closers = 0; parts = 0; seek = SeekKey.Prefix [] []; guide = none; residuals = []; folded = [] })
+
 -- "for registers that hold an encoded value at every path read": of the parts that are read from registers, the encoding of a value of some
 -- type. Registers that residuals read may hold anything.
 abbrev pub HoldsValue : Tables → Engine → SeekKeyPart → Type 0
@@ -92,5 +108,5 @@ HoldsValues T engine (SeekKey.PrefixRange parts range) = Each (λ (p : Part). Ho
 HoldsValues T engine (SeekKey.Bounded parts lo hi) = Each (λ (p : Part). HoldsValue T engine (p .key)) parts
 
 unfoldable pub openConditions : Unit {0}
-unfolding isText constraintsAreTexts isNew isOwn ownNodes
+unfolding isText constraintsAreTexts isNew isOwn ownNodes planLevelAt
 openConditions = tt
