@@ -36,3 +36,4 @@ pub mod Exact
 pub mod Contract
 -- Worked keys.
 pub mod Rows
+pub mod Mistakes

@@ -6,3 +6,4 @@ pub mod Matcher
 pub mod Conditions
 pub mod Claims
 pub mod Rows
+pub mod Mistakes

@@ -1,0 +1,9 @@
+-- The planted mistakes show: with each of them the claim is false of a file and a key.
+use mathlib.Core.Bool.{true}
+use mathlib.Core.Path.{_≡_, refl}
+use Rattle.rules.specs.Base.{all}
+use Rattle.exact.specs.Mistakes.{shows, mistakes, openMistakes}
+
+pub mistakes-show : all shows mistakes ≡ true
+unfolding openMistakes
+mistakes-show = refl
