@@ -98,7 +98,8 @@ planLevelAt p k =
 -- type. Registers that residuals read may hold anything.
 abbrev pub HoldsValue : Tables → Engine → SeekKeyPart → Type 0
 HoldsValue T engine (SeekKeyPart.Bytes bytes) = Unit {0}
-HoldsValue T engine (SeekKeyPart.RegisterField address at) = (v : Value) × (ty : Ty) × OfType T v ty × (engine .fields address at ≡ encode v)
+HoldsValue T engine (SeekKeyPart.RegisterField address at) =
+    (v : Value) × (ty : Ty) × OfType T v ty × (engine .fields address at ≡ encode v)
 HoldsValue T engine (SeekKeyPart.RegisterFactId address) = Unit {0}
 
 abbrev pub HoldsValues : Tables → Engine → SeekKey → Type 0

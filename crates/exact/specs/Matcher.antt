@@ -1,5 +1,5 @@
--- "a plain matcher that reads a key of the level's type field by field against the pattern". It speaks of pattern, type and value, and gives
--- the bindings as they stand behind the pattern, or none where the pattern does not match.
+-- "a plain matcher that reads a key of the level's type field by field against the pattern". It speaks of pattern, type and value, and
+-- gives the bindings as they stand behind the pattern, or none where the pattern does not match.
 use mathlib.Core.Bool.{Bool, true, false}
 use mathlib.Core.List.{List, [], _∷_, _++_}
 use mathlib.Core.Option.{Option, none, some}
@@ -46,7 +46,8 @@ abbrev pub Matching : Type 0
 Matching = ℕ → ℕ → Value → FieldPath → List Binding → Option (List Binding)
 
 -- a record's fields in type order, each with the first pattern of its name; a field that the pattern does not name accepts
-unfoldable pub eachMatches : Matching → (ℕ → FieldPath) → List FieldPattern → ℕ → List FieldTy → Values → List Binding → Option (List Binding)
+unfoldable pub eachMatches : Matching → (ℕ → FieldPath) → List FieldPattern → ℕ → List FieldTy → Values → List Binding
+    → Option (List Binding)
 eachMatches match place fields i [] Values.no-more bound = some bound
 eachMatches match place fields i [] (v and vs) bound = none
 eachMatches match place fields i (f ∷ fs) Values.no-more bound = none

@@ -36,7 +36,8 @@ levelBy put T =
 unfoldable pub narrowLate : ℕ → FieldPath → Narrowing → SeekBuilder → SeekBuilder
 narrowLate n path (Narrowing.Bytes bytes) level = withPart (record { key = SeekKeyPart.Bytes bytes; node = n }) level
 narrowLate n path (Narrowing.Tag disc) level = withPart (record { key = SeekKeyPart.Bytes (unionTag disc); node = n }) level
-narrowLate n path (Narrowing.RegisterField address at) level = withPart (record { key = SeekKeyPart.RegisterField address at; node = n }) level
+narrowLate n path (Narrowing.RegisterField address at) level =
+    withPart (record { key = SeekKeyPart.RegisterField address at; node = n }) level
 narrowLate n path (Narrowing.FactId address) level = withPart (record { key = SeekKeyPart.RegisterFactId address; node = n }) level
 narrowLate n path (Narrowing.Prefix prefix) level = placeNarrowing n path (Narrowing.Prefix prefix) level
 narrowLate n path (Narrowing.Fuzzy x distance anchor) level = placeNarrowing n path (Narrowing.Fuzzy x distance anchor) level
@@ -112,8 +113,9 @@ adds put file key = record { put = put; file = file; key = key; kept = true; mat
 
 unfoldable pub shows : Shown → Bool
 shows s =
-    both (same (passes engine (keyTypeOf (s .file) 0) (levelBy (s .put) (s .file)) (s .key)) (s .kept))
-    (same (isSome (matches (s .file) engine (entryAt (s .file) 0) (levelBy (s .put) (s .file) .folded) (boundBefore (s .file) 0) (s .key))) (s .matched))
+    let l = levelBy (s .put) (s .file) in
+    both (same (passes engine (keyTypeOf (s .file) 0) l (s .key)) (s .kept))
+    (same (isSome (matches (s .file) engine (entryAt (s .file) 0) (l .folded) (boundBefore (s .file) 0) (s .key))) (s .matched))
 
 -- a record of a union and a text
 abbrev pub unionThenText : Tables
@@ -156,6 +158,6 @@ mistakes =
     loses prefixAsPart prefixThenText (pair ab a) ∷ []
 
 unfoldable pub openMistakes : Unit {0}
-unfolding openExact placedBy levelBy narrowLate partAfterTheFall closerForgotten skipKeepsBuilding takeLast foldLast lastComparison narrowPrefix
-    prefixAsPart shows
+unfolding openExact placedBy levelBy narrowLate partAfterTheFall closerForgotten skipKeepsBuilding takeLast foldLast lastComparison
+    narrowPrefix prefixAsPart shows
 openMistakes = tt

@@ -5,7 +5,7 @@ use mathlib.Core.List.{List, [], _∷_}
 use mathlib.Core.Option.{Option, none, some}
 use Prim.Native.Nat.{ℕ}
 use Rattle.rules.specs.Base.{both, openBase}
-use Rattle.rules.specs.File.{Tables, Ty, Node, Anchor, Slot, Binding, Constraint, Comparison, CompareOp, FieldTy, FieldPattern, fieldPath, openFile}
+use Rattle.rules.specs.File.{Tables, Ty, Node, Anchor, Slot, Binding, Constraint, Comparison, CompareOp, FieldPattern, openFile}
 use Rattle.rules.specs.Checks.{openChecks}
 use Rattle.rules.specs.Constant.{openConstant}
 use Rattle.rules.specs.Lookup.{openLookup}
@@ -35,13 +35,14 @@ ab = 97 ∷ 98 ∷ []
 abbrev pub zero-byte : List ℕ
 zero-byte = 0 ∷ []
 
--- types: Int, Str, a reference to predicate 0, a union of two alternatives over Str, a record of two Strs, a record of Int and each other kind
+-- types: Int, Str, a reference to predicate 0, a union of two alternatives over Str, a record of two Strs, a record of the first four
 abbrev pub types : List Ty
 types =
     Ty.Int ∷ Ty.Str ∷ Ty.Fact 0 ∷
     Ty.Union (record { name = 0; disc = 7; type = 1 } ∷ record { name = 1; disc = 8; type = 1 } ∷ []) ∷
     Ty.Record (record { name = 0; type = 1 } ∷ record { name = 1; type = 1 } ∷ []) ∷
-    Ty.Record (record { name = 0; type = 0 } ∷ record { name = 1; type = 1 } ∷ record { name = 2; type = 2 } ∷ record { name = 3; type = 3 } ∷ []) ∷
+    Ty.Record
+    (record { name = 0; type = 0 } ∷ record { name = 1; type = 1 } ∷ record { name = 2; type = 2 } ∷ record { name = 3; type = 3 } ∷ []) ∷
     []
 
 -- names 0 to 3 are a, b, ab and the empty text; names 4 and 5 are bound to field 0 of register 1 and to the row in register 1
@@ -132,12 +133,14 @@ guideFile = one 1 (Node.Fuzzy 0 1 Anchor.Whole ∷ []) 0 [] []
 -- a name with a prefix and a fuzzy for its constraints: a range with a guide
 abbrev pub bothFile : Tables
 bothFile =
-    one 1 (Node.Prefix 2 ∷ Node.Fuzzy 0 1 Anchor.Prefix ∷ Node.Var 6 ∷ []) 2 (record { name = 6; node = 0 } ∷ record { name = 6; node = 1 } ∷ []) []
+    one 1 (Node.Prefix 2 ∷ Node.Fuzzy 0 1 Anchor.Prefix ∷ Node.Var 6 ∷ []) 2
+    (record { name = 6; node = 0 } ∷ record { name = 6; node = 1 } ∷ []) []
 
 -- the first field at most the empty text: the edge is compared with the one value behind the parts, not with all that follows
 abbrev pub edgeFile : Tables
 edgeFile =
-    one 4 (Node.Var 6 ∷ Node.Str 3 ∷ Node.Var 6 ∷ Node.Record (field 0 2 ∷ []) ∷ []) 3 [] (record { op = CompareOp.Le; left = 0; right = 1 } ∷ [])
+    one 4 (Node.Var 6 ∷ Node.Str 3 ∷ Node.Var 6 ∷ Node.Record (field 0 2 ∷ []) ∷ []) 3 []
+    (record { op = CompareOp.Le; left = 0; right = 1 } ∷ [])
 
 abbrev pub ranges : List Row
 ranges =
@@ -160,7 +163,8 @@ twice = one 4 (Node.Var 6 ∷ Node.Var 6 ∷ Node.Record (field 0 0 ∷ field 1 
 abbrev pub key : List ℕ → ℕ → ℕ → Value
 key text fact disc =
     Value.Rec
-    (Value.Int (0 ∷ 0 ∷ 0 ∷ 0 ∷ 0 ∷ 0 ∷ 0 ∷ 0 ∷ []) and Value.Str text and Value.Fact fact and Value.Uni disc (Value.Str b) and Values.no-more)
+    (Value.Int (0 ∷ 0 ∷ 0 ∷ 0 ∷ 0 ∷ 0 ∷ 0 ∷ 0 ∷ []) and Value.Str text and Value.Fact fact and Value.Uni disc (Value.Str b) and
+    Values.no-more)
 
 abbrev pub pair : List ℕ → List ℕ → Value
 pair x y = Value.Rec (Value.Str x and Value.Str y and Values.no-more)
@@ -175,7 +179,8 @@ residuals =
     hit tagged (key a 9 7) ∷ miss tagged (key a 9 8) ∷
     hit twice (pair ab ab) ∷ miss twice (pair ab a) ∷ []
 
--- Why a key has no zero byte: the part of the empty text is 03 00, and the text of one zero byte is 03 00 ff 00. It passes and does not match.
+-- Why a key has no zero byte: the part of the empty text is 03 00, and the text of one zero byte is 03 00 ff 00. It passes and does not
+-- match.
 abbrev pub emptyFile : Tables
 emptyFile = one 1 (Node.Str 3 ∷ []) 0 [] []
 

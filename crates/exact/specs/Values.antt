@@ -68,8 +68,8 @@ unfoldable mutual
   allZeroFree Values.no-more = true
   allZeroFree (v and vs) = both (zeroFree v) (allZeroFree vs)
 
--- Values of a type. A union's value has the disc of one of its alternatives, and under it a value of that alternative's type; refusal 10 lets
--- no disc stand twice.
+-- Values of a type. A union's value has the disc of one of its alternatives, and under it a value of that alternative's type; refusal 10
+-- lets no disc stand twice.
 abbrev mutual
   pub OfType : Tables → Value → Ty → Type 0
   OfType T (Value.Int bytes) ty = (ty ≡ Ty.Int) × (length bytes ≡ 8) × Each Byte bytes
