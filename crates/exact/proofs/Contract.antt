@@ -6,7 +6,7 @@ use mathlib.Core.Path.{_≡_, refl, sym, ap, _∙_, subst}
 use Prim.Native.Nat.{ℕ, zero, suc, _<_}
 use native.Mathlib.Nat.{not-suc-le-zero, le-of-suc-le-suc}
 use native.Mathlib.Omega.{arith}
-use lib.ListN.{length, getD}
+use lib.ListN.{length, getD, take}
 use Rattle.rules.specs.Base.{Each}
 use Rattle.rules.specs.File.{Tables, Binding}
 use Rattle.rules.specs.Events.{Lists}
@@ -15,7 +15,9 @@ use Rattle.rules.specs.Levels.{Level, starting, levels, leftBy, anyMistyped}
 use Rattle.rules.specs.Plan.{PlanLevel, Plan, planLevel, planOf, plan}
 use Rattle.rules.specs.Demand1.{Byte}
 use Rattle.rules.specs.Demand3.{entryAt, levelAt, startOf, Demand3}
+use Rattle.rules.specs.Compile.{compile}
 use Rattle.rules.proofs.Sound.{sound, passed-all}
+use Rattle.rules.proofs.Demand3.{demand3}
 use Rattle.rules.proofs.Consts.{levels-now}
 use Rattle.exact.specs.Values.{Value, zeroFree, OfType}
 use Rattle.exact.specs.Keys.{Engine}
@@ -92,3 +94,17 @@ module _ (bytes out : List ℕ) (d : Demand3 bytes out) where
       subst (λ (l : PlanLevel). KeepsExactly T (entryAt T k) (startOf T (d .levels) k .bindings) l engine key′) (sym (level-is k h))
       (subst (λ (x : List Binding). KeepsExactly T (entryAt T k) x (planned T k) engine key′) (sym (bound-is k))
       (keeps-exactly bytes b T (d .reads) (plain p) k h engine (subst (λ (l : PlanLevel). HoldsValues T engine (l .seek)) (level-is k h) held) key′ of z))
+
+-- The call itself: where it returned a length, of the plan that stands in the buffer's front.
+module _ (bytes buffer work : List ℕ) (h : compile bytes buffer work .result < 65536) where
+  abbrev wrote : Demand3 bytes (take (compile bytes buffer work .result) (compile bytes buffer work .plan))
+  wrote = demand3 bytes buffer work h
+
+  pub call-skips-none : PlainPlan bytes _ wrote → (k : ℕ) → k < length (wrote .tables .levels) → (engine : Engine) (key′ : Value) → OfType (wrote .tables) key′ (keyTypeOf (wrote .tables) k)
+      → NoFactSkipped (wrote .tables) (entryAt (wrote .tables) k) (startOf (wrote .tables) (wrote .levels) k .bindings) (planLevelAt (wrote .plan) k) engine key′
+  call-skips-none = contract-skips-none bytes _ wrote
+
+  pub call-keeps-exactly : Each Byte bytes → PlainPlan bytes _ wrote → (k : ℕ) → k < length (wrote .tables .levels) → (engine : Engine) → HoldsValues (wrote .tables) engine (planLevelAt (wrote .plan) k .seek)
+      → (key′ : Value) → OfType (wrote .tables) key′ (keyTypeOf (wrote .tables) k) → zeroFree key′ ≡ true
+      → KeepsExactly (wrote .tables) (entryAt (wrote .tables) k) (startOf (wrote .tables) (wrote .levels) k .bindings) (planLevelAt (wrote .plan) k) engine key′
+  call-keeps-exactly = contract-keeps-exactly bytes _ wrote

@@ -2,8 +2,13 @@
 use mathlib.Core.Bool.{true}
 use mathlib.Core.Path.{_≡_, refl}
 use Rattle.rules.specs.Base.{all}
-use Rattle.exact.specs.Mistakes.{shows, mistakes, openMistakes}
+use Rattle.exact.specs.Rows.{isPlain}
+use Rattle.exact.specs.Mistakes.{shows, mistakes, shownFiles, openMistakes}
 
 pub mistakes-show : all shows mistakes ≡ true
 unfolding openMistakes
 mistakes-show = refl
+
+pub shown-files-plain : all isPlain shownFiles ≡ true
+unfolding openMistakes
+shown-files-plain = refl

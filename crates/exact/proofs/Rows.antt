@@ -2,7 +2,7 @@
 use mathlib.Core.Bool.{true}
 use mathlib.Core.Path.{_≡_, refl}
 use Rattle.rules.specs.Base.{all}
-use Rattle.exact.specs.Rows.{holds, parts, ranges, residuals, zeroBytes, openExact}
+use Rattle.exact.specs.Rows.{holds, parts, ranges, residuals, zeroBytes, files, isPlain, openExact}
 
 pub parts-hold : all holds parts ≡ true
 unfolding openExact
@@ -19,3 +19,7 @@ residuals-hold = refl
 pub zero-bytes-hold : all holds zeroBytes ≡ true
 unfolding openExact
 zero-bytes-hold = refl
+
+pub files-plain : all isPlain files ≡ true
+unfolding openExact
+files-plain = refl

@@ -120,7 +120,7 @@ shows s =
 -- a record of a union and a text
 abbrev pub unionThenText : Tables
 unionThenText =
-    let file = one 6 (Node.Var 4 ∷ Node.Record (field 0 0 ∷ []) ∷ Node.Str 0 ∷ Node.Record (field 0 1 ∷ field 1 2 ∷ []) ∷ []) 3 [] [] in
+    let file = one 7 (Node.Var 4 ∷ Node.Record (field 0 0 ∷ []) ∷ Node.Str 0 ∷ Node.Record (field 0 1 ∷ field 1 2 ∷ []) ∷ []) 3 [] [] in
     record {
       names = file .names;
       types = file .types ++ (Ty.Record (record { name = 0; type = 3 } ∷ record { name = 1; type = 1 } ∷ []) ∷ []);
@@ -156,6 +156,10 @@ mistakes =
     adds skipKeepsBuilding secondText (pair a b) ∷
     adds lastComparison twoComparisons (Value.Str b) ∷
     loses prefixAsPart prefixThenText (pair ab a) ∷ []
+
+-- these files meet the conditions of the claim
+abbrev pub shownFiles : List Tables
+shownFiles = secondText ∷ unionThenText ∷ twoComparisons ∷ prefixThenText ∷ []
 
 unfoldable pub openMistakes : Unit {0}
 unfolding openExact placedBy levelBy narrowLate partAfterTheFall closerForgotten skipKeepsBuilding takeLast foldLast lastComparison

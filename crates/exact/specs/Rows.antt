@@ -6,20 +6,21 @@ use mathlib.Core.Option.{Option, none, some}
 use Prim.Native.Nat.{ℕ}
 use Rattle.rules.specs.Base.{both, openBase}
 use Rattle.rules.specs.File.{Tables, Ty, Node, Anchor, Slot, Binding, Constraint, Comparison, CompareOp, FieldPattern, openFile}
-use Rattle.rules.specs.Checks.{openChecks}
+use Rattle.rules.specs.Checks.{checks, fault, openChecks}
 use Rattle.rules.specs.Constant.{openConstant}
 use Rattle.rules.specs.Lookup.{openLookup}
 use Rattle.rules.specs.Events.{openEvents}
 use Rattle.rules.specs.Resolve.{openResolve}
 use Rattle.rules.specs.Walk.{openWalk}
 use Rattle.rules.specs.Placement.{openPlacement}
-use Rattle.rules.specs.Levels.{openLevels}
-use Rattle.rules.specs.Plan.{openPlan}
+use Rattle.rules.specs.Levels.{levels, starting, anyMistyped, openLevels}
+use Rattle.rules.specs.Plan.{plan, openPlan}
 use Rattle.rules.specs.Demand3.{entryAt, openDemand3}
 use Rattle.exact.specs.Values.{Value, Values, _and_, encode, openValues}
 use Rattle.exact.specs.Keys.{Engine, begins, openKeys}
 use Rattle.exact.specs.Passes.{passes, openPasses}
 use Rattle.exact.specs.Matcher.{matches, openMatcher}
+use Rattle.exact.specs.Conditions.{constraintsAreTexts, ownNodes, openConditions}
 use Rattle.exact.specs.Claims.{planned, keyTypeOf, boundBefore, openClaims}
 
 -- texts: a, b, ab, none, and a zero byte
@@ -35,7 +36,8 @@ ab = 97 ∷ 98 ∷ []
 abbrev pub zero-byte : List ℕ
 zero-byte = 0 ∷ []
 
--- types: Int, Str, a reference to predicate 0, a union of two alternatives over Str, a record of two Strs, a record of the first four
+-- types: Int, Str, a reference to predicate 0, a union of two alternatives over Str, a record of two Strs, a record of the
+-- first four, a record of one Str
 abbrev pub types : List Ty
 types =
     Ty.Int ∷ Ty.Str ∷ Ty.Fact 0 ∷
@@ -43,7 +45,7 @@ types =
     Ty.Record (record { name = 0; type = 1 } ∷ record { name = 1; type = 1 } ∷ []) ∷
     Ty.Record
     (record { name = 0; type = 0 } ∷ record { name = 1; type = 1 } ∷ record { name = 2; type = 2 } ∷ record { name = 3; type = 3 } ∷ []) ∷
-    []
+    Ty.Record (record { name = 0; type = 1 } ∷ []) ∷ []
 
 -- names 0 to 3 are a, b, ab and the empty text; names 4 and 5 are bound to field 0 of register 1 and to the row in register 1
 abbrev pub bound : List Binding
@@ -68,6 +70,13 @@ one key nodes own constraints comparisons =
 
 abbrev pub field : ℕ → ℕ → FieldPattern
 field name node = record { name = name; node = node }
+
+-- a key of one text, and a pattern for it
+abbrev pub single : Node → Tables
+single node = one 6 (node ∷ Node.Record (field 0 0 ∷ []) ∷ []) 1 [] []
+
+abbrev pub text : List ℕ → Value
+text own = Value.Rec (Value.Str own and Values.no-more)
 
 -- every register holds the text a at every path, and the row of fact 9; a fuzzy text is near if it begins with a
 abbrev pub engine : Engine
@@ -109,7 +118,7 @@ miss file key = record { file = file; key = key; kept = false; matched = false }
 
 -- Parts: bytes; tag, register and closer; fact.
 abbrev pub textFile : Tables
-textFile = one 1 (Node.Str 0 ∷ []) 0 [] []
+textFile = single (Node.Str 0)
 
 abbrev pub unionFile : Tables
 unionFile = one 3 (Node.Var 4 ∷ Node.Record (field 0 0 ∷ []) ∷ []) 1 [] []
@@ -119,16 +128,16 @@ factFile = one 2 (Node.Var 5 ∷ []) 0 [] []
 
 abbrev pub parts : List Row
 parts =
-    hit textFile (Value.Str a) ∷ miss textFile (Value.Str ab) ∷
+    hit textFile (text a) ∷ miss textFile (text ab) ∷
     hit unionFile (Value.Uni 7 (Value.Str a)) ∷ miss unionFile (Value.Uni 8 (Value.Str a)) ∷ miss unionFile (Value.Uni 7 (Value.Str b)) ∷
     hit factFile (Value.Fact 9) ∷ miss factFile (Value.Fact 8) ∷ []
 
 -- Range, guide and edges.
 abbrev pub prefixFile : Tables
-prefixFile = one 1 (Node.Prefix 0 ∷ []) 0 [] []
+prefixFile = single (Node.Prefix 0)
 
 abbrev pub guideFile : Tables
-guideFile = one 1 (Node.Fuzzy 0 1 Anchor.Whole ∷ []) 0 [] []
+guideFile = single (Node.Fuzzy 0 1 Anchor.Whole)
 
 -- a name with a prefix and a fuzzy for its constraints: a range with a guide
 abbrev pub bothFile : Tables
@@ -144,8 +153,8 @@ edgeFile =
 
 abbrev pub ranges : List Row
 ranges =
-    hit prefixFile (Value.Str ab) ∷ miss prefixFile (Value.Str b) ∷
-    hit guideFile (Value.Str ab) ∷ miss guideFile (Value.Str b) ∷
+    hit prefixFile (text ab) ∷ miss prefixFile (text b) ∷
+    hit guideFile (text ab) ∷ miss guideFile (text b) ∷
     hit bothFile (Value.Str ab) ∷ miss bothFile (Value.Str a) ∷
     hit edgeFile (Value.Rec (Value.Str [] and Value.Str b and Values.no-more)) ∷
     miss edgeFile (Value.Rec (Value.Str a and Value.Str b and Values.no-more)) ∷ []
@@ -182,13 +191,30 @@ residuals =
 -- Why a key has no zero byte: the part of the empty text is 03 00, and the text of one zero byte is 03 00 ff 00. It passes and does not
 -- match.
 abbrev pub emptyFile : Tables
-emptyFile = one 1 (Node.Str 3 ∷ []) 0 [] []
+emptyFile = single (Node.Str 3)
 
 abbrev pub zeroBytes : List Row
-zeroBytes = hit emptyFile (Value.Str []) ∷ record { file = emptyFile; key = Value.Str zero-byte; kept = true; matched = false } ∷ []
+zeroBytes = hit emptyFile (text []) ∷ record { file = emptyFile; key = text zero-byte; kept = true; matched = false } ∷ []
+
+-- every file of these rows meets the conditions of the claim
+abbrev pub files : List Tables
+files =
+    textFile ∷ unionFile ∷ factFile ∷ prefixFile ∷ guideFile ∷ bothFile ∷ edgeFile ∷ after (Node.Str 0) 1 ∷ after (Node.Prefix 0) 1 ∷
+    after (Node.Fuzzy 0 1 Anchor.Whole) 1 ∷ after (Node.Var 4) 1 ∷ after (Node.Var 5) 2 ∷ tagged ∷ twice ∷ emptyFile ∷ []
+
+unfoldable pub isEmpty : {A : Type 0} → List A → Bool
+isEmpty [] = true
+isEmpty (x ∷ xs) = false
+
+unfoldable pub isPlain : Tables → Bool
+isPlain T =
+    both (same (isSome (fault checks T)) false)
+    (both (same (anyMistyped (levels T)) false)
+    (both (isEmpty (plan T .diagnostics))
+    (both (isEmpty (plan T .selects)) (both (constraintsAreTexts T) (ownNodes T (starting T) (T .levels))))))
 
 -- the rules, opened for computing
 unfoldable pub openExact : Unit {0}
 unfolding openBase openFile openChecks openConstant openLookup openEvents openResolve openWalk openPlacement openLevels openPlan openDemand3
-    openValues openKeys openPasses openMatcher openClaims isSome keeps accepts same holds
+    openValues openKeys openPasses openMatcher openClaims openConditions isSome keeps accepts same holds isEmpty isPlain
 openExact = tt
