@@ -3,6 +3,7 @@ pub mod Bytes
 pub mod Ends
 pub mod Unique
 pub mod Typed
+pub mod Orders
 -- Placement: what a level that is being built asks of a key, each placement forwards and backwards.
 pub mod Placing
 pub mod Folding

@@ -126,7 +126,7 @@ module _ (T : Tables) where
   of-union (Value.Uni disc v) ty alts h e = (disc, v, h .1, refl, ap (λ (as′ : List Alternative). first (λ a. eqb (a .disc) disc) as′) (sym (ap altsIn (sym (h .2) ∙ e))) ∙ h .3, h .4)
 
 -- an Int's bytes by its encoding
-each-reverse : (bytes : List ℕ) → Each Byte bytes → Each Byte (reverse bytes)
+pub each-reverse : (bytes : List ℕ) → Each Byte bytes → Each Byte (reverse bytes)
 each-reverse [] done = done
 each-reverse (b ∷ bs) (more h hs) = subst (Each Byte) (sym (reverse-cons b bs)) (each-snoc (each-reverse bs hs) h)
 

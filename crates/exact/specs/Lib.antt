@@ -6,6 +6,8 @@ pub mod Matcher
 -- What is claimed, and when.
 pub mod Conditions
 pub mod Claims
+-- The order that comparisons go by.
+pub mod Orders
 -- Worked keys, and mistakes with a key that shows each.
 pub mod Rows
 pub mod Mistakes
