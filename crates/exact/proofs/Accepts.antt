@@ -1,29 +1,29 @@
 -- Constants, the other way: where a value's bytes begin with a constant's, the matcher accepts it.
 use mathlib.Core.Bool.{Bool, true, false}
-use mathlib.Core.List.{List, [], _∷_, _++_, append-assoc, map}
+use mathlib.Core.List.{List, [], _∷_, _++_, append-assoc}
 use mathlib.Core.Option.{Option, none, some, Option·getD}
-use mathlib.Core.Path.{_≡_, refl, sym, ap, ap₂, _∙_, subst}
-use Prim.Native.Nat.{ℕ, zero, suc, _<_, _≤_, _/_, _%_}
+use mathlib.Core.Path.{_≡_, refl, sym, ap, _∙_, subst}
+use Prim.Native.Nat.{ℕ, zero, suc, _<_, _/_, _%_}
 use native.Mathlib.Nat.{not-suc-le-zero}
 use native.Mathlib.Omega.{arith}
 use borrow.Author.Tests.{eq-eqb}
 use lib.Dec.{eqb}
 use lib.ListN.{length}
-use Rattle.rules.specs.Base.{Each, done, more, _whenSome_, first}
+use Rattle.rules.specs.Base.{Each, more, _whenSome_, first}
 use Rattle.rules.specs.File.{Tables, FieldTy, Alternative, Ty, FieldPattern, Node, FieldPath, Slot, Binding, nameAt, typeAt, nodeAt, recordTy, unionTy, varName, then, payload, childTypes, isConstant}
-use Rattle.rules.specs.Constant.{Const, bytesOnly, fieldPattern, alternativeOf, onlyField, lookup, constNode, constOf, standsFor, atStr, encodeInt, encodeStr, encodeBytes, encodeRecord, encodeUnion, encodePrefix, escape, term, unionTag, bigEndian32, constantFields, constantRecord, constantNode, constantBelow, constant}
+use Rattle.rules.specs.Constant.{Const, bytesOnly, fieldPattern, alternativeOf, onlyField, lookup, standsFor, atStr, encodeInt, encodeStr, encodeBytes, encodeRecord, encodeUnion, encodePrefix, term, unionTag, bigEndian32, constantFields, constantRecord, constantNode, constantBelow, constant}
 use Rattle.rules.specs.Demand1.{Byte}
-use Rattle.rules.proofs.Cases.{by-test, by-option, true≢false, some≢none, some-injective, bind-some, both-left, both-right, eqb-eq}
+use Rattle.rules.proofs.Cases.{by-test, true≢false, some≢none, some-injective, bind-some, both-left, both-right, eqb-eq}
 use Rattle.rules.proofs.Each.{each-first, each-imply}
 use Rattle.rules.proofs.Keeps.{record-children, union-children}
 use Rattle.rules.specs.Constant.{constBound}
 use Rattle.exact.specs.Values.{Value, Values, _and_, encode, encodeAll, zeroFree, allZeroFree, OfType, OfTypes}
 use Rattle.exact.specs.Keys.{Engine, sameBytes, textOf, textPasses}
-use Rattle.exact.specs.Matcher.{Matching, slotOf, accept, eachMatches, fieldsOf, held, isInt, isBytes, recordMatches, alternativeMatches, unionMatches, recordAt, newName, writtenMatches, slotMatches, readMatches, nodeMatches, matchesBelow}
+use Rattle.exact.specs.Matcher.{slotOf, accept, eachMatches, fieldsOf, held, isInt, isBytes, recordMatches, alternativeMatches, unionMatches, recordAt, newName, writtenMatches, slotMatches, readMatches, nodeMatches, matchesBelow}
 use Rattle.exact.proofs.Bytes.{Starts, starts-less, same-refl}
 use Rattle.exact.proofs.Ends.{Apart, apart-all}
 use Rattle.exact.proofs.Constants.{Consts, below, only-bytes, const-bytes, IsBytes, at-int, at-str, at-bytes, constant-of, const-lookup, slot-of-var, node-stands, var-stands, constant-bytes}
-use Rattle.exact.proofs.Unique.{Split, heads, tails, cancel, text-same, ints-same, tags-same}
+use Rattle.exact.proofs.Unique.{heads, tails, cancel, text-same, ints-same, tags-same}
 use Rattle.exact.proofs.Typed.{int-type, str-type, bytes-type, of-int, of-str, of-bytes, of-record, of-union, int-same}
 
 -- what the reading and the checks of an accepted file give

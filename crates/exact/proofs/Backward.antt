@@ -1,35 +1,34 @@
 -- What passes matches, piece by piece: where a key passes after the events of a piece of the walk, the matcher accepts what that piece reads. The key has no zero
 -- byte in its texts, and the registers that became parts hold encoded values.
-use mathlib.Core.Bool.{Bool, true, false}
-use mathlib.Core.List.{List, [], _∷_, _++_, append-assoc, append-nil}
+use mathlib.Core.Bool.{true, false}
+use mathlib.Core.List.{List, [], _∷_, _++_, append-assoc}
 use mathlib.Core.Option.{Option, none, some}
 use mathlib.Core.Path.{_≡_, refl, sym, ap, _∙_, subst}
 use Prim.Native.Nat.{ℕ, zero, suc, _+_, _<_}
 use native.Mathlib.Omega.{arith}
-use lib.Dec.{eqb}
-use Rattle.rules.specs.Base.{Each, done, more, both, _whenSome_}
-use Rattle.rules.specs.File.{Tables, FieldTy, Ty, FieldPattern, FieldPath, Slot, Binding, Constraint, typeAt, nodeAt}
-use Rattle.rules.specs.Constant.{Const, fieldPattern}
-use Rattle.rules.specs.Events.{Code, Narrowing, Event, Walk, walkOps, report, emit}
+use Rattle.rules.specs.Base.{Each, done, more, _whenSome_}
+use Rattle.rules.specs.File.{Tables, FieldTy, Ty, FieldPattern, FieldPath, Binding, typeAt}
+use Rattle.rules.specs.Constant.{fieldPattern}
+use Rattle.rules.specs.Events.{Code, Narrowing, Event, Walk, report, emit}
 use Rattle.rules.specs.Walk.{narrowing, FieldWalk, eachField}
 use Rattle.rules.specs.Placement.{SeekKeyPart, Part, SeekBuilder, withPart, placePart, placeNarrowing, place, placeAll, new}
-use Rattle.rules.proofs.Cases.{by-test, true≢false, some≢none, some-injective, both-left, both-right}
+use Rattle.rules.proofs.Cases.{by-test, true≢false, both-left, both-right}
 use Rattle.rules.proofs.Lists.{Onwards}
 use Rattle.exact.specs.Values.{Value, Values, _and_, encode, encodeAll, encodeFact, zeroFree, allZeroFree, OfType, OfTypes}
 use Rattle.exact.specs.Keys.{Engine, nth, valueAt, sameBytes, sameAs, hasBytes, says, holds}
 use Rattle.exact.specs.Passes.{partBytes}
 use Rattle.exact.specs.Matcher.{Matching, accept, eachMatches}
-use Rattle.exact.proofs.Bytes.{Starts, same-eq, eq-same}
+use Rattle.exact.proofs.Bytes.{Starts, eq-same}
 use Rattle.exact.proofs.Ends.{Apart, Whole, apart-all}
 use Rattle.exact.proofs.Placing.{Passing, Ready}
 use Rattle.exact.proofs.Quiet.{Clean}
-use Rattle.exact.proofs.Unique.{Split, value-same}
+use Rattle.exact.proofs.Unique.{value-same}
 use Rattle.exact.proofs.Unplaced.{each-end, Or, left, right, part-back, own-back, held-says}
-use Rattle.exact.proofs.Grows.{built, built-emit, dirty, Known, Grows, grows-next}
+use Rattle.exact.proofs.Grows.{built, built-emit, dirty, Known, Grows}
 use Rattle.exact.proofs.Constants.{Consts}
-use Rattle.exact.proofs.Accepts.{Facts, accept-true}
+use Rattle.exact.proofs.Accepts.{accept-true}
 use Rattle.exact.proofs.NoFactSkipped.{whole}
-use Rattle.exact.proofs.Forward.{Final, final-back, Reached, Walks, GoesAll, Missing, first-walk, first-match, first-grows, first-live, first-walk-is, first-match-is, goes-each}
+use Rattle.exact.proofs.Forward.{Final, final-back, Reached, Walks, Missing, first-walk, first-match, first-grows, first-live, first-walk-is, first-match-is, goes-each}
 
 -- "registers that hold an encoded value at every path read": of a register that became a part
 abbrev pub PartHeld : Engine → SeekKeyPart → Type 0

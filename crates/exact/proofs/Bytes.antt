@@ -1,14 +1,13 @@
 -- Byte strings: the same, and beginning with another.
-use mathlib.Core.Bool.{Bool, true, false}
-use mathlib.Core.List.{List, [], _∷_, _++_, append-nil, append-assoc}
+use mathlib.Core.Bool.{true, false}
+use mathlib.Core.List.{List, [], _∷_, _++_, append-assoc}
 use mathlib.Core.Path.{_≡_, refl, sym, ap, _∙_, subst}
 use Prim.Native.Nat.{ℕ}
 use borrow.Author.Tests.{eq-eqb}
 use lib.Dec.{eqb}
-use Rattle.rules.specs.Base.{both}
 use Rattle.rules.specs.Lookup.{sameSteps}
 use Rattle.rules.specs.Constant.{escape, encodePrefix, encodeStr, term}
-use Rattle.rules.proofs.Cases.{by-test, true≢false, eqb-eq, both-left, both-right, both-true}
+use Rattle.rules.proofs.Cases.{true≢false, eqb-eq, both-left, both-right, both-true}
 use Rattle.exact.specs.Keys.{sameBytes, begins}
 
 -- one list begins with another

@@ -1,18 +1,18 @@
 -- A Const slot that a pattern stands for is a constant of the file.
 use mathlib.Core.Bool.{Bool, true, false}
-use mathlib.Core.List.{List, [], _∷_, _++_}
+use mathlib.Core.List.{List, []}
 use mathlib.Core.Option.{Option, none, some}
 use mathlib.Core.Path.{_≡_, refl, sym, ap, _∙_, subst}
-use Prim.Native.Nat.{ℕ, zero, suc, _<_, _≤_}
+use Prim.Native.Nat.{ℕ, zero, suc, _<_}
 use native.Mathlib.Nat.{zero-add}
 use native.Mathlib.Omega.{arith}
 use lib.ListN.{length, getD, take, length-take, List·getD-eq-default}
 use lib.Seq.{getD-take}
 use lib.Dec.{eqb}
-use Rattle.rules.specs.Base.{Each, all, first, _whenSome_, bottomUp}
+use Rattle.rules.specs.Base.{first, _whenSome_}
 use Rattle.rules.specs.File.{Tables, Alternative, FieldPattern, Node, FieldPath, Slot, Binding, typeAt, nodeAt, factTy, unionTy, recordFields, varName, constantOf, constants, isConstant}
-use Rattle.rules.specs.Constant.{Const, constant, alternativeOf, fieldPattern, lookup, constNode, constantNode, constantBelow}
-use Rattle.rules.specs.Lookup.{FieldAt, fetchedRegister, fieldOf, slotAt, rowField, rowValue, foldedField, foldedSlot, hoistedSlot}
+use Rattle.rules.specs.Constant.{Const, constant, alternativeOf, fieldPattern, lookup, constNode}
+use Rattle.rules.specs.Lookup.{FieldAt, fetchedRegister, slotAt, rowField, rowValue, foldedField, foldedSlot, hoistedSlot}
 use Rattle.rules.specs.Resolve.{Answer, Resolver, follow, _whenFound_, give, declined, fetchedRow, dereference, fieldOfRow, fieldSlot, valueSlot, selected, selectSlot, resolveNode, resolveBelow, resolve}
 use Rattle.rules.proofs.BottomUp.{extends, at-place}
 use Rattle.rules.proofs.Cases.{by-test, by-option, by-order, true≢false, some≢none, some-injective, bind-some}

@@ -7,13 +7,13 @@ use Prim.Native.Nat.{ℕ, zero, suc, _<_, _≤_}
 use native.Mathlib.Nat.{zero-add, not-suc-le-zero}
 use native.Mathlib.Omega.{arith}
 use lib.Dec.{eqb}
-use lib.ListN.{length, getD, take, List·getD-eq-default}
+use lib.ListN.{length, take, List·getD-eq-default}
 use Rattle.rules.specs.Base.{_whenSome_, bottomUp}
 use Rattle.rules.specs.File.{Tables, FieldTy, Alternative, Ty, Anchor, FieldPattern, Node, FieldPath, Slot, Binding, nameAt, typeAt, nodeAt, varName, then, payload, constantOf, constants, isConstant}
 use Rattle.rules.specs.Constant.{Const, bytesOnly, fieldPattern, alternativeOf, onlyField, lookup, constNode, constOf, standsFor, atInt, atStr, atBytes, encodeInt, encodeStr, encodeBytes, encodeRecord, encodeUnion, constantFields, constantRecord, constantNode, constantBelow, constant, encodePrefix}
 use Rattle.rules.specs.Resolve.{Resolver, give, resolveNode, resolveBelow, resolve}
 use Rattle.rules.proofs.BottomUp.{extends, at-place}
-use Rattle.rules.proofs.Cases.{by-test, by-option, by-order, true≢false, some≢none, some-injective, bind-some, eqb-eq}
+use Rattle.rules.proofs.Cases.{by-test, by-order, true≢false, some≢none, some-injective, bind-some, eqb-eq}
 use Rattle.rules.specs.Constant.{constBound}
 use Rattle.exact.specs.Values.{Value, Values, _and_, encode, encodeAll}
 use Rattle.exact.specs.Keys.{Engine, sameBytes, textOf, textPasses}

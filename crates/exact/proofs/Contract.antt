@@ -1,7 +1,7 @@
 -- From the exported function's contract: of a call that wrote a plan, every level of that plan.
 use mathlib.Core.Bool.{true, false}
 use mathlib.Core.List.{List, [], _∷_, map}
-use mathlib.Core.Option.{Option, none}
+use mathlib.Core.Option.{none}
 use mathlib.Core.Path.{_≡_, refl, sym, ap, _∙_, subst}
 use Prim.Native.Nat.{ℕ, zero, suc, _<_}
 use native.Mathlib.Nat.{not-suc-le-zero, le-of-suc-le-suc}
@@ -12,7 +12,7 @@ use Rattle.rules.specs.File.{Tables, Binding}
 use Rattle.rules.specs.Events.{Lists}
 use Rattle.rules.specs.Placement.{SeekKey, new}
 use Rattle.rules.specs.Levels.{Level, starting, levels, leftBy, anyMistyped}
-use Rattle.rules.specs.Plan.{PlanLevel, Plan, planLevel, planOf, plan}
+use Rattle.rules.specs.Plan.{PlanLevel, planLevel, planOf, plan}
 use Rattle.rules.specs.Demand1.{Byte}
 use Rattle.rules.specs.Demand3.{entryAt, levelAt, startOf, Demand3}
 use Rattle.rules.specs.Compile.{compile}

@@ -1,11 +1,10 @@
 -- Where a value's bytes end: `firstValue` finds the value that stands first, whatever follows it but FF.
 use mathlib.Core.Bool.{Bool, true, false}
 use mathlib.Core.List.{List, [], _∷_, _++_, append-assoc, reverse}
-use mathlib.Core.Option.{Option, none, some}
+use mathlib.Core.Option.{Option, some}
 use mathlib.Core.Path.{_≡_, refl, sym, ap, _∙_, subst}
-use Prim.Native.Nat.{ℕ, zero, suc, _+_, _-_, _≤_, _%_}
+use Prim.Native.Nat.{ℕ, suc, _+_, _-_, _≤_}
 use native.Mathlib.Omega.{arith}
-use native.Mathlib.Nat.{add-assoc}
 use lib.ListN.{length, take, drop, length-append, length-reverse}
 use lib.Seq.{take-append-seam, drop-append-seam}
 use lib.Dec.{eqb}

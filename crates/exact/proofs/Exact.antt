@@ -1,21 +1,21 @@
 -- "The level keeps exactly the keys that match", of every level of an accepted file that meets the conditions.
-use mathlib.Core.Bool.{Bool, true, false}
-use mathlib.Core.List.{List, [], _∷_}
-use mathlib.Core.Option.{Option, none, some}
-use mathlib.Core.Path.{_≡_, refl, sym, ap, _∙_, subst}
+use mathlib.Core.Bool.{true, false}
+use mathlib.Core.List.{List, []}
+use mathlib.Core.Option.{none, some}
+use mathlib.Core.Path.{_≡_, refl, sym, subst}
 use Prim.Native.Nat.{ℕ, zero, suc, _<_}
 use native.Mathlib.Nat.{not-suc-le-zero, le-of-suc-le-suc}
 use lib.ListN.{length, getD}
 use Rattle.rules.specs.Base.{Each, done, more, first}
-use Rattle.rules.specs.File.{Tables, Ty, Binding, Constraint, LevelEntry, typeAt, nodeAt, predicateAt}
+use Rattle.rules.specs.File.{Tables, Binding, Constraint, LevelEntry, typeAt, nodeAt, predicateAt}
 use Rattle.rules.specs.Read.{got, file}
-use Rattle.rules.specs.Events.{Lists, Walk}
+use Rattle.rules.specs.Events.{Lists}
 use Rattle.rules.specs.Walk.{freshWalk, walkLevel}
 use Rattle.rules.specs.Placement.{SeekKeyPart, Part, SeekBuilder, new, placeAll, seekKey}
 use Rattle.rules.specs.Levels.{Level, starting, levelOf, level, levelsFrom, levels, leftBy}
 use Rattle.rules.specs.Plan.{planLevel, planOf, plan}
 use Rattle.rules.specs.Demand1.{Byte}
-use Rattle.rules.specs.Demand3.{entryAt, levelAt, startOf}
+use Rattle.rules.specs.Demand3.{entryAt, levelAt}
 use Rattle.rules.proofs.Cases.{some≢none, both-left, both-right}
 use Rattle.rules.proofs.Each.{each-passes, each-imply}
 use Rattle.rules.proofs.Sound.{Sound, sound, passed-all}
@@ -27,15 +27,14 @@ use Rattle.exact.specs.Conditions.{isText, constraintsAreTexts, isOwn, o
 use Rattle.exact.specs.Claims.{planned, keyTypeOf, boundBefore, Matches, Passes, KeepsExactly}
 use Rattle.exact.proofs.Placing.{ready-new}
 use Rattle.exact.proofs.Steps.{Excludes}
-use Rattle.exact.proofs.Folding.{Has}
 use Rattle.exact.proofs.Grows.{Known}
 use Rattle.exact.proofs.Names.{IsText}
 use Rattle.exact.proofs.Planned.{held-parts, level-passed}
 use Rattle.exact.proofs.NoFactSkipped.{whole, text-is, CleanLists, SameBound, goes-level, clean-walk, next-same, clean-before, begins, begins-next, begins-is, none-mistyped, no-fact-skipped}
 use Rattle.exact.proofs.Accepts.{Facts}
 use Rattle.exact.proofs.FileFacts.{file-facts}
-use Rattle.exact.proofs.Backward.{PartHeld, Some, Given}
-use Rattle.exact.proofs.LevelBack.{ComesKey, comes-key}
+use Rattle.exact.proofs.Backward.{PartHeld, Some}
+use Rattle.exact.proofs.LevelBack.{comes-key}
 
 part-held : (T : Tables) (engine : Engine) (k : SeekKeyPart) → HoldsValue T engine k → PartHeld engine k
 part-held T engine (SeekKeyPart.Bytes bytes) h = tt

@@ -6,15 +6,15 @@ use mathlib.Core.Path.{_≡_, refl, sym, ap, _∙_, subst}
 use Prim.Native.Nat.{ℕ, _<_, _≤_}
 use lib.ListN.{length, getD, List·getD-eq-default}
 use lib.Dec.{eqb}
-use Rattle.rules.specs.Base.{Each, done, more, both, all, first, distinct, lastOr, _whenSome_}
+use Rattle.rules.specs.Base.{Each, done, first, distinct, lastOr}
 use Rattle.rules.specs.File.{Tables, Alternative, Ty, Node, Slot, Binding, typeAt, nodeAt, childTypes, isConstant}
 use Rattle.rules.specs.Read.{got, file}
 use Rattle.rules.specs.Checks.{typeDistinct, typesDistinct, slotConstant, constsConstant, checks, fault}
 use Rattle.rules.specs.Constant.{alternativeOf, lookup}
 use Rattle.rules.specs.Demand1.{Byte}
 use Rattle.rules.proofs.Cases.{by-test, by-order, true≢false, some≢none, some-injective, bind-some, both-right, eqb-eq}
-use Rattle.rules.proofs.Each.{each-passes, each-imply, each-at, each-getD, each-last}
-use Rattle.rules.proofs.Sound.{Passed, passed-all, Sound, sound, Child}
+use Rattle.rules.proofs.Each.{each-passes, each-imply, each-getD, each-last}
+use Rattle.rules.proofs.Sound.{Passed, passed-all, Sound, sound}
 use Rattle.rules.proofs.Numbers.{TypeNumbers, NodeNumbers, Bounded, bounded}
 use Rattle.exact.proofs.Accepts.{Facts}
 use borrow.Author.Tests.{eq-eqb}

@@ -4,16 +4,14 @@ use mathlib.Core.List.{List, [], _∷_, _++_}
 use mathlib.Core.Option.{Option, none, some, Option·getD}
 use mathlib.Core.Path.{_≡_, refl, sym, ap, _∙_, subst}
 use Prim.Native.Nat.{ℕ, zero, suc, _+_, _<_, _≤_}
-use native.Mathlib.Nat.{not-suc-le-zero, le-of-suc-le-suc}
 use native.Mathlib.Omega.{arith}
 use lib.ListN.{length, getD}
 use lib.Dec.{eqb}
-use Rattle.rules.specs.Base.{Each, done, more, allFrom, first, _whenSome_, lastOr}
+use Rattle.rules.specs.Base.{allFrom, first, _whenSome_}
 use Rattle.rules.specs.File.{Tables, Node, CompareOp, Comparison, Slot, Binding, nodeAt, varName, typeAt}
 use Rattle.rules.specs.Constant.{Const, bytesOnly, lookup, constNode, constOf, standsFor, constantNode, constantBelow, constant}
 use Rattle.rules.specs.Placement.{RangeEdge, Edges, Compared, isVar, flipped, compared, Sided, sided, takeHi, takeLo, takeEdge, edge, foldFrom}
 use Rattle.rules.proofs.Cases.{by-test, by-option, true≢false, some≢none, some-injective, bind-some, eqb-eq}
-use Rattle.rules.proofs.Each.{each-append}
 use Rattle.rules.specs.Constant.{constBound}
 use Rattle.exact.specs.Values.{Value, encode}
 use Rattle.exact.specs.Keys.{ordered}

@@ -1,6 +1,6 @@
 -- The comparisons that a level folds: where they hold of a value, its bytes are within the edges.
 use mathlib.Core.Bool.{Bool, true, false}
-use mathlib.Core.List.{List, [], _∷_, _++_, append-nil, append-assoc}
+use mathlib.Core.List.{List, [], _∷_, _++_}
 use mathlib.Core.Option.{Option, none, some}
 use mathlib.Core.Path.{_≡_, refl, sym, ap, _∙_, subst}
 use Prim.Native.Nat.{ℕ, suc}
@@ -8,7 +8,7 @@ use lib.ListN.{length, drop}
 use lib.Seq.{drop-append-seam}
 use lib.Dec.{eqb}
 use borrow.Author.Tests.{eq-eqb}
-use Rattle.rules.specs.Base.{both, allFrom, first}
+use Rattle.rules.specs.Base.{allFrom, first}
 use Rattle.rules.specs.File.{Tables, Ty, CompareOp, Comparison}
 use Rattle.rules.specs.Placement.{RangeEdge, Edges, SeekBuilder, withEdges, fall, Sided, sided, takeHi, takeLo, takeEdge, edge, foldFrom, placeBound}
 use Rattle.rules.proofs.Cases.{by-test, by-option, true≢false, some≢none, both-true}
@@ -18,7 +18,7 @@ use Rattle.exact.specs.Keys.{Engine, stored, ordered}
 use Rattle.exact.specs.Passes.{partsBytes, firstValue, above, under, within}
 use Rattle.exact.specs.Matcher.{comparisonHolds, foldedHold}
 use Rattle.exact.proofs.Ends.{Apart, Whole, first-value}
-use Rattle.exact.proofs.Placing.{Open, Edged, Passing, Ready, ready-fall}
+use Rattle.exact.proofs.Placing.{Edged, Ready, ready-fall}
 
 -- a number stands in a list
 abbrev pub Has : ℕ → List ℕ → Type 0

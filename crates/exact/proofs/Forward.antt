@@ -1,22 +1,19 @@
 -- No fact is skipped, piece by piece: where the matcher accepts what a piece of the walk reads, the key still passes after the events of that piece, and both have
 -- bound the same.
-use mathlib.Core.Bool.{Bool, true, false}
+use mathlib.Core.Bool.{false}
 use mathlib.Core.List.{List, [], _∷_, _++_, append-assoc}
 use mathlib.Core.Option.{Option, none, some}
 use mathlib.Core.Path.{_≡_, refl, sym, ap, _∙_, subst}
-use Prim.Native.Nat.{ℕ, zero, suc, _+_}
+use Prim.Native.Nat.{ℕ, suc, _+_}
 use native.Mathlib.Omega.{arith}
-use borrow.Author.Tests.{eq-eqb}
-use lib.Dec.{eqb}
-use Rattle.rules.specs.Base.{Each, done, more}
-use Rattle.rules.specs.File.{Tables, FieldTy, Ty, FieldPattern, FieldPath, Slot, Binding, nodeAt, fieldPath, then}
+use Rattle.rules.specs.File.{Tables, FieldTy, Ty, FieldPattern, FieldPath, Binding}
 use Rattle.rules.specs.Constant.{Const, fieldPattern}
-use Rattle.rules.specs.Events.{Code, Narrowing, Event, Walk, walkOps, report, emit}
+use Rattle.rules.specs.Events.{Code, Narrowing, Event, Walk, report, emit}
 use Rattle.rules.specs.Walk.{narrowing, FieldWalk, eachField}
-use Rattle.rules.specs.Placement.{SeekKeyPart, SeekBuilder, fall, placePart, placeNarrowing, place, placeAll, new}
-use Rattle.rules.proofs.Cases.{by-test, true≢false, some≢none, some-injective, bind-some}
+use Rattle.rules.specs.Placement.{SeekKeyPart, placeNarrowing, place, placeAll, new}
+use Rattle.rules.proofs.Cases.{some≢none, some-injective, bind-some}
 use Rattle.exact.specs.Values.{Value, Values, _and_, encode, encodeAll}
-use Rattle.exact.specs.Keys.{Engine, nth, valueAt, sameBytes, hasBytes, says, holds}
+use Rattle.exact.specs.Keys.{Engine, nth, valueAt, hasBytes, says}
 use Rattle.exact.specs.Passes.{partBytes}
 use Rattle.exact.specs.Matcher.{Matching, eachMatches}
 use Rattle.exact.proofs.Bytes.{eq-same}

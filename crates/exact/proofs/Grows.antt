@@ -12,10 +12,9 @@ use Rattle.rules.specs.File.{Tables, Ty, FieldPath, Slot, Binding}
 use Rattle.rules.specs.Constant.{lookup, constNode}
 use Rattle.rules.specs.Events.{Code, Narrowing, Event, Walk, bind, constrained, report, emit, isMistyped, brings, walkOps}
 use Rattle.rules.specs.Resolve.{resolve}
-use Rattle.rules.specs.Placement.{SeekKeyPart, Edges, SeekBuilder, new, withPart, withResidual, withGuide, withRange, withEdges, withCloser, fall, placePart, placePrefix, attachable, placeFuzzy, placeOwn, placeNarrowing, placeCloser, Sided, sided, foldFrom, placeBound, place, placeAll}
+use Rattle.rules.specs.Placement.{SeekKeyPart, Edges, SeekBuilder, new, withPart, withResidual, withGuide, withRange, withEdges, withCloser, fall, placePart, placePrefix, attachable, placeFuzzy, placeOwn, placeNarrowing, placeCloser, Sided, sided, placeBound, place, placeAll}
 use Rattle.rules.proofs.Cases.{by-test}
 use Rattle.rules.proofs.Kept.{placeAll-append}
-use Rattle.rules.proofs.Lists.{onwards-one}
 use Rattle.rules.specs.Constant.{constBound}
 use Rattle.rules.proofs.Consts.{SameConsts, const-snoc}
 use Rattle.exact.specs.Values.{Value}
@@ -24,7 +23,7 @@ use Rattle.exact.proofs.Steps.{Steps, steps-same, steps-next, steps-fal
 use Rattle.exact.proofs.Folding.{Has}
 use Rattle.exact.proofs.Unplaced.{Or, left, right}
 use Rattle.exact.proofs.Folded.{comparisonAt, fold-of}
-use Rattle.exact.proofs.Quiet.{Clean, onwards-nil, Read, read-is}
+use Rattle.exact.proofs.Quiet.{Clean, read-is}
 
 -- what a walk has placed
 abbrev pub built : Tables → Walk → SeekBuilder

@@ -3,25 +3,24 @@ use mathlib.Core.Bool.{Bool, true, false}
 use mathlib.Core.List.{List, [], _∷_, _++_, append-nil}
 use mathlib.Core.Option.{Option, none, some}
 use mathlib.Core.Path.{_≡_, refl, sym, ap, _∙_, subst}
-use Prim.Native.Nat.{ℕ, zero, suc, _+_}
+use Prim.Native.Nat.{ℕ, _+_}
 use native.Mathlib.Omega.{arith}
 use Rattle.rules.specs.Base.{Each, _whenSome_}
-use Rattle.rules.specs.File.{Tables, FieldTy, Ty, FieldPattern, Node, FieldPath, Slot, Binding, Constraint, typeAt, nodeAt, recordFields, recordTy, fieldPath}
+use Rattle.rules.specs.File.{Tables, FieldTy, Ty, FieldPattern, Node, Slot, Binding, Constraint, typeAt, nodeAt, recordFields, recordTy, fieldPath}
 use Rattle.rules.specs.Constant.{lookup, constNode}
 use Rattle.rules.specs.Events.{Event, Walk, walkOps, emit, bind}
 use Rattle.rules.specs.Walk.{eachField, field, wholeRead, wholeVariable, wholeKey, recordKey, key}
-use Rattle.rules.proofs.Cases.{by-test, true≢false, some≢none, some-injective, bind-some}
-use Rattle.exact.specs.Values.{Value, Values, _and_, encode, encodeAll}
-use Rattle.exact.specs.Keys.{Engine, stored, nth, valueAt}
+use Rattle.rules.proofs.Cases.{true≢false, some-injective, bind-some}
+use Rattle.exact.specs.Values.{Value, Values, encode, encodeAll}
+use Rattle.exact.specs.Keys.{Engine, stored, valueAt}
 use Rattle.exact.specs.Matcher.{eachMatches, fieldsOf, fieldMatches, wholeMatches, keyMatches}
 use Rattle.exact.specs.Conditions.{isNew, isOwn}
-use Rattle.exact.proofs.Ends.{Whole, WholeAll}
+use Rattle.exact.proofs.Ends.{Whole}
 use Rattle.exact.proofs.Placing.{Ready}
-use Rattle.exact.proofs.Quiet.{Clean}
-use Rattle.exact.proofs.Grows.{built, Grows, grows-same, grows-next, grows-skip, grows-bind}
-use Rattle.exact.proofs.Constants.{Consts, is-record}
+use Rattle.exact.proofs.Grows.{built, Grows, grows-next, grows-skip, grows-bind}
+use Rattle.exact.proofs.Constants.{is-record}
 use Rattle.exact.proofs.Values.{value-key, value-scalar}
-use Rattle.exact.proofs.Forward.{Final, Reached, Kept, reached-skip, Missing, goes-each}
+use Rattle.exact.proofs.Forward.{Kept, reached-skip, Missing, goes-each}
 use Rattle.exact.proofs.Names.{IsText}
 use Rattle.exact.proofs.Patterns.{goes-field}
 

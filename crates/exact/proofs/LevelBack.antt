@@ -1,16 +1,15 @@
 -- What passes matches: a level's whole key.
-use mathlib.Core.Bool.{Bool, true, false}
+use mathlib.Core.Bool.{true, false}
 use mathlib.Core.List.{List, [], _∷_, _++_, append-nil}
 use mathlib.Core.Option.{Option, none, some}
 use mathlib.Core.Path.{_≡_, refl, sym, ap, _∙_, subst}
-use Prim.Native.Nat.{ℕ, zero, suc, _+_, _<_}
+use Prim.Native.Nat.{ℕ, _+_, _<_}
 use native.Mathlib.Omega.{arith}
 use lib.ListN.{length}
 use Rattle.rules.specs.Base.{Each, _whenSome_}
-use Rattle.rules.specs.File.{Tables, FieldTy, Ty, FieldPattern, Node, FieldPath, Slot, Binding, Constraint, typeAt, nodeAt, recordFields, recordTy, fieldPath, childTypes}
-use Rattle.rules.specs.Constant.{lookup}
+use Rattle.rules.specs.File.{Tables, FieldTy, Ty, FieldPattern, Node, Slot, Binding, Constraint, typeAt, nodeAt, recordFields, recordTy, fieldPath}
 use Rattle.rules.specs.Events.{Event, Walk, walkOps, emit}
-use Rattle.rules.specs.Walk.{eachField, field, wholeVariable, wholeKey, recordKey, key}
+use Rattle.rules.specs.Walk.{eachField, field, recordKey, key}
 use Rattle.rules.proofs.Cases.{true≢false}
 use Rattle.rules.proofs.Each.{each-imply}
 use Rattle.rules.proofs.Keeps.{record-children}

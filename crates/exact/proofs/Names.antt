@@ -6,15 +6,15 @@ use mathlib.Core.Path.{_≡_, refl, sym, ap, _∙_, subst}
 use Prim.Native.Nat.{ℕ}
 use lib.Dec.{eqb}
 use Rattle.rules.specs.Base.{Each, done, more, both, all, filter}
-use Rattle.rules.specs.File.{Tables, Ty, Node, FieldPath, Slot, Binding, Constraint, nameAt, nodeAt}
-use Rattle.rules.specs.Constant.{Const, constant, constNode, lookup, encodePrefix, encodeStr}
+use Rattle.rules.specs.File.{Tables, Ty, Node, FieldPath, Slot, Constraint, nameAt, nodeAt}
+use Rattle.rules.specs.Constant.{Const, constant, constNode, lookup, encodePrefix}
 use Rattle.rules.specs.Events.{Code, Narrowing, Event, Walk, walkOps, bind, constrained, report, emit}
 use Rattle.rules.specs.Walk.{narrowing, rank, narrowBy, constraintsOf, ranked, constrainEach, constrainBy, constrain}
 use Rattle.rules.specs.Placement.{SeekBuilder, fall, placeNarrowing, placeBound, place}
-use Rattle.rules.proofs.Cases.{by-test, by-option, both-left, both-right, some≢none}
+use Rattle.rules.proofs.Cases.{by-test, both-left, both-right}
 use Rattle.rules.proofs.Each.{each-passes, each-append}
 use Rattle.exact.specs.Values.{Value, encode}
-use Rattle.exact.specs.Keys.{Engine, begins, valueAt, textPasses, near, says, holds}
+use Rattle.exact.specs.Keys.{Engine, begins, valueAt, near, says, holds}
 use Rattle.exact.specs.Matcher.{textMatches, constraintsHold, foldedHold, newName}
 use Rattle.exact.proofs.Bytes.{begins-starts, starts-more, prefix-begins}
 use Rattle.exact.proofs.Ends.{Apart, Whole}
@@ -22,9 +22,9 @@ use Rattle.exact.proofs.Placing.{Ready, ready-prefix, ready-fuzzy}
 use Rattle.exact.proofs.Folding.{ready-bound}
 use Rattle.exact.proofs.Quiet.{Clean}
 use Rattle.exact.proofs.Grows.{built, built-emit, built-bound, dirty, Grows, grows-same, grows-next, grows-skip, grows-narrow, grows-report, grows-bound, grows-constrained, grows-bind, lookup-last}
-use Rattle.exact.proofs.Constants.{Consts, accepted, is-text, prefix-constant, fuzzy-constant}
+use Rattle.exact.proofs.Constants.{accepted, is-text, prefix-constant, fuzzy-constant}
 use Rattle.exact.proofs.Values.{holds-at}
-use Rattle.exact.proofs.Forward.{Final, final-back, Reached, Kept, Goes}
+use Rattle.exact.proofs.Forward.{Final, Goes}
 
 -- "whose constraints are all prefixes or fuzzies"
 abbrev pub IsText : Node → Type 0

@@ -3,21 +3,21 @@ use mathlib.Core.Bool.{Bool, true, false}
 use mathlib.Core.List.{List, [], _∷_, _++_, append-nil}
 use mathlib.Core.Option.{Option, none, some}
 use mathlib.Core.Path.{_≡_, refl, sym, ap, _∙_, subst}
-use Prim.Native.Nat.{ℕ, _<_}
+use Prim.Native.Nat.{ℕ}
 use native.Mathlib.Omega.{arith}
 use lib.ListN.{length}
 use lib.Dec.{eqb}
 use Rattle.rules.specs.Base.{Each, done, more, both, all, filter, first}
-use Rattle.rules.specs.File.{Tables, Ty, Anchor, Node, FieldPath, Slot, Binding, Constraint, nameAt, typeAt, nodeAt, varName}
-use Rattle.rules.specs.Constant.{Const, constant, constantNode, constantBelow, constNode, lookup, escape, term, encodePrefix, encodeStr}
-use Rattle.rules.specs.Events.{Code, Narrowing, Event, Walk, walkOps, bind, constrained, report, emit}
+use Rattle.rules.specs.File.{Tables, Ty, Anchor, Node, FieldPath, Slot, Constraint, nameAt, typeAt, nodeAt, varName}
+use Rattle.rules.specs.Constant.{Const, constant, constantNode, constantBelow, lookup, escape, term, encodePrefix, encodeStr}
+use Rattle.rules.specs.Events.{Narrowing, Event, Walk, walkOps, bind, constrained, report}
 use Rattle.rules.specs.Walk.{narrowing, anchorRank, rank, constraintsOf, ranked, constrainEach, constrainBy, constrain}
 use Rattle.rules.specs.Placement.{Edges, SeekBuilder, fall, withEdges, placeNarrowing, foldFrom, placeBound, place}
 use Rattle.rules.proofs.Cases.{by-test, ways, true≢false, some≢none, both-true}
-use Rattle.exact.specs.Values.{Value, encode, zeroFree, noZero, OfType}
+use Rattle.exact.specs.Values.{Value, encode, zeroFree, OfType}
 use Rattle.exact.specs.Keys.{Engine, begins, valueAt, textOf, textPasses, near, says, holds}
 use Rattle.exact.specs.Passes.{partsBytes}
-use Rattle.exact.specs.Matcher.{textMatches, constraintsHold, foldedHold, accept, newName}
+use Rattle.exact.specs.Matcher.{textMatches, constraintsHold, foldedHold, newName}
 use Rattle.exact.proofs.Bytes.{Starts, begins-starts}
 use Rattle.exact.proofs.Ends.{Apart, Whole}
 use Rattle.exact.proofs.Placing.{Passing, Ready}
@@ -27,14 +27,14 @@ use Rattle.exact.proofs.Quiet.{Clean}
 use Rattle.exact.proofs.Unique.{tails, cancel, prefix-of}
 use Rattle.exact.proofs.Unplaced.{Or, left, right, prefix-back, fuzzy-back, held-says, bound-back}
 use Rattle.exact.proofs.Folded.{comparisonAt, other-name, silent, within-holds}
-use Rattle.exact.proofs.Grows.{built, built-emit, built-bound, edges-narrowing, dirty, Known, Grows, grows-next, grows-bind, lookup-last}
+use Rattle.exact.proofs.Grows.{built, built-emit, built-bound, edges-narrowing, dirty, Known}
 use Rattle.exact.proofs.Constants.{Consts, prefix-constant, fuzzy-constant, constant-of}
 use Rattle.exact.proofs.Typed.{str-type, of-str}
 use Rattle.exact.proofs.Accepts.{accept-true}
 use Rattle.exact.proofs.NoFactSkipped.{whole}
 use Rattle.exact.proofs.Forward.{Final}
-use Rattle.exact.proofs.Names.{IsText, each-filter, each-ranked, Holds, Text, one, one-grows, one-live, next, each-is, constraints-grow, constraints-live, by-grows}
-use Rattle.exact.proofs.Backward.{HeldParts, Some, Given, Comes}
+use Rattle.exact.proofs.Names.{IsText, each-filter, each-ranked, Holds, Text, one, one-grows, one-live, next, each-is, constraints-grow, constraints-live}
+use Rattle.exact.proofs.Backward.{Comes}
 
 -- a constraint's rank
 rank-text : (node : Node) → IsText node → Or (eqb (rank node) 1 ≡ true) (Or (eqb (rank node) 2 ≡ true) (eqb (rank node) 3 ≡ true))

@@ -1,16 +1,16 @@
 -- "No fact is skipped", of every level of an accepted file that meets the conditions.
-use mathlib.Core.Bool.{Bool, true, false}
-use mathlib.Core.List.{List, [], _∷_, _++_}
-use mathlib.Core.Option.{Option, none, some}
-use mathlib.Core.Path.{_≡_, refl, sym, ap, _∙_, subst}
+use mathlib.Core.Bool.{true, false}
+use mathlib.Core.List.{List, [], _∷_}
+use mathlib.Core.Option.{none, some}
+use mathlib.Core.Path.{_≡_, refl, sym, _∙_, subst}
 use Prim.Native.Nat.{ℕ, zero, suc, _<_}
 use native.Mathlib.Nat.{not-suc-le-zero, le-of-suc-le-suc}
 use lib.ListN.{length, getD}
-use Rattle.rules.specs.Base.{Each, done, more, all}
+use Rattle.rules.specs.Base.{Each, done, more}
 use Rattle.rules.specs.File.{Tables, Ty, Node, FieldTy, Binding, Constraint, LevelEntry, typeAt, nodeAt, predicateAt}
-use Rattle.rules.specs.Events.{Lists, Walk}
+use Rattle.rules.specs.Events.{Lists}
 use Rattle.rules.specs.Walk.{freshWalk, walkLevel, key}
-use Rattle.rules.specs.Placement.{new, placeAll}
+use Rattle.rules.specs.Placement.{placeAll}
 use Rattle.rules.specs.Levels.{Level, starting, levelOf, level, levelsFrom, levels, leftBy, anyMistyped}
 use Rattle.rules.specs.Plan.{planLevel, planOf, plan}
 use Rattle.rules.specs.Demand3.{entryAt, levelAt, startOf}
@@ -18,16 +18,15 @@ use Rattle.rules.proofs.Cases.{true≢false, both-left, both-right}
 use Rattle.rules.proofs.Each.{each-passes, each-imply}
 use Rattle.rules.specs.Constant.{constBound}
 use Rattle.exact.specs.Values.{Value, Values, _and_, OfType, OfTypes}
-use Rattle.exact.specs.Keys.{Engine, stored}
+use Rattle.exact.specs.Keys.{Engine}
 use Rattle.exact.specs.Passes.{passes}
-use Rattle.exact.specs.Matcher.{keyMatches, keyType, matches}
+use Rattle.exact.specs.Matcher.{keyType, matches}
 use Rattle.exact.specs.Conditions.{isText, constraintsAreTexts, isOwn, ownNodes, Plain}
 use Rattle.exact.specs.Claims.{planned, keyTypeOf, boundBefore, Matches, Passes, NoFactSkipped}
 use Rattle.exact.proofs.Ends.{Whole, WholeAll}
-use Rattle.exact.proofs.Placing.{Ready, ready-new}
+use Rattle.exact.proofs.Placing.{ready-new}
 use Rattle.exact.proofs.Quiet.{Clean}
-use Rattle.exact.proofs.Grows.{built, Grows, either-left, either-right}
-use Rattle.exact.proofs.Forward.{Reached}
+use Rattle.exact.proofs.Grows.{Grows, either-left, either-right}
 use Rattle.exact.proofs.Names.{IsText}
 use Rattle.exact.proofs.Level.{GoesKey, goes-key}
 use Rattle.exact.proofs.Planned.{level-passes}

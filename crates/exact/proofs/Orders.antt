@@ -1,16 +1,16 @@
 -- Byte order is the order of Ints as numbers, and of texts and byte strings by their own bytes.
 use mathlib.Core.Bool.{Bool, true, false}
 use mathlib.Core.List.{List, [], _∷_, _++_, reverse}
-use mathlib.Core.Path.{_≡_, refl, sym, ap, _∙_, subst}
-use Prim.Native.Nat.{ℕ, _+_, _*_, _%_, _<_, _≤_}
+use mathlib.Core.Path.{_≡_, refl, sym, ap, _∙_}
+use Prim.Native.Nat.{ℕ, _+_, _*_, _%_, _<_}
 use native.Mathlib.Omega.{arith}
-use borrow.Author.Tests.{lt-ltb, le-ltb, ltb-true, ltb-false, eq-eqb, eqb-false}
+use borrow.Author.Tests.{lt-ltb, le-ltb, ltb-true, ltb-false, eq-eqb}
 use lib.ListN.{length, length-reverse}
 use lib.Dec.{eqb, ltb}
-use Rattle.rules.specs.Base.{Each, done, more, both}
+use Rattle.rules.specs.Base.{Each, more, both}
 use Rattle.rules.specs.Constant.{flipSign, encodeInt, escape, term, encodePrefix, encodeStr, encodeBytes}
 use Rattle.rules.specs.Demand1.{Byte}
-use Rattle.rules.proofs.Cases.{by-test, ways, true≢false, eqb-eq}
+use Rattle.rules.proofs.Cases.{ways, true≢false, eqb-eq}
 use Rattle.exact.specs.Keys.{less}
 use Rattle.exact.specs.Orders.{fromHighest, fromLowestInt}
 use Rattle.exact.proofs.Ends.{flip-length}

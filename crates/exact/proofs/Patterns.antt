@@ -1,33 +1,33 @@
 -- Unions, reads, names and the pattern by its kind, beside the matcher's; and so every pattern of a level.
-use mathlib.Core.Bool.{Bool, true, false}
-use mathlib.Core.List.{List, [], _∷_, _++_, append-assoc}
+use mathlib.Core.Bool.{true, false}
+use mathlib.Core.List.{List, _∷_, _++_, append-assoc}
 use mathlib.Core.Option.{Option, none, some}
 use mathlib.Core.Path.{_≡_, refl, sym, ap, _∙_, subst}
 use Prim.Native.Nat.{ℕ, zero, suc, _+_}
 use borrow.Author.Tests.{eq-eqb}
 use lib.Dec.{eqb}
 use lib.ListN.{length}
-use Rattle.rules.specs.Base.{Each, _whenSome_}
-use Rattle.rules.specs.File.{Tables, FieldTy, Alternative, Ty, FieldPattern, Node, FieldPath, Slot, Binding, Constraint, typeAt, nodeAt, recordFields, recordTy, unionTy, payload, isConstant, constantOf}
+use Rattle.rules.specs.Base.{Each}
+use Rattle.rules.specs.File.{Tables, Alternative, Ty, FieldPattern, Node, FieldPath, Slot, Binding, Constraint, typeAt, nodeAt, recordFields, unionTy, payload, isConstant, constantOf}
 use Rattle.rules.specs.Constant.{Const, constant, alternativeOf, onlyField, lookup, term, encodeUnion, unionTag}
 use Rattle.rules.specs.Events.{Code, Narrowing, Event, Walk, walkOps, report, emit, bind}
 use Rattle.rules.specs.Resolve.{Resolver, give, resolveNode, resolveBelow, resolve}
-use Rattle.rules.specs.Walk.{narrowing, narrowBy, deferred, unresolved, partial, matched, injectAlternative, injectOnly, inject, readAnswer, read, ranged, variable, fieldNode, fieldBelow, field, constrain}
-use Rattle.rules.specs.Placement.{SeekKeyPart, SeekBuilder, placeNarrowing, placeCloser, place}
+use Rattle.rules.specs.Walk.{narrowing, narrowBy, deferred, unresolved, partial, injectAlternative, injectOnly, inject, readAnswer, read, ranged, variable, fieldNode, fieldBelow, field, constrain}
+use Rattle.rules.specs.Placement.{SeekKeyPart, placeNarrowing, place}
 use Rattle.rules.proofs.Cases.{by-test, true≢false, some≢none, some-injective, bind-some}
-use Rattle.exact.specs.Values.{Value, Values, _and_, encode}
+use Rattle.exact.specs.Values.{Value, _and_, encode}
 use Rattle.exact.specs.Keys.{Engine, valueAt, hasDisc, says}
 use Rattle.exact.specs.Passes.{partBytes}
 use Rattle.exact.specs.Matcher.{Matching, quiet, slotOf, accept, held, textMatches, alternativeMatches, unionMatches, recordAt, writtenMatches, slotMatches, readMatches, newName, nodeMatches, matchesBelow, fieldMatches}
-use Rattle.exact.proofs.Ends.{Apart, Whole}
+use Rattle.exact.proofs.Ends.{Whole}
 use Rattle.exact.proofs.Placing.{Ready, ready-part, ready-closer}
-use Rattle.exact.proofs.Quiet.{Clean, Read, read-is}
-use Rattle.exact.proofs.Grows.{built, built-emit, Grows, grows-same, grows-next, grows-skip, grows-narrow, grows-closer, grows-report, grows-read}
-use Rattle.exact.proofs.Constants.{Consts, below, accepted, is-union, Written, written-constant, not-constant}
+use Rattle.exact.proofs.Quiet.{read-is}
+use Rattle.exact.proofs.Grows.{built, built-emit, grows-same, grows-next, grows-skip, grows-narrow, grows-closer, grows-read}
+use Rattle.exact.proofs.Constants.{Consts, below, accepted, is-union, written-constant, not-constant}
 use Rattle.exact.proofs.Values.{value-payload, holds-at}
-use Rattle.exact.proofs.Forward.{Final, final-back, Reached, Kept, Goes, Walks, goes-agree, goes-from, goes-report, goes-skip, goes-narrow, goes-written}
+use Rattle.exact.proofs.Forward.{final-back, Goes, Walks, goes-agree, goes-from, goes-report, goes-skip, goes-narrow, goes-written}
 use Rattle.exact.proofs.Names.{IsText, ready-text, goes-new}
-use Rattle.exact.proofs.Pieces.{record-node, union-type, goes-partial, partial-grows, goes-matched}
+use Rattle.exact.proofs.Pieces.{record-node, union-type, goes-partial, goes-matched}
 
 module _ (T : Tables) (engine : Engine) (address : ℕ) (ty : Ty) (key : Value) (folded : List ℕ) (texts : Each (λ (k : Constraint). IsText (nodeAt T (k .node))) (T .constraints)) where
   -- an emitted event

@@ -1,6 +1,6 @@
 -- What passes matches: reads, names and the pattern by its kind; and so every pattern of a level.
-use mathlib.Core.Bool.{Bool, true, false}
-use mathlib.Core.List.{List, [], _∷_, _++_}
+use mathlib.Core.Bool.{true, false}
+use mathlib.Core.List.{List}
 use mathlib.Core.Option.{Option, none, some}
 use mathlib.Core.Path.{_≡_, refl, sym, ap, _∙_, subst}
 use Prim.Native.Nat.{ℕ, zero, suc, _<_}
@@ -9,18 +9,18 @@ use borrow.Author.Tests.{eq-eqb}
 use lib.Dec.{eqb}
 use lib.ListN.{length}
 use Rattle.rules.specs.Base.{Each}
-use Rattle.rules.specs.File.{Tables, Alternative, Ty, FieldPattern, Node, FieldPath, Slot, Binding, Constraint, typeAt, nodeAt, recordFields, unionTy, isConstant, constantOf}
+use Rattle.rules.specs.File.{Tables, Alternative, Ty, FieldPattern, Node, FieldPath, Slot, Binding, Constraint, typeAt, nodeAt, recordFields, unionTy, constantOf}
 use Rattle.rules.specs.Constant.{Const, constant, lookup}
-use Rattle.rules.specs.Events.{Code, Narrowing, Event, Walk, walkOps, report, emit, bind}
+use Rattle.rules.specs.Events.{Code, Event, Walk, walkOps, report, emit, bind}
 use Rattle.rules.specs.Resolve.{Resolver, give, resolveNode, resolve}
 use Rattle.rules.specs.Walk.{narrowing, narrowBy, deferred, unresolved, partial, inject, readAnswer, read, ranged, variable, fieldNode, fieldBelow, field, constrain}
 use Rattle.rules.proofs.Cases.{by-test, true≢false, some≢none, some-injective}
-use Rattle.exact.specs.Values.{Value, encode}
+use Rattle.exact.specs.Values.{Value}
 use Rattle.exact.specs.Keys.{Engine}
-use Rattle.exact.specs.Matcher.{Matching, quiet, slotOf, accept, textMatches, recordAt, writtenMatches, slotMatches, readMatches, newName, nodeMatches, matchesBelow, fieldMatches}
-use Rattle.exact.proofs.Quiet.{Clean, Read, read-is}
-use Rattle.exact.proofs.Grows.{built, Grows, grows-next, grows-read, dirty}
-use Rattle.exact.proofs.Constants.{Consts, below, accepted, not-constant}
+use Rattle.exact.specs.Matcher.{Matching, quiet, slotOf, accept, textMatches, recordAt, writtenMatches, readMatches, newName, nodeMatches, matchesBelow, fieldMatches}
+use Rattle.exact.proofs.Quiet.{read-is}
+use Rattle.exact.proofs.Grows.{built, grows-read}
+use Rattle.exact.proofs.Constants.{below, accepted, not-constant}
 use Rattle.exact.proofs.Accepts.{Facts, accept-true}
 use Rattle.exact.proofs.ConstSlots.{slot-constant}
 use Rattle.exact.proofs.Forward.{Walks}
@@ -29,7 +29,7 @@ use Rattle.exact.proofs.NamesBack.{text-back, comes-new}
 use Rattle.exact.proofs.Pieces.{record-node, union-type}
 use Rattle.exact.proofs.PiecesBack.{comes-partial, comes-matched, comes-inject}
 use Rattle.exact.proofs.Patterns.{Agrees, goes-answer, agrees-written, agrees-read, agrees-none, goes-below}
-use Rattle.exact.proofs.Backward.{Some, Given, given-second, Comes, WalksBack, comes-some, comes-report, comes-agree, comes-from, comes-narrow}
+use Rattle.exact.proofs.Backward.{Some, Comes, WalksBack, comes-some, comes-report, comes-agree, comes-from, comes-narrow}
 
 module _ (T : Tables) (facts : Facts T) (engine : Engine) (address : ℕ) (ty : Ty) (key : Value) (folded : List ℕ) (texts : Each (λ (k : Constraint). IsText (nodeAt T (k .node))) (T .constraints)) where
   module _ (limit : ℕ) (goes : Walks T engine address ty key folded (fieldBelow (walkOps T) T address limit) (below T engine address ty key folded limit))

@@ -1,34 +1,29 @@
 -- The pieces of a level's walk beside the matcher's: records, unions, slots, reads, and the pattern by its kind.
 use mathlib.Core.Bool.{Bool, true, false}
-use mathlib.Core.List.{List, [], _∷_, _++_, append-assoc}
+use mathlib.Core.List.{List, _++_}
 use mathlib.Core.Option.{Option, none, some}
 use mathlib.Core.Path.{_≡_, refl, sym, ap, _∙_, subst}
-use Prim.Native.Nat.{ℕ, zero, suc, _+_}
+use Prim.Native.Nat.{ℕ, _+_}
 use native.Mathlib.Omega.{arith}
-use borrow.Author.Tests.{eq-eqb}
 use lib.Dec.{eqb}
-use lib.ListN.{length}
-use Rattle.rules.specs.Base.{Each, _whenSome_}
-use Rattle.rules.specs.File.{Tables, FieldTy, Alternative, Ty, FieldPattern, Node, FieldPath, Slot, Binding, Constraint, typeAt, nodeAt, recordFields, factTy, recordTy, unionTy, fieldPath, then, payload, isConstant}
-use Rattle.rules.specs.Constant.{Const, constant, alternativeOf, onlyField, lookup, term, encodeUnion, unionTag}
+use Rattle.rules.specs.File.{Tables, FieldTy, Alternative, Ty, FieldPattern, Node, FieldPath, Slot, Binding, typeAt, nodeAt, recordFields, factTy, recordTy, unionTy, then}
+use Rattle.rules.specs.Constant.{Const, constant}
 use Rattle.rules.specs.Events.{Code, Narrowing, Event, Walk, walkOps, report, emit, unlessRecords, isMistyped, brings}
-use Rattle.rules.specs.Resolve.{Resolver, give, resolveNode, resolveBelow, resolve}
-use Rattle.rules.specs.Walk.{narrowing, narrowBy, eachField, refersTo, deferred, unresolved, partialFields, partial, matched, injectAlternative, injectOnly, inject, readAnswer, read, ranged, variable, fieldNode, fieldBelow, field, constrain}
-use Rattle.rules.specs.Placement.{SeekKeyPart, SeekBuilder, fall, placeNarrowing, placeCloser, place}
-use Rattle.rules.proofs.Cases.{by-test, true≢false, some≢none, some-injective, bind-some}
-use Rattle.exact.specs.Values.{Value, Values, _and_, encode, encodeAll, encodeFact}
-use Rattle.exact.specs.Keys.{Engine, nth, valueAt, sameBytes, sameAs, hasBytes, hasDisc, says}
+use Rattle.rules.specs.Walk.{narrowing, narrowBy, eachField, refersTo, partialFields, partial, matched, fieldBelow, field}
+use Rattle.rules.specs.Placement.{SeekKeyPart, SeekBuilder, fall, placeNarrowing, place}
+use Rattle.rules.proofs.Cases.{true≢false, some≢none, some-injective, bind-some}
+use Rattle.exact.specs.Values.{Value, _and_, encode, encodeAll, encodeFact}
+use Rattle.exact.specs.Keys.{Engine, valueAt, sameBytes, sameAs, hasBytes, says}
 use Rattle.exact.specs.Passes.{partBytes}
-use Rattle.exact.specs.Matcher.{Matching, quiet, slotOf, accept, eachMatches, fieldsOf, held, textMatches, recordMatches, alternativeMatches, unionMatches, recordAt, writtenMatches, slotMatches, readMatches, newName, nodeMatches, matchesBelow}
+use Rattle.exact.specs.Matcher.{Matching, accept, eachMatches, fieldsOf, recordMatches, recordAt, writtenMatches, slotMatches}
 use Rattle.exact.proofs.Bytes.{same-eq}
-use Rattle.exact.proofs.Ends.{Apart, Whole, WholeAll}
-use Rattle.exact.proofs.Placing.{Ready, ready-fallen, ready-part, ready-own, ready-closer}
-use Rattle.exact.proofs.Quiet.{Clean, Read, read-is}
-use Rattle.exact.proofs.Grows.{built, built-emit, either-right, Grows, grows-same, grows-next, grows-skip, grows-narrow, grows-closer, grows-report, grows-brings, grows-read}
-use Rattle.exact.proofs.Constants.{Consts, below, accepted, is-record, is-union, Written, written-constant}
-use Rattle.exact.proofs.Values.{value-field, value-payload, holds-at}
-use Rattle.exact.proofs.Forward.{Final, final-back, Reached, Kept, Goes, Walks, goes-agree, goes-from, goes-report, reached-skip, goes-skip, goes-narrow, goes-written, GoesAll, Missing, goes-each}
-use Rattle.exact.proofs.Names.{IsText, ready-text, goes-new}
+use Rattle.exact.proofs.Ends.{Whole}
+use Rattle.exact.proofs.Placing.{Ready, ready-fallen, ready-part, ready-own}
+use Rattle.exact.proofs.Quiet.{Clean}
+use Rattle.exact.proofs.Grows.{built, built-emit, either-right, Grows, grows-same, grows-next, grows-skip, grows-brings}
+use Rattle.exact.proofs.Constants.{Consts, below, accepted, is-record, written-constant}
+use Rattle.exact.proofs.Values.{value-field, holds-at}
+use Rattle.exact.proofs.Forward.{Goes, Walks, goes-report, reached-skip, goes-skip, goes-narrow, goes-written, Missing, goes-each}
 
 -- forms by their views
 pub record-node : (node : Node) (fields : List FieldPattern) → recordFields node ≡ some fields → node ≡ Node.Record fields

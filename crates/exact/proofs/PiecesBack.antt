@@ -3,37 +3,36 @@ use mathlib.Core.Bool.{Bool, true, false}
 use mathlib.Core.List.{List, [], _∷_, _++_, append-assoc, append-nil}
 use mathlib.Core.Option.{Option, none, some}
 use mathlib.Core.Path.{_≡_, refl, sym, ap, _∙_, subst}
-use Prim.Native.Nat.{ℕ, zero, suc, _+_, _<_}
+use Prim.Native.Nat.{ℕ, suc, _+_, _<_}
 use native.Mathlib.Omega.{arith}
 use lib.Dec.{eqb}
-use Rattle.rules.specs.Base.{Each, done, more, _whenSome_}
+use Rattle.rules.specs.Base.{Each, _whenSome_}
 use Rattle.rules.specs.File.{Tables, FieldTy, Alternative, Ty, FieldPattern, Node, FieldPath, Slot, Binding, Constraint, nameAt, typeAt, nodeAt, varName, recordFields, factTy, recordTy, unionTy, then, payload, childTypes, isConstant, constantOf}
 use Rattle.rules.specs.Constant.{Const, constant, constantNode, constantBelow, constantRecord, alternativeOf, onlyField, term, unionTag, encodeInt, encodeStr, encodeBytes, encodeUnion}
 use Rattle.rules.specs.Events.{Code, Narrowing, Event, Walk, walkOps, report, emit, brings}
 use Rattle.rules.specs.Walk.{narrowing, narrowBy, eachField, refersTo, partialFields, partial, matched, injectAlternative, injectOnly, inject, fieldBelow}
-use Rattle.rules.specs.Placement.{SeekKeyPart, SeekBuilder, placePart, placeNarrowing, place, placeAll, new}
-use Rattle.rules.proofs.Cases.{by-test, true≢false, some≢none, some-injective, eqb-eq}
+use Rattle.rules.specs.Placement.{SeekKeyPart, placePart, placeNarrowing, place}
+use Rattle.rules.proofs.Cases.{true≢false, some≢none, eqb-eq}
 use Rattle.rules.proofs.Each.{each-first}
 use Rattle.rules.proofs.Keeps.{record-children, union-children}
 use Rattle.exact.specs.Values.{Value, Values, _and_, encode, encodeAll, encodeFact, zeroFree, OfType}
-use Rattle.exact.specs.Keys.{Engine, valueAt, sameBytes, sameAs, hasBytes, hasDisc, says, holds}
+use Rattle.exact.specs.Keys.{Engine, valueAt, sameAs, hasBytes, hasDisc, says, holds}
 use Rattle.exact.specs.Passes.{partBytes}
-use Rattle.exact.specs.Matcher.{Matching, accept, eachMatches, fieldsOf, held, recordMatches, alternativeMatches, unionMatches, recordAt, writtenMatches, slotMatches}
+use Rattle.exact.specs.Matcher.{Matching, accept, eachMatches, held, recordMatches, alternativeMatches, unionMatches, recordAt, writtenMatches, slotMatches}
 use Rattle.exact.proofs.Bytes.{Starts, same-eq}
 use Rattle.exact.proofs.Ends.{Apart}
 use Rattle.exact.proofs.Placing.{Passing, Ready}
-use Rattle.exact.proofs.Quiet.{Clean}
 use Rattle.exact.proofs.Unplaced.{Or, left, right, part-back, held-says}
-use Rattle.exact.proofs.Grows.{built, built-emit, Grows, grows-next, grows-skip, grows-narrow, grows-closer, grows-brings}
+use Rattle.exact.proofs.Grows.{built, built-emit, grows-next, grows-skip, grows-narrow, grows-closer, grows-brings}
 use Rattle.exact.proofs.Constants.{Consts, below, at-int, at-str, at-bytes, not-constant, constant-of, record-constant}
 use Rattle.exact.proofs.Values.{value-field, value-payload}
 use Rattle.exact.proofs.Typed.{of-record}
 use Rattle.exact.proofs.Accepts
 use Rattle.exact.proofs.Accepts.{Facts, held-is, fields-is, chosen, written-is-accepted}
 use Rattle.exact.proofs.ConstSlots.{constant-no-var}
-use Rattle.exact.proofs.Forward.{Final, reached-skip, Walks, goes-each}
+use Rattle.exact.proofs.Forward.{reached-skip, Walks}
 use Rattle.exact.proofs.Names.{IsText}
-use Rattle.exact.proofs.Pieces.{record-node, record-type, Fell, miss-none, fell-skip, noted, no-union, const-choice, const-choice-is, partial-grows}
+use Rattle.exact.proofs.Pieces.{record-node, Fell, miss-none, fell-skip, noted, no-union, const-choice, const-choice-is}
 use Rattle.exact.proofs.Patterns.{ready-tag, emit-bound}
 use Rattle.exact.proofs.Backward.{Some, Given, given-first, given-second, Comes, WalksBack, comes-some, comes-report, comes-agree, comes-narrow, comes-fact, comes-register, comes-own, comes-each}
 

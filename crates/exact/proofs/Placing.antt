@@ -1,23 +1,21 @@
 -- What a level that is being built asks of a key, and what each placement does to it: where the event that is placed holds, the key still passes.
-use mathlib.Core.Bool.{Bool, true, false}
+use mathlib.Core.Bool.{true, false}
 use mathlib.Core.List.{List, [], _∷_, _++_, append-nil, append-assoc}
 use mathlib.Core.Option.{Option, none, some}
 use mathlib.Core.Path.{_≡_, refl, sym, ap, _∙_, subst}
 use Prim.Native.Nat.{ℕ}
 use lib.ListN.{length, drop}
-use lib.Seq.{drop-append-seam}
-use Rattle.rules.specs.Base.{Each, done, more, concatMap}
-use Rattle.rules.specs.File.{Ty, Tables, FieldPath, Anchor}
+use Rattle.rules.specs.Base.{Each, done, concatMap}
+use Rattle.rules.specs.File.{Ty, FieldPath, Anchor}
 use Rattle.rules.specs.Constant.{term}
 use Rattle.rules.specs.Events.{Narrowing}
-use Rattle.rules.specs.Placement.{SeekKeyPart, Part, Residual, Guide, Range, RangeEdge, Edges, SeekBuilder, new, withPart, withResidual, withGuide, withRange, withEdges, withCloser, fall, placePart, placePrefix, rangeAt, attachable, placeFuzzy, placeOwn, placeCloser, foldFrom, placeBound}
+use Rattle.rules.specs.Placement.{SeekKeyPart, Part, Residual, Guide, Range, RangeEdge, Edges, SeekBuilder, new, withPart, withResidual, withGuide, withRange, withCloser, fall, placePart, placePrefix, attachable, placeFuzzy, placeOwn, placeCloser}
 use Rattle.rules.proofs.Cases.{by-test, by-option, ways, true≢false, some≢none, some-injective}
 use Rattle.rules.proofs.Each.{each-snoc}
-use Rattle.exact.specs.Values.{Value, encode}
-use Rattle.exact.specs.Keys.{Engine, stored, begins, holds}
+use Rattle.exact.specs.Values.{Value}
+use Rattle.exact.specs.Keys.{Engine, stored, holds}
 use Rattle.exact.specs.Passes.{partBytes, partsBytes, firstValue, within}
-use Rattle.exact.proofs.Bytes.{Starts, begins-starts, starts-less}
-use Rattle.exact.proofs.Ends.{Apart, Whole, first-value}
+use Rattle.exact.proofs.Bytes.{Starts}
 
 -- what stands while building holds: nothing but parts
 pub record Open (range : Option Range) (guide : Option Guide) (e : Edges) : Type 0 where

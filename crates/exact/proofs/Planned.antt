@@ -2,20 +2,20 @@
 use mathlib.Core.Bool.{Bool, true, false}
 use mathlib.Core.List.{List, [], _∷_, _++_}
 use mathlib.Core.Option.{Option, none, some}
-use mathlib.Core.Path.{_≡_, refl, sym, ap, ap₂, _∙_, subst}
+use mathlib.Core.Path.{_≡_, refl, sym, ap₂, _∙_, subst}
 use Prim.Native.Nat.{ℕ}
 use lib.ListN.{length, drop}
-use Rattle.rules.specs.Base.{Each, done, more, both, all, concatMap}
+use Rattle.rules.specs.Base.{Each, done, more, all, concatMap}
 use Rattle.rules.specs.File.{Tables, Ty}
 use Rattle.rules.specs.Events.{Narrowing}
-use Rattle.rules.specs.Placement.{SeekKeyPart, Part, Residual, Guide, Range, RangeEdge, SeekBuilder, SeekKey, asBytes, joined, nodesOf, unranged, seek, seekKey}
+use Rattle.rules.specs.Placement.{SeekKeyPart, Part, Residual, Guide, Range, RangeEdge, SeekKey, asBytes, joined, nodesOf, unranged, seek, seekKey}
 use Rattle.rules.specs.Levels.{Level}
 use Rattle.rules.specs.Plan.{planLevel}
 use Rattle.rules.proofs.Cases.{by-test, true≢false, some≢none, some-injective, bind-some, both-true, both-left, both-right}
 use Rattle.rules.proofs.Each.{each-passes}
 use Rattle.exact.specs.Values.{Value}
 use Rattle.exact.specs.Keys.{Engine, stored, begins, holds}
-use Rattle.exact.specs.Passes.{partBytes, partsBytes, firstValue, within, seeks, guides, passes}
+use Rattle.exact.specs.Passes.{partBytes, partsBytes, firstValue, seeks, guides, passes}
 use Rattle.exact.proofs.Bytes.{Starts, begins-starts, starts-begins, starts-less}
 use Rattle.exact.specs.Conditions.{HoldsValue, HoldsValues}
 use Rattle.exact.proofs.Placing.{Edged, Passing}

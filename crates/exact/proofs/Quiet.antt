@@ -1,14 +1,14 @@
 -- A read's slot hangs on the bindings alone, and where it reports and selects nothing it leaves the walk as it was.
-use mathlib.Core.Bool.{Bool, true, false}
-use mathlib.Core.List.{List, [], _∷_, _++_}
+use mathlib.Core.Bool.{false}
+use mathlib.Core.List.{List, [], _∷_}
 use mathlib.Core.Option.{Option, none, some}
-use mathlib.Core.Path.{_≡_, refl, sym, ap, _∙_, subst}
+use mathlib.Core.Path.{_≡_, refl, sym, _∙_, subst}
 use Prim.Native.Nat.{ℕ, zero, suc}
 use lib.ListN.{length}
 use Rattle.rules.specs.File.{Tables, Alternative, Node, FieldPath, Slot, Binding, typeAt, nodeAt, factTy, unionTy, isConstant}
 use Rattle.rules.specs.Constant.{alternativeOf}
 use Rattle.rules.specs.Lookup.{fetchedRegister}
-use Rattle.rules.specs.Events.{Code, Select, Diagnostic, Lists, Walk, walkOps, select, report}
+use Rattle.rules.specs.Events.{Code, Select, Walk, walkOps, select, report}
 use Rattle.rules.specs.Resolve.{Answer, Resolver, follow, _whenFound_, give, declined, fetchedRow, dereference, fieldOfRow, fieldSlot, valueSlot, selected, selectSlot, resolveNode, resolveBelow, resolve}
 use Rattle.rules.proofs.Choices.{by-test₂, by-option₂}
 use Rattle.rules.proofs.Lists.{Onwards, onwards-same, onwards-next, onwards-one}

@@ -1,21 +1,21 @@
 -- What every placement does, whatever the key: building never returns, what is folded after the fall stays, and a key that the level keeps after an event was kept
 -- before it.
-use mathlib.Core.Bool.{Bool, true, false}
-use mathlib.Core.List.{List, [], _∷_, _++_, append-assoc}
-use mathlib.Core.Option.{Option, none, some}
-use mathlib.Core.Path.{_≡_, refl, sym, ap, _∙_, subst}
+use mathlib.Core.Bool.{true, false}
+use mathlib.Core.List.{List, [], _∷_, _++_}
+use mathlib.Core.Option.{none, some}
+use mathlib.Core.Path.{_≡_, refl, sym, _∙_, subst}
 use Prim.Native.Nat.{ℕ}
 use Rattle.rules.specs.Base.{Each, done, more}
 use Rattle.rules.specs.File.{Ty, Tables, FieldPath, Anchor}
-use Rattle.rules.specs.Events.{Narrowing, Event}
-use Rattle.rules.specs.Placement.{SeekKeyPart, Part, Residual, Guide, Range, Edges, SeekBuilder, withPart, withResidual, withGuide, withRange, withEdges, withCloser, fall, placePart, placePrefix, attachable, placeFuzzy, placeOwn, placeNarrowing, placeCloser, foldFrom, placeBound, place}
+use Rattle.rules.specs.Events.{Narrowing}
+use Rattle.rules.specs.Placement.{SeekKeyPart, Part, Residual, Range, SeekBuilder, withPart, withResidual, withGuide, withRange, withEdges, withCloser, fall, placePart, placePrefix, attachable, placeFuzzy, placeOwn, placeNarrowing, placeCloser, placeBound}
 use Rattle.rules.proofs.Cases.{by-test, by-option, true≢false, some≢none}
 use Rattle.rules.proofs.Lists.{Onwards, onwards-same, onwards-next, onwards-one}
 use Rattle.exact.specs.Values.{Value}
 use Rattle.exact.specs.Keys.{Engine, stored, holds}
 use Rattle.exact.specs.Passes.{partBytes, partsBytes}
 use Rattle.exact.proofs.Bytes.{Starts, starts-less}
-use Rattle.exact.proofs.Placing.{Open, Edged, edged-none, parts-snoc, Passing, attaches}
+use Rattle.exact.proofs.Placing.{Open, edged-none, parts-snoc, Passing}
 
 -- while building holds nothing stands but parts
 abbrev pub Alone : SeekBuilder → Type 0

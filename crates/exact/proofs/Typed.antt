@@ -1,18 +1,17 @@
 -- Values by their type, and Ints by their bytes.
-use mathlib.Core.Bool.{Bool, true, false}
-use mathlib.Core.List.{List, [], _∷_, _++_, reverse, reverse-cons, reverse-reverse}
-use mathlib.Core.Option.{Option, none, some}
-use mathlib.Core.Path.{_≡_, refl, sym, ap, ap₂, _∙_, subst}
-use Prim.Native.Nat.{ℕ, zero, suc, _+_, _%_, _<_}
+use mathlib.Core.List.{List, [], _∷_, reverse, reverse-cons, reverse-reverse}
+use mathlib.Core.Option.{none, some}
+use mathlib.Core.Path.{_≡_, refl, sym, ap, _∙_, subst}
+use Prim.Native.Nat.{ℕ, _+_, _%_}
 use native.Mathlib.Omega.{arith}
 use lib.ListN.{length}
 use lib.Dec.{eqb}
 use Rattle.rules.specs.Base.{Each, done, more, first}
-use Rattle.rules.specs.File.{Tables, FieldTy, Alternative, Ty, typeAt, recordTy, unionTy, factTy}
+use Rattle.rules.specs.File.{Tables, FieldTy, Alternative, Ty, typeAt}
 use Rattle.rules.specs.Constant.{Const, atInt, atStr, atBytes, flipSign, encodeInt}
 use Rattle.rules.specs.Demand1.{Byte}
-use Rattle.rules.proofs.Cases.{some≢none, some-injective}
-use Rattle.rules.proofs.Each.{each-append, each-snoc}
+use Rattle.rules.proofs.Cases.{some≢none}
+use Rattle.rules.proofs.Each.{each-snoc}
 use Rattle.exact.specs.Values.{Value, Values, _and_, OfType, OfTypes}
 use Rattle.exact.proofs.Unique.{heads, tails}
 

@@ -1,20 +1,17 @@
 -- One value: where the bytes of a value begin with those of another, and it has no zero byte in its texts, the two have the same bytes.
 use mathlib.Core.Bool.{Bool, true, false}
-use mathlib.Core.List.{List, [], _∷_, _++_, append-assoc, append-nil, reverse}
-use mathlib.Core.Option.{Option, none, some}
+use mathlib.Core.List.{List, [], _∷_, _++_, append-assoc, reverse}
 use mathlib.Core.Path.{_≡_, refl, sym, ap, ap₂, _∙_, subst}
 use Prim.Native.Nat.{ℕ, zero, suc, _+_}
-use native.Mathlib.Omega.{arith}
-use lib.ListN.{length, take, drop, length-append, length-reverse}
+use lib.ListN.{length, take, drop, length-reverse}
 use lib.Seq.{take-append-seam, drop-append-seam}
 use lib.Dec.{eqb}
 use borrow.Author.Tests.{eq-eqb}
 use Rattle.rules.specs.Base.{both, all}
-use Rattle.rules.specs.Constant.{bigEndian32, flipSign, encodeInt, escape, term, encodePrefix, encodeStr, encodeBytes, encodeRecord, unionTag, encodeUnion}
-use Rattle.rules.proofs.Cases.{by-test, ways, true≢false, both-left, both-right, both-true}
+use Rattle.rules.specs.Constant.{bigEndian32, encodeInt, escape, term, encodePrefix, encodeStr, encodeBytes, encodeRecord, unionTag, encodeUnion}
+use Rattle.rules.proofs.Cases.{ways, true≢false, both-left, both-right, both-true}
 use Rattle.exact.specs.Values.{Value, Values, _and_, bigEndian64, encodeFact, encode, encodeAll, noZero, zeroFree, allZeroFree}
 use Rattle.exact.specs.Keys.{begins}
-use Rattle.exact.proofs.Bytes.{Starts, starts-begins}
 use Rattle.exact.proofs.Ends.{Apart, Whole, WholeAll, apart-all, flip-length}
 
 -- lists by their first elements

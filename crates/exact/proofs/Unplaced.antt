@@ -6,13 +6,13 @@ use mathlib.Core.Path.{_≡_, refl, sym, ap, _∙_, subst}
 use Prim.Native.Nat.{ℕ}
 use lib.ListN.{length, drop}
 use lib.Seq.{drop-append-seam}
-use Rattle.rules.specs.Base.{Each, done, more, both}
+use Rattle.rules.specs.Base.{Each, more}
 use Rattle.rules.specs.File.{Ty, Tables, FieldPath, Anchor}
 use Rattle.rules.specs.Events.{Narrowing}
-use Rattle.rules.specs.Placement.{SeekKeyPart, Part, Residual, Guide, Range, RangeEdge, Edges, SeekBuilder, withPart, withResidual, withGuide, withRange, withEdges, fall, placePart, placePrefix, attachable, placeFuzzy, placeOwn, foldFrom, placeBound}
+use Rattle.rules.specs.Placement.{SeekKeyPart, RangeEdge, SeekBuilder, withPart, withResidual, withGuide, withRange, withEdges, fall, placePart, placePrefix, attachable, placeFuzzy, placeOwn, foldFrom, placeBound}
 use Rattle.rules.proofs.Cases.{by-test, true≢false, both-left, both-right}
 use Rattle.exact.specs.Values.{Value, encode}
-use Rattle.exact.specs.Keys.{Engine, stored, valueAt, says, holds}
+use Rattle.exact.specs.Keys.{Engine, valueAt, says, holds}
 use Rattle.exact.specs.Passes.{partBytes, partsBytes, firstValue, above, under, within}
 use Rattle.exact.proofs.Bytes.{Starts}
 use Rattle.exact.proofs.Ends.{Apart, Whole, first-value}

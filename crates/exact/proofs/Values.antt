@@ -2,14 +2,14 @@
 use mathlib.Core.Bool.{Bool, true, false}
 use mathlib.Core.List.{List, [], _∷_, _++_}
 use mathlib.Core.Option.{Option, none, some}
-use mathlib.Core.Path.{_≡_, refl, sym, ap, _∙_, subst}
-use Prim.Native.Nat.{ℕ, zero, suc}
+use mathlib.Core.Path.{_≡_, refl, ap, _∙_}
+use Prim.Native.Nat.{ℕ}
 use borrow.Author.Tests.{eq-eqb}
 use lib.Dec.{eqb}
 use Rattle.rules.specs.Base.{_whenSome_}
 use Rattle.rules.specs.File.{Ty, FieldTy, FieldPath, fieldPath, then, payload, recordTy}
 use Rattle.rules.specs.Events.{Narrowing}
-use Rattle.exact.specs.Values.{Value, Values, _and_}
+use Rattle.exact.specs.Values.{Value, Values}
 use Rattle.exact.specs.Keys.{Engine, nth, step, follow, start, valueAt, says, holds}
 
 follow-append : (a b : List ℕ) (found : Option Value) → follow (a ++ b) found ≡ follow b (follow a found)

@@ -3,13 +3,12 @@ use mathlib.Core.Bool.{true}
 use mathlib.Core.List.{List}
 use mathlib.Core.Option.{some}
 use mathlib.Core.Path.{_≡_}
-use Prim.Native.Nat.{ℕ, _<_}
-use lib.ListN.{length}
+use Prim.Native.Nat.{ℕ}
 use Rattle.rules.specs.File.{Tables, Ty, Binding, LevelEntry}
 use Rattle.rules.specs.Levels.{levels}
 use Rattle.rules.specs.Plan.{PlanLevel, planLevel}
 use Rattle.rules.specs.Demand3.{entryAt, levelAt, startOf}
-use Rattle.exact.specs.Values.{Value, OfType}
+use Rattle.exact.specs.Values.{Value}
 use Rattle.exact.specs.Keys.{Engine}
 use Rattle.exact.specs.Passes.{passes}
 use Rattle.exact.specs.Matcher.{keyType, matches}

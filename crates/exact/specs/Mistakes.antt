@@ -1,7 +1,7 @@
 -- Mistakes in placement, planted: each makes a level keep too much or too little, and for each a file and a key show it.
 use mathlib.Core.Bool.{Bool, true, false}
 use mathlib.Core.List.{List, [], _∷_, _++_}
-use mathlib.Core.Option.{Option, none, some}
+use mathlib.Core.Option.{none, some}
 use Prim.Native.Nat.{ℕ, suc}
 use Rattle.rules.specs.Base.{both}
 use Rattle.rules.specs.File.{Tables, Ty, Node, FieldPath, CompareOp, Comparison}

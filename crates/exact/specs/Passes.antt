@@ -8,7 +8,7 @@ use lib.Dec.{eqb, leb}
 use Rattle.rules.specs.Base.{both, _whenSome_ as _>>=_, all, concatMap}
 use Rattle.rules.specs.File.{CompareOp, Ty}
 use Rattle.rules.specs.Events.{Narrowing}
-use Rattle.rules.specs.Placement.{SeekKeyPart, Part, Residual, Guide, RangeEdge, SeekKey}
+use Rattle.rules.specs.Placement.{SeekKeyPart, Part, Guide, RangeEdge, SeekKey}
 use Rattle.rules.specs.Plan.{PlanLevel}
 use Rattle.exact.specs.Values.{Value, encodeFact}
 use Rattle.exact.specs.Keys.{Engine, stored, begins, holds, ordered}

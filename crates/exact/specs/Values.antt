@@ -1,14 +1,14 @@
 -- The values of keys, and their bytes.
 use mathlib.Core.Bool.{Bool, true, false}
 use mathlib.Core.List.{List, [], _∷_, _++_}
-use mathlib.Core.Option.{Option, none, some}
+use mathlib.Core.Option.{some}
 use mathlib.Core.Path.{_≡_}
-use Prim.Native.Nat.{ℕ, zero, suc, _/_, _%_, _<_}
+use Prim.Native.Nat.{ℕ, zero, _/_, _%_, _<_}
 use lib.ListN.{length}
 use lib.Dec.{eqb}
 use Rattle.rules.specs.Base.{Each, both, all, first}
 use Rattle.rules.specs.File.{Tables, FieldTy, Alternative, Ty, typeAt}
-use Rattle.rules.specs.Constant.{term, encodeInt, encodeStr, encodeBytes, encodeRecord, encodeUnion}
+use Rattle.rules.specs.Constant.{encodeInt, encodeStr, encodeBytes, encodeRecord, encodeUnion}
 use Rattle.rules.specs.Demand1.{Byte}
 
 -- An Int is its eight bytes, the lowest first, as in a rule file; a text or byte string is its bytes; a Fact is the number of the fact it
