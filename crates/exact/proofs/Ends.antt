@@ -84,11 +84,6 @@ mutual
   marksAll Values.no-more = 0
   marksAll (v and vs) = marksAll vs + marks v
 
--- the 00 at a record's or union's end
-close-ends : (f o : ℕ) (r : List ℕ) → valueEnd (suc f) (suc o) (0 ∷ r) ≡ ended (valueEnd f) o r
-unfolding valueEnd marked closed
-close-ends f o r = refl
-
 -- each kind, of what stands in it
 abbrev Ends : (marks : ℕ) (bytes : List ℕ) → Type 0
 Ends marks bytes = (g f o : ℕ) (r : List ℕ) → g ≡ f + marks → Apart r → valueEnd g o (bytes ++ r) ≡ ended (valueEnd f) o r

@@ -74,9 +74,6 @@ apart-not [] y a e = subst NotNil e tt
     NotNil (b ∷ bs) = ⊥
 apart-not (b ∷ bs) y a e = differ b 255 bs y a e
 
-eqb-of : (a b c : ℕ) → a ≡ b → eqb a c ≡ false → eqb b c ≡ false
-eqb-of a b c e f = subst (λ n. eqb n c ≡ false) e f
-
 pub text-same : (s w r y : List ℕ) → noZero s ≡ true → Apart r → (escape s ++ term) ++ r ≡ (escape w ++ term) ++ y → Split s w r y
 unfolding escape
 text-same [] [] r y h a e = record { front = refl; back = tails 0 0 r y e }
