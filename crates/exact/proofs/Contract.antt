@@ -62,7 +62,6 @@ module _ (bytes out : List ℕ) (d : Demand3 bytes out) where
         accepted = d .accepted;
         typed = ap anyMistyped (sym same-levels) ∙ p .typed;
         no-diagnostics = ap (λ (l : Lists). l .diagnostics) left ∙ sym (d .holds .diagnostics) ∙ p .no-diagnostics;
-        no-selects = ap (λ (l : Lists). l .selects) left ∙ sym (d .holds .selects) ∙ p .no-selects;
         texts = p .texts;
         own = p .own;
       }

@@ -97,7 +97,7 @@ unfolding constraintsAreTexts keyTypeOf boundBefore planned entryAt starting lev
 adds-none T facts p k h engine key′ held of z q =
     let S = sound T (passed-all T (p .accepted)) in
     let texts = each-imply (λ (c : Constraint) e. text-is (nodeAt T (c .node)) e) (each-passes (λ (c : Constraint). isText (nodeAt T (c .node))) (T .constraints) (p .texts)) in
-    let clean : CleanLists (leftBy (starting T) (levels T)) = record { selects = p .no-selects; diagnostics = p .no-diagnostics } in
+    let clean : CleanLists (leftBy (starting T) (levels T)) = record { diagnostics = p .no-diagnostics } in
     let claim = every-back T facts S texts (starting T) (S .levels) (λ x. refl) (p .own) (none-mistyped (levels T) (p .typed)) clean k h (record { predicate = 0; node = 0; address = 0 }) in
     subst (λ (s : Lists). Claim T facts S texts (entryAt T k) s (levelAt T (levels T) k)) (begins-is T texts (levels T) k) claim engine key′ held of z q
 

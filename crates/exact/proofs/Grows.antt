@@ -123,7 +123,7 @@ module _ (T : Tables) (engine : Engine) (ty : Ty) (key : Value) where
   grows-emit e w s d = record { clean = cleaned; steps = subst (Steps engine ty key (built T w)) (sym (built-emit T e w)) s; consts = same; known = knows }
     where
       cleaned : Clean (emit e w) → Clean w
-      cleaned c = unfold emit in record { selects = c .selects; diagnostics = c .diagnostics; typed = c .typed }
+      cleaned c = unfold emit in record { diagnostics = c .diagnostics; typed = c .typed }
 
       same : SameConsts w (emit e w)
       same x = unfold emit in refl
@@ -172,7 +172,7 @@ module _ (T : Tables) (engine : Engine) (ty : Ty) (key : Value) where
   unfolding emit
   grows-bound x t w slot e =
       record {
-        clean = λ c. record { selects = c .selects; diagnostics = c .diagnostics; typed = c .typed };
+        clean = λ c. record { diagnostics = c .diagnostics; typed = c .typed };
         steps = subst (Steps engine ty key (built T w)) (sym (built-bound x t w)) (steps-bound engine ty key T x t (built T w));
         consts = λ y. refl;
         known = λ k i h. known-bound x t w slot e k i (subst (λ (b : SeekBuilder). Has i (b .edges .folded)) (built-bound x t w) h);
@@ -192,7 +192,7 @@ module _ (T : Tables) (engine : Engine) (ty : Ty) (key : Value) where
   unfolding constrained
   grows-constrained x w =
       record {
-        clean = λ c. record { selects = c .selects; diagnostics = c .diagnostics; typed = c .typed };
+        clean = λ c. record { diagnostics = c .diagnostics; typed = c .typed };
         steps = steps-same engine ty key (built T w);
         consts = λ y. refl;
         known = λ k. k;
@@ -202,7 +202,7 @@ module _ (T : Tables) (engine : Engine) (ty : Ty) (key : Value) where
   unfolding bind
   grows-bind x slot w e k =
       record {
-        clean = λ c. record { selects = c .selects; diagnostics = c .diagnostics; typed = c .typed };
+        clean = λ c. record { diagnostics = c .diagnostics; typed = c .typed };
         steps = steps-same engine ty key (built T w);
         consts = λ y. const-snoc (w .lists .bindings) (record { name = x; slot = slot }) y e k;
         known = λ h i p.
@@ -215,7 +215,7 @@ module _ (T : Tables) (engine : Engine) (ty : Ty) (key : Value) where
   unfolding brings
   grows-brings slot u w =
       record {
-        clean = λ c. record { selects = c .selects; diagnostics = c .diagnostics; typed = either-left (w .mistyped) (isMistyped T slot u) (c .typed) };
+        clean = λ c. record { diagnostics = c .diagnostics; typed = either-left (w .mistyped) (isMistyped T slot u) (c .typed) };
         steps = steps-same engine ty key (built T w);
         consts = λ x. refl;
         known = λ k. k;

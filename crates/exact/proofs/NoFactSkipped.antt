@@ -68,9 +68,8 @@ text-is (Node.Fact p n) e = absurd (true≢false (sym e))
 text-is Node.Arith e = absurd (true≢false (sym e))
 text-is Node.Error e = absurd (true≢false (sym e))
 
--- no diagnostics and no selects so far
+-- no diagnostics so far
 pub record CleanLists (l : Lists) : Type 0 where
-  pub selects : l .selects ≡ []
   pub diagnostics : l .diagnostics ≡ []
 
 module _ (T : Tables) (texts : Each (λ (k : Constraint). IsText (nodeAt T (k .node))) (T .constraints)) where
@@ -87,7 +86,7 @@ module _ (T : Tables) (texts : Each (λ (k : Constraint). IsText (nodeAt T (k .n
   -- what a level's walk leaves is clean
   pub clean-walk : (l : LevelEntry) (start : Lists) → CleanLists (level T l start .left) → level T l start .mistyped ≡ false → Clean (walkLevel T l start)
   unfolding level levelOf
-  clean-walk l start c m = record { selects = c .selects; diagnostics = c .diagnostics; typed = m }
+  clean-walk l start c m = record { diagnostics = c .diagnostics; typed = m }
 
   pub one-level : (l : LevelEntry) (start : Lists) → isOwn (nodeAt T (l .node)) (keyType T l) (start .bindings) ≡ true → SameBound (start .bindings) → CleanLists (level T l start .left) → level T l start .mistyped ≡ false
       → (engine : Engine) (key′ : Value) → OfType T key′ (keyType T l) → (after : List Binding) → matches T engine l (planLevel (level T l start) .folded) (start .bindings) key′ ≡ some after
@@ -119,7 +118,7 @@ module _ (T : Tables) (texts : Each (λ (k : Constraint). IsText (nodeAt T (k .n
   clean-before start (l ∷ ls) own (more t typed) clean =
       let o = both-left (isOwn (nodeAt T (l .node)) (keyType T l) (start .bindings)) (ownNodes T (level T l start .left) ls) own in
       let c = grows-level l start o .clean (clean-walk l start (clean-before (level T l start .left) ls (both-right (isOwn (nodeAt T (l .node)) (keyType T l) (start .bindings)) _ own) typed clean) t) in
-      record { selects = c .selects; diagnostics = c .diagnostics }
+      record { diagnostics = c .diagnostics }
 
   -- level k of a list that begins from `start`
   unfoldable pub begins : Lists → List Level → ℕ → Lists
@@ -170,7 +169,7 @@ pub skips-none : (T : Tables) → Plain T → (k : ℕ) → k < length (T .level
 unfolding constraintsAreTexts keyTypeOf boundBefore planned entryAt starting levels plan planOf
 skips-none T p k h engine key′ of after m =
     let texts = each-imply (λ (c : Constraint) e. text-is (nodeAt T (c .node)) e) (each-passes (λ (c : Constraint). isText (nodeAt T (c .node))) (T .constraints) (p .texts)) in
-    let clean : CleanLists (leftBy (starting T) (levels T)) = record { selects = p .no-selects; diagnostics = p .no-diagnostics } in
+    let clean : CleanLists (leftBy (starting T) (levels T)) = record { diagnostics = p .no-diagnostics } in
     let claim = every-level T texts (starting T) (T .levels) (λ x. refl) (p .own) (none-mistyped (levels T) (p .typed)) clean k h (record { predicate = 0; node = 0; address = 0 }) in
     subst (λ (s : Lists). Claim T texts (entryAt T k) s (levelAt T (levels T) k)) (begins-is T texts (levels T) k) claim engine key′ of after m
 

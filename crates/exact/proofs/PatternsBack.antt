@@ -80,7 +80,7 @@ module _ (T : Tables) (facts : Facts T) (engine : Engine) (address : ℕ) (ty : 
         record {
           back = λ v s of z ap′ at rd gv.
               let clean = goes-answer T engine address ty key folded texts limit goes n t path w u m a′ (resolve (walkOps T) T n w .slot) found .grows .clean (gv .clean) in
-              let d = ap (λ (x : Walk). length (x .lists .diagnostics)) (r .same clean) in
+              let d = ap length (r .reported clean) in
               comes-from T engine address ty key folded w u _ path t m (grows-read T engine ty key n w) (r .events)
               (comes-answer n t path w u m l d a′ h (resolve (walkOps T) T n w .slot) found) .back v s of z ap′ at rd gv;
         }

@@ -1,4 +1,4 @@
--- A read's slot hangs on the bindings alone, and where it reports and selects nothing it leaves the walk as it was.
+-- A read's slot hangs on the bindings alone, and a read adds selects and diagnostics and nothing else.
 use mathlib.Core.Bool.{false}
 use mathlib.Core.List.{List, [], _∷_}
 use mathlib.Core.Option.{Option, none, some}
@@ -14,9 +14,8 @@ use Rattle.rules.proofs.Choices.{by-test₂, by-option₂}
 use Rattle.rules.proofs.Lists.{Onwards, onwards-same, onwards-next, onwards-one}
 use Rattle.exact.specs.Matcher.{quiet, slotOf}
 
--- no diagnostics and no selects, and no constant was brought to a type that gives it no bytes
+-- no diagnostics, and no constant was brought to a type that gives it no bytes
 pub record Clean (w : Walk) : Type 0 where
-  pub selects : w .lists .selects ≡ []
   pub diagnostics : w .lists .diagnostics ≡ []
   pub typed : w .mistyped ≡ false
 
@@ -33,10 +32,8 @@ record Beside (w : Walk) (a : Answer Walk) (c : Answer (List Binding)) : Type 0 
   slot : c .slot ≡ a .slot
   kept : c .walk ≡ w .lists .bindings
   bindings : a .walk .lists .bindings ≡ w .lists .bindings
-  constrained : a .walk .lists .constrained ≡ w .lists .constrained
   events : a .walk .events ≡ w .events
   mistyped : a .walk .mistyped ≡ w .mistyped
-  selects : Onwards (w .lists .selects) (a .walk .lists .selects)
   diagnostics : Onwards (w .lists .diagnostics) (a .walk .lists .diagnostics)
 
 abbrev Reads : Resolver Walk → Resolver (List Binding) → Type 0
@@ -45,7 +42,7 @@ Reads r r′ = (w : Walk) → Beside w (r w) (r′ (w .lists .bindings))
 reads-give : (s : Option Slot) → Reads (give s) (give s)
 unfolding give
 reads-give s w =
-    record { slot = refl; kept = refl; bindings = refl; constrained = refl; events = refl; mistyped = refl; selects = onwards-same (w .lists .selects); diagnostics = onwards-same (w .lists .diagnostics) }
+    record { slot = refl; kept = refl; bindings = refl; events = refl; mistyped = refl; diagnostics = onwards-same (w .lists .diagnostics) }
 
 beside-next : (u : Walk) (a b : Answer Walk) (c d : Answer (List Binding)) → Beside u a c → Beside (a .walk) b d → Beside u b d
 beside-next u a b c d g h =
@@ -53,10 +50,8 @@ beside-next u a b c d g h =
       slot = h .slot;
       kept = h .kept ∙ g .bindings;
       bindings = h .bindings ∙ g .bindings;
-      constrained = h .constrained ∙ g .constrained;
       events = h .events ∙ g .events;
       mistyped = h .mistyped ∙ g .mistyped;
-      selects = onwards-next (u .lists .selects) (a .walk .lists .selects) (b .walk .lists .selects) (g .selects) (h .selects);
       diagnostics = onwards-next (u .lists .diagnostics) (a .walk .lists .diagnostics) (b .walk .lists .diagnostics) (g .diagnostics) (h .diagnostics);
     }
 
@@ -75,7 +70,7 @@ module _ (T : Tables) where
   reads-declined : (n : ℕ) (code : Code) → Reads (declined (walkOps T) T n code) (declined quiet T n code)
   unfolding declined report
   reads-declined n code w =
-      record { slot = refl; kept = refl; bindings = refl; constrained = refl; events = refl; mistyped = refl; selects = onwards-same (w .lists .selects); diagnostics = onwards-one (w .lists .diagnostics) (record { node = n; code = code }) }
+      record { slot = refl; kept = refl; bindings = refl; events = refl; mistyped = refl; diagnostics = onwards-one (w .lists .diagnostics) (record { node = n; code = code }) }
 
   reads-fetched : (n p : ℕ) (register : Option ℕ) → Reads (fetchedRow (walkOps T) T n p register) (fetchedRow quiet T n p register)
   unfolding fetchedRow
@@ -124,7 +119,7 @@ module _ (T : Tables) where
   unfolding selected select
   reads-selected n path none = reads-give none
   reads-selected n path (some alt) = λ w.
-      record { slot = refl; kept = refl; bindings = refl; constrained = refl; events = refl; mistyped = refl; selects = onwards-one (w .lists .selects) (record { address = n; path = path; disc = alt .disc }); diagnostics = onwards-same (w .lists .diagnostics) }
+      record { slot = refl; kept = refl; bindings = refl; events = refl; mistyped = refl; diagnostics = onwards-same (w .lists .diagnostics) }
 
   reads-select : (n : ℕ) (s : Slot) (x : ℕ) → Reads (selectSlot (walkOps T) T n s x) (selectSlot quiet T n s x)
   unfolding selectSlot
@@ -146,7 +141,7 @@ module _ (T : Tables) where
   reads-node below below′ h n (Node.Int bytes) = reads-give none
   reads-node below below′ h n (Node.Str x) = reads-give none
   reads-node below below′ h n (Node.Bytes bytes) = reads-give none
-  reads-node below below′ h n (Node.Var x) = λ w. record { slot = refl; kept = refl; bindings = refl; constrained = refl; events = refl; mistyped = refl; selects = onwards-same (w .lists .selects); diagnostics = onwards-same (w .lists .diagnostics) }
+  reads-node below below′ h n (Node.Var x) = λ w. record { slot = refl; kept = refl; bindings = refl; events = refl; mistyped = refl; diagnostics = onwards-same (w .lists .diagnostics) }
   reads-node below below′ h n Node.Wildcard = reads-give none
   reads-node below below′ h n Node.Never = reads-give none
   reads-node below below′ h n (Node.Prefix x) = reads-give none
@@ -157,7 +152,7 @@ module _ (T : Tables) where
   reads-node below below′ h n (Node.Select x base) = reads-base below below′ h n base (λ place. selectSlot (walkOps T) T n place x) (λ place. selectSlot quiet T n place x) (λ s. reads-select n s x)
   reads-node below below′ h n Node.Disjunction = reads-give none
   reads-node below below′ h n Node.Subquery = reads-give none
-  reads-node below below′ h n (Node.Fact p key′) = λ w. record { slot = refl; kept = refl; bindings = refl; constrained = refl; events = refl; mistyped = refl; selects = onwards-same (w .lists .selects); diagnostics = onwards-same (w .lists .diagnostics) }
+  reads-node below below′ h n (Node.Fact p key′) = λ w. record { slot = refl; kept = refl; bindings = refl; events = refl; mistyped = refl; diagnostics = onwards-same (w .lists .diagnostics) }
   reads-node below below′ h n Node.Arith = reads-give none
   reads-node below below′ h n Node.Error = reads-give none
 
@@ -173,23 +168,18 @@ module _ (T : Tables) where
     pub bindings : resolve (walkOps T) T n w .walk .lists .bindings ≡ w .lists .bindings
     pub events : resolve (walkOps T) T n w .walk .events ≡ w .events
     pub clean : Clean (resolve (walkOps T) T n w .walk) → Clean w
-    pub same : Clean (resolve (walkOps T) T n w .walk) → resolve (walkOps T) T n w .walk ≡ w
-
-  -- a walk by its parts
-  walk-is : (a w : Walk) → a .lists .bindings ≡ w .lists .bindings → a .lists .constrained ≡ w .lists .constrained → a .lists .selects ≡ w .lists .selects → a .lists .diagnostics ≡ w .lists .diagnostics → a .events ≡ w .events → a .mistyped ≡ w .mistyped → a ≡ w
-  walk-is a w b c s d e m = λ i. record { lists = record { bindings = b i; constrained = c i; selects = s i; diagnostics = d i }; events = e i; mistyped = m i }
+    pub reported : Clean (resolve (walkOps T) T n w .walk) → resolve (walkOps T) T n w .walk .lists .diagnostics ≡ w .lists .diagnostics
 
   pub read-is : (n : ℕ) (w : Walk) → Read n w
   unfolding resolve slotOf
   read-is n w =
       let p = reads-below (length (T .nodes)) n w in
       let a : Walk = resolve (walkOps T) T n w .walk in
-      let s : Clean a → w .lists .selects ≡ [] = λ k. onwards-nil (w .lists .selects) (a .lists .selects) (p .selects) (k .selects) in
       let d : Clean a → w .lists .diagnostics ≡ [] = λ k. onwards-nil (w .lists .diagnostics) (a .lists .diagnostics) (p .diagnostics) (k .diagnostics) in
       record {
         slot = sym (p .slot);
         bindings = p .bindings;
         events = p .events;
-        clean = λ k. record { selects = s k; diagnostics = d k; typed = sym (p .mistyped) ∙ k .typed };
-        same = λ k. walk-is a w (p .bindings) (p .constrained) (k .selects ∙ sym (s k)) (k .diagnostics ∙ sym (d k)) (p .events) (p .mistyped);
+        clean = λ k. record { diagnostics = d k; typed = sym (p .mistyped) ∙ k .typed };
+        reported = λ k. k .diagnostics ∙ sym (d k);
       }

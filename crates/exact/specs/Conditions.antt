@@ -70,13 +70,12 @@ unfoldable pub ownNodes : Tables → Lists → List LevelEntry → Bool
 ownNodes T start [] = true
 ownNodes T start (l ∷ ls) = both (isOwn (nodeAt T (l .node)) (keyType T l) (start .bindings)) (ownNodes T (level T l start .left) ls)
 
--- "an accepted file without diagnostics and selects": it passed the checks 8 to 14, and no level's walk brings a constant to a type that
--- gives it no bytes, which is refusal 19
+-- "an accepted file without diagnostics": it passed the checks 8 to 14, and no level's walk brings a constant to a type that gives it no
+-- bytes, which is refusal 19. 02 asks for no selects too; nothing here needs that.
 pub record Plain (T : Tables) : Type 0 where
   pub accepted : fault checks T ≡ none
   pub typed : anyMistyped (levels T) ≡ false
   pub no-diagnostics : plan T .diagnostics ≡ []
-  pub no-selects : plan T .selects ≡ []
   pub texts : constraintsAreTexts T ≡ true
   pub own : ownNodes T (starting T) (T .levels) ≡ true
 
@@ -84,7 +83,6 @@ pub record Plain (T : Tables) : Type 0 where
 pub record PlainPlan (bytes out : List ℕ) (d : Demand3 bytes out) : Type 0 where
   pub typed : anyMistyped (d .levels) ≡ false
   pub no-diagnostics : d .plan .diagnostics ≡ []
-  pub no-selects : d .plan .selects ≡ []
   pub texts : constraintsAreTexts (d .tables) ≡ true
   pub own : ownNodes (d .tables) (starting (d .tables)) (d .tables .levels) ≡ true
 

@@ -211,7 +211,7 @@ isPlain T =
     both (same (isSome (fault checks T)) false)
     (both (same (anyMistyped (levels T)) false)
     (both (isEmpty (plan T .diagnostics))
-    (both (isEmpty (plan T .selects)) (both (constraintsAreTexts T) (ownNodes T (starting T) (T .levels))))))
+    (both (constraintsAreTexts T) (ownNodes T (starting T) (T .levels)))))
 
 -- the rules, opened for computing
 unfoldable pub openExact : Unit {0}
