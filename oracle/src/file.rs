@@ -70,7 +70,7 @@ pub enum Node {
     Error,
 }
 
-#[derive(Debug, Clone, PartialEq, Eq)]
+#[derive(Debug, Clone, PartialEq, Eq, PartialOrd, Ord)]
 pub struct Path {
     pub field: u16,
     pub steps: Vec<u32>,

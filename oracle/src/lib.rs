@@ -10,6 +10,7 @@ pub mod compare;
 pub mod compile;
 pub mod coverage;
 pub mod draw;
+pub mod exact;
 pub mod file;
 pub mod fixed;
 pub mod literal;

@@ -9,6 +9,8 @@ pub mod names;
 mod own_row;
 mod pattern;
 mod place;
+mod plain;
+mod plain_pattern;
 pub mod plans;
 mod query;
 mod schema;
@@ -24,6 +26,8 @@ use crate::write::write;
 /// that many: finding a truncation takes longer the later it comes.
 const SWEEP: u64 = 50;
 const TRUNCATIONS: u64 = 4_000;
+/// Keeps the draws of plain files apart from those of all.
+const PLAIN: u64 = 0x0070_6C61_696E;
 
 /// The bytes of file `index` of a seed.
 pub fn file(seed: u64, index: u64) -> Vec<u8> {
@@ -39,6 +43,13 @@ pub fn file(seed: u64, index: u64) -> Vec<u8> {
         4 => fault_file(&mut rng),
         _ => damage::damaged(&mut rng),
     }
+}
+
+/// The bytes of file `index` of a seed, of those drawn so that their plans have no
+/// diagnostics and no selects; some have them all the same.
+pub fn plain_file(seed: u64, index: u64) -> Vec<u8> {
+    let mut rng = Rng::new(seed ^ PLAIN, index);
+    write(&plain::plain(&mut rng))
 }
 
 /// All files of a seed, in order.

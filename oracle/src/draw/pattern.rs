@@ -215,7 +215,7 @@ impl Draft<'_> {
         self.push(Node::Fuzzy(name, distance as u8, anchor))
     }
 
-    fn byte_string(&mut self) -> u16 {
+    pub fn byte_string(&mut self) -> u16 {
         let length = self.rng.weighted(&[15, 30, 30, 15, 10]);
         let byte = |draft: &mut Self| match draft.rng.below(4) {
             0 => 0,

@@ -17,13 +17,7 @@ pub struct Draft<'a> {
 
 pub fn query(rng: &mut Rng) -> RuleFile {
     let size = Size::draw(rng);
-    let file = schema::draw(rng, size);
-    let mut draft = Draft {
-        rng,
-        file,
-        env: vec![],
-        most_nodes: size.nodes,
-    };
+    let mut draft = Draft::new(rng, size);
     draft.bindings(size.entries);
     draft.levels(size.levels);
     draft.constraints(size.entries);
@@ -31,6 +25,19 @@ pub fn query(rng: &mut Rng) -> RuleFile {
     draft.noise();
     draft.trim();
     draft.file
+}
+
+impl<'a> Draft<'a> {
+    /// Names, types and predicates, and nothing that uses them.
+    pub fn new(rng: &'a mut Rng, size: Size) -> Self {
+        let file = schema::draw(rng, size);
+        Self {
+            rng,
+            file,
+            env: vec![],
+            most_nodes: size.nodes,
+        }
+    }
 }
 
 impl Draft<'_> {
@@ -105,7 +112,7 @@ impl Draft<'_> {
         }
     }
 
-    fn field_slot(&mut self, address: u16) -> Slot {
+    pub fn field_slot(&mut self, address: u16) -> Slot {
         let ty = self.place_type();
         let room = MAX_DEPTH - depths(&self.file.types)[ty as usize];
         let steps = match self.rng.weighted(&[57, 25, 10, 3, 5]) {
@@ -326,7 +333,7 @@ impl Draft<'_> {
     }
 
     /// Within the sections' limits, whatever was drawn.
-    fn trim(&mut self) {
+    pub fn trim(&mut self) {
         self.file.hoisted.truncate(LIMITS[5]);
         self.file.fetched.truncate(LIMITS[6]);
     }
