@@ -2,7 +2,10 @@
 //! papers, in one process; see docs/ORACLE.md.
 
 mod call;
+mod exact;
 mod lent;
+#[cfg(test)]
+mod mistakes;
 mod names;
 mod opened;
 mod plans;
@@ -11,7 +14,9 @@ mod run;
 use std::process::ExitCode;
 
 use oracle::HAS_BODIES;
+use oracle::exact::passes::passes;
 
+use exact::Exact;
 use names::Names;
 use plans::Plans;
 use run::{Outcome, Run};
@@ -19,13 +24,14 @@ use run::{Outcome, Run};
 const USAGE: &str = "usage:
   beside SEED COUNT         drawn files, compiled
   beside plans SEED COUNT   the plans of drawn files, and bytes drawn around them, read
-  beside names SEED COUNT   names of up to three bytes, all of them, and longer ones drawn";
+  beside names SEED COUNT   names of up to three bytes, all of them, and longer ones drawn
+  beside exact SEED COUNT   the levels of drawn files, each with drawn keys: what passes is what matches";
 
 fn main() -> ExitCode {
     let arguments: Vec<String> = std::env::args().skip(1).collect();
     let words: Vec<&str> = arguments.iter().map(String::as_str).collect();
     let (what, numbers) = match words.as_slice() {
-        [what @ ("plans" | "names"), rest @ ..] => (*what, numbers(rest)),
+        [what @ ("plans" | "names" | "exact"), rest @ ..] => (*what, numbers(rest)),
         rest => ("files", numbers(rest)),
     };
     let Some((seed, count)) = numbers else {
@@ -35,6 +41,7 @@ fn main() -> ExitCode {
     match what {
         "plans" => return oracle::on_large_stack(move || read(seed, count)),
         "names" => return judge(seed, count),
+        "exact" => return oracle::on_large_stack(move || keep(seed, count)),
         _ => {}
     }
     if !HAS_BODIES {
@@ -70,6 +77,20 @@ fn judge(seed: u64, count: u64) -> ExitCode {
     let compile = sinalvento::call;
     let names = Names { compile, seed };
     ended(&names.run(3, count, |shown| println!("{shown}")))
+}
+
+fn keep(seed: u64, count: u64) -> ExitCode {
+    let exact = Exact {
+        compile: sinalvento::call,
+        passes: &passes,
+        seed,
+    };
+    let outcome = exact.run(count, |shown| println!("{shown}"));
+    println!("{outcome}");
+    if outcome.is_good() {
+        return ExitCode::SUCCESS;
+    }
+    ExitCode::FAILURE
 }
 
 fn ended(outcome: &Outcome) -> ExitCode {

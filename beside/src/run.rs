@@ -193,13 +193,13 @@ pub fn plan_kind(buffer: usize, plan: usize) -> &'static str {
 }
 
 #[cfg(test)]
-mod tests {
+pub mod tests {
     use super::*;
     use oracle::run::Why;
     use oracle::{HAS_BODIES, on_large_stack};
 
     /// The bodies behind the exported function's form.
-    fn bodies(file: &[u8], plan: &mut [u8], work: &mut [u8]) -> u64 {
+    pub fn bodies(file: &[u8], plan: &mut [u8], work: &mut [u8]) -> u64 {
         plan.fill(0);
         work.fill(0);
         match oracle::compile(file, plan.len(), work.len()) {

@@ -39,8 +39,18 @@ fn drawn_plans_agree() {
 }
 
 #[test]
+fn what_passes_is_what_matches() {
+    let output = beside(&["exact", "4", "1000"]);
+    let printed = String::from_utf8_lossy(&output.stdout).into_owned();
+    let last = printed.lines().last().unwrap_or_default();
+    assert!(last.ends_with(" accepted, 0 different"), "{printed}");
+    assert_eq!(output.status.code(), Some(0));
+}
+
+#[test]
 fn unknown_words_are_refused() {
     assert_eq!(beside(&[]).status.code(), Some(2));
     assert_eq!(beside(&["1", "many"]).status.code(), Some(2));
     assert_eq!(beside(&["plans", "1"]).status.code(), Some(2));
+    assert_eq!(beside(&["exact", "1"]).status.code(), Some(2));
 }
