@@ -6,7 +6,7 @@ use std::fmt;
 
 use oracle::compile::{front, hex};
 use oracle::draw;
-use oracle::exact::pairs::{Answers, Pair, Passes, Trial};
+use oracle::exact::pairs::{Answers, Pair, Passes, Trial, asks};
 use oracle::file::{MAX_PLAN, MIN_WORK, RuleFile};
 use oracle::plan::{Level, Plan, ResidualOp, Seek};
 use oracle::reread::form;
@@ -41,7 +41,7 @@ pub struct Counted {
 #[derive(Default)]
 pub struct Outcome {
     pub files: usize,
-    /// Files that meet the conditions, and levels of them that have drawn keys.
+    /// Files that meet the conditions.
     pub met: usize,
     pub zero_free: Counted,
     pub with_zeros: Counted,
@@ -51,7 +51,7 @@ pub struct Outcome {
     pub different: usize,
     /// Files whose bindings by the matcher are not the plan's.
     pub misbound: usize,
-    /// Pairs of keys without zero bytes, by what their level has.
+    /// Pairs of keys without zero bytes, by what the level asks and by the key's origin.
     pub kinds: BTreeMap<String, Counted>,
 }
 
@@ -67,7 +67,7 @@ impl Outcome {
         self.different + self.misbound == 0
     }
 
-    fn add(&mut self, level: &Level, answers: Answers) {
+    fn add(&mut self, level: &Level, pair: &Pair, answers: Answers) {
         self.different += usize::from(answers.differ());
         if !answers.zero_free {
             self.with_zeros.add(answers.matches);
@@ -75,7 +75,8 @@ impl Outcome {
             return;
         }
         self.zero_free.add(answers.matches);
-        for kind in kinds(level) {
+        let origin = format!("key {:?}", pair.origin);
+        for kind in kinds(level).into_iter().chain([origin]) {
             self.kinds.entry(kind).or_default().add(answers.matches);
         }
     }
@@ -118,10 +119,7 @@ fn kinds(level: &Level) -> Vec<String> {
             found.push(kind.to_string());
         }
     };
-    add(
-        "nothing asked",
-        level.narrowings == 0 && level.folded.is_empty(),
-    );
+    add("nothing asked", !asks(level));
     add("a closer", level.closers > 0);
     add("a guide", level.guide.is_some());
     for number in 0..=6 {
@@ -162,7 +160,7 @@ impl Exact<'_> {
             outcome.misbound += usize::from(!trial.bindings_agree());
             trial.pairs(&mut self.keys(index), |pair| {
                 let answers = trial.answers(&pair, self.passes);
-                outcome.add(&plan.levels[pair.level], answers);
+                outcome.add(&plan.levels[pair.level], &pair, answers);
             });
             if outcome.different + outcome.misbound > before && shown < SHOWN {
                 shown += 1;
@@ -261,11 +259,11 @@ pub mod tests {
     }
 
     /// Nothing differs, and both answers are common for all that a level can ask.
-    fn assert_good(compile: Call, last_op: u8) {
+    fn assert_good(compile: Call) {
         let (outcome, shown) = run(compile, passes);
         assert!(outcome.is_good(), "{}\n{outcome}", shown[0]);
         assert!(outcome.met > FILES as usize / 2, "{outcome}");
-        let ops = (0..=last_op).map(|op| format!("residual op {op}"));
+        let ops = (0..=6).map(|op| format!("residual op {op}"));
         let seeks = ["Prefix", "Composite", "PrefixRange", "Bounded"];
         let seeks = seeks.map(|seek| format!("seek {seek}"));
         let rest = ["a closer", "a guide"].map(String::from);
@@ -281,14 +279,13 @@ pub mod tests {
 
     #[test]
     fn the_exported_function_keeps_what_matches() {
-        assert_good(sinalvento::call, 5);
+        assert_good(sinalvento::call);
     }
 
-    /// Equal fields of one row among them.
     #[test]
     fn the_bodies_keep_what_matches() {
         if HAS_BODIES {
-            assert_good(bodies, 6);
+            assert_good(bodies);
         }
     }
 

@@ -116,7 +116,7 @@ impl Draft<'_> {
         let texts = self.captures().into_iter().filter(|(_, ty)| is_text(*ty));
         let mut names: Vec<u16> = texts.map(|(name, _)| name).collect();
         if self.rng.chance(25) {
-            names.extend(self.file.bindings.iter().map(|binding| binding.name));
+            names.extend(self.unread());
         }
         if names.is_empty() || self.rng.chance(25) {
             return;
@@ -129,6 +129,15 @@ impl Draft<'_> {
             };
             self.file.constraints.push(Constraint { name, node });
         }
+    }
+
+    /// The names whose constraints no level reads: starting ones, and whole keys.
+    fn unread(&self) -> Vec<u16> {
+        let starting = self.file.bindings.len();
+        let whole = |slot: &Slot| matches!(slot, Slot::Key(..));
+        let names = self.env.iter().enumerate();
+        let names = names.filter(|(at, (_, slot))| *at < starting || whole(slot));
+        names.map(|(_, (name, _))| *name).collect()
     }
 
     fn plain_comparisons(&mut self, entries: usize) {

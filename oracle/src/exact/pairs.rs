@@ -14,19 +14,30 @@ use super::value::Value;
 /// The form of [`super::passes::passes`].
 pub type Passes = dyn Fn(&Level, &Value, &Given) -> bool;
 
-/// Times that each level is given registers and a rule, and keys for each of them:
-/// built after the pattern, changed in one place, random.
+/// How often a level that asks something is given registers and a rule.
 const GIVEN: usize = 3;
+/// Keys of each origin for each of these.
 const BUILT: usize = 3;
 const CHANGED: usize = 3;
 const RANDOM: usize = 1;
 /// Levels whose keys may be larger are left out.
 const LARGEST: usize = 300;
 
+/// How a key was drawn.
+#[derive(Debug, Clone, Copy, PartialEq, Eq)]
+pub enum Origin {
+    /// After the level's pattern.
+    Built,
+    /// Such a key, changed in one place.
+    Changed,
+    Random,
+}
+
 /// A level, a key, and what both are tried with.
 #[derive(Debug, Clone)]
 pub struct Pair {
     pub level: usize,
+    pub origin: Origin,
     pub key: Value,
     pub given: Given,
 }
@@ -120,27 +131,27 @@ impl<'a> Trial<'a> {
     /// Pairs drawn for each level that has keys.
     pub fn pairs(&self, rng: &mut Rng, mut visit: impl FnMut(Pair)) {
         let sizes = sizes(&self.tables.file.types);
-        for at in 0..self.tables.file.levels.len() {
-            let level = &self.tables.file.levels[at];
+        let levels = self.tables.file.levels.iter().zip(&self.plan.levels);
+        for (at, (level, planned)) in levels.enumerate() {
             let ty = self.tables.key_type(level);
             if sizes[usize::from(ty)].is_none_or(|size| size > LARGEST) {
                 continue;
             }
-            for _ in 0..GIVEN {
+            for _ in 0..if asks(planned) { GIVEN } else { 1 } {
                 let mut keys = Keys {
                     tables: &self.tables,
                     level,
-                    folded: &self.plan.levels[at].folded,
+                    folded: &planned.folded,
                     sizes: &sizes,
                     given: Given::new(rule(rng)),
                     rng,
                 };
-                for key in drawn(&mut keys, &self.before[at], ty) {
-                    let given = keys.given.clone();
+                for (origin, key) in drawn(&mut keys, &self.before[at], ty) {
                     visit(Pair {
                         level: at,
+                        origin,
                         key,
-                        given,
+                        given: keys.given.clone(),
                     });
                 }
             }
@@ -148,11 +159,18 @@ impl<'a> Trial<'a> {
     }
 }
 
-fn drawn(keys: &mut Keys, before: &[Binding], ty: u16) -> Vec<Value> {
-    let mut found: Vec<Value> = (0..BUILT).map(|_| keys.built(before)).collect();
+/// Whether a level asks anything of its keys.
+pub fn asks(level: &Level) -> bool {
+    level.narrowings > 0 || !level.folded.is_empty()
+}
+
+fn drawn(keys: &mut Keys, before: &[Binding], ty: u16) -> Vec<(Origin, Value)> {
+    let built: Vec<Value> = (0..BUILT).map(|_| keys.built(before)).collect();
+    let mut found = vec![];
     for at in 0..CHANGED {
-        found.push(keys.changed(&found[at % BUILT].clone(), ty));
+        found.push((Origin::Changed, keys.changed(&built[at % BUILT], ty)));
     }
-    found.extend((0..RANDOM).map(|_| keys.random()));
+    found.extend((0..RANDOM).map(|_| (Origin::Random, keys.random())));
+    found.extend(built.into_iter().map(|key| (Origin::Built, key)));
     found
 }
