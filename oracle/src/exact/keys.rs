@@ -109,8 +109,9 @@ impl Keys<'_> {
                 self.alternative(entries, alts, ty, path, build)
             }
             (Node::Prefix(_) | Node::Fuzzy(..), Type::Str) => {
+                let pattern = tables.node(node);
                 let new = |keys: &mut Self| keys.text_after(node);
-                self.tried(new, |_, _| true)
+                self.tried(new, |matcher, value| matcher.accepts_text(pattern, value))
             }
             (Node::Var(name), _) if lookup(*name, &build.bindings).is_none() => {
                 let slot = Slot::Field(self.level.address, path, ty);

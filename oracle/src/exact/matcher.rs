@@ -66,7 +66,7 @@ impl Matcher<'_> {
     }
 
     /// A Prefix or a Fuzzy; other nodes are none of a constraint's here.
-    fn accepts_text(&self, node: &Node, value: &Value) -> bool {
+    pub fn accepts_text(&self, node: &Node, value: &Value) -> bool {
         let Value::Str(text) = value else {
             return false;
         };
