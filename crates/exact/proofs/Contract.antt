@@ -60,7 +60,7 @@ module _ (bytes out : List ℕ) (d : Demand3 bytes out) where
       left-is T (starting T) (levels T) ∙ start-is T (levels T) ∙ ap (λ (ls : List Level). startOf T ls (length ls)) (sym same-levels) in
       record {
         accepted = d .accepted;
-        typed = ap anyMistyped (sym same-levels) ∙ p .typed;
+        typed = ap anyMistyped (sym same-levels) ∙ d .none-mistyped;
         no-diagnostics = ap (λ (l : Lists). l .diagnostics) left ∙ sym (d .holds .diagnostics) ∙ p .no-diagnostics;
         texts = p .texts;
         own = p .own;

@@ -79,9 +79,9 @@ pub record Plain (T : Tables) : Type 0 where
   pub texts : constraintsAreTexts T ≡ true
   pub own : ownNodes T (starting T) (T .levels) ≡ true
 
--- The same of a call that wrote a plan: `Demand3` is what the exported function's contract gives of the file's bytes and the plan's.
+-- The same of a call that wrote a plan: `Demand3` is what the exported function's contract gives of the file's bytes and the plan's, and
+-- it says that the file was accepted.
 pub record PlainPlan (bytes out : List ℕ) (d : Demand3 bytes out) : Type 0 where
-  pub typed : anyMistyped (d .levels) ≡ false
   pub no-diagnostics : d .plan .diagnostics ≡ []
   pub texts : constraintsAreTexts (d .tables) ≡ true
   pub own : ownNodes (d .tables) (starting (d .tables)) (d .tables .levels) ≡ true
