@@ -11,7 +11,7 @@ use Rattle.rules.specs.File.{Tables, FieldTy, Ty, FieldPattern, FieldPath, Bind
 use Rattle.rules.specs.Constant.{fieldPattern}
 use Rattle.rules.specs.Events.{Code, Narrowing, Event, Walk, report, emit}
 use Rattle.rules.specs.Walk.{narrowing, FieldWalk, eachField}
-use Rattle.rules.specs.Placement.{SeekKeyPart, Part, SeekBuilder, withPart, placePart, placeNarrowing, place, placeAll, new}
+use Rattle.rules.specs.Placement.{SeekKeyPart, Part, SeekBuilder, withPart, placePart, new}
 use Rattle.rules.proofs.Cases.{by-test, true≢false, both-left, both-right}
 use Rattle.rules.proofs.Lists.{Onwards}
 use Rattle.exact.specs.Values.{Value, Values, _and_, encode, encodeAll, encodeFact, zeroFree, allZeroFree, OfType, OfTypes}
@@ -20,10 +20,11 @@ use Rattle.exact.specs.Passes.{partBytes}
 use Rattle.exact.specs.Matcher.{Matching, accept, eachMatches}
 use Rattle.exact.proofs.Bytes.{Starts, eq-same}
 use Rattle.exact.proofs.Ends.{Apart, Whole, apart-all}
-use Rattle.exact.proofs.Placing.{Passing, Ready}
+use Rattle.exact.proofs.Placing.{Becomes, Passing, Ready}
 use Rattle.exact.proofs.Quiet.{Clean}
 use Rattle.exact.proofs.Unique.{value-same}
 use Rattle.exact.proofs.Unplaced.{each-end, Or, left, right, part-back, own-back, held-says}
+use Rattle.exact.specs.Placings.{placedBy, placement, openPlacings}
 use Rattle.exact.proofs.Grows.{built, built-emit, dirty, Known, Grows}
 use Rattle.exact.proofs.Constants.{Consts}
 use Rattle.exact.proofs.Accepts.{accept-true}
@@ -97,14 +98,13 @@ module _ (T : Tables) (engine : Engine) (address : ℕ) (ty : Ty) (key : Value) 
 
   pub comes-from : (w u w′ : Walk) (path : FieldPath) (t : ℕ) (m : Value → Option (List Binding)) → Grows T engine ty key w u → u .events ≡ w .events → Comes u w′ path t m → Comes w w′ path t m
   comes-from w u w′ path t m g e c =
-      record { back = λ v r of z a at rd gv. c .back v r of z a at (subst (λ es. Ready engine ty key (placeAll T es new) (encode v ++ r)) (sym e) rd) (given-second w u w′ g gv) }
+      record { back = λ v r of z a at rd gv. c .back v r of z a at (subst (λ es. Ready engine ty key (placedBy placement T es new) (encode v ++ r)) (sym e) rd) (given-second w u w′ g gv) }
 
   -- one narrowing
   pub comes-narrow : (n : ℕ) (path : FieldPath) (x : Narrowing) (w : Walk) (t : ℕ) (m : Value → Option (List Binding))
       → ((v : Value) (r : List ℕ) → OfType T v (typeAt T t) → zeroFree v ≡ true → Apart r → valueAt ty key path ≡ some v → Ready engine ty key (built T w) (encode v ++ r) → Consts T engine address ty key folded (w .lists .bindings)
-      → HeldParts engine (placeNarrowing n path x (built T w)) → Passing engine ty key (placeNarrowing n path x (built T w)) → Some (m v))
+      → HeldParts engine (placement T (Event.narrow n path x) (built T w)) → Passing engine ty key (placement T (Event.narrow n path x) (built T w)) → Some (m v))
       → Comes w (emit (Event.narrow n path x) w) path t m
-  unfolding place
   comes-narrow n path x w t m h =
       record {
         back = λ v r of z a at rd gv.
@@ -114,42 +114,44 @@ module _ (T : Tables) (engine : Engine) (address : ℕ) (ty : Ty) (key : Value) 
 
   -- a fact of a row
   pub comes-fact : (n from : ℕ) (path : FieldPath) (w : Walk) (t : ℕ) → Comes w (emit (Event.narrow n path (Narrowing.FactId from)) w) path t (λ v. accept (hasBytes (encodeFact (engine .row from)) v) (w .lists .bindings))
-  unfolding placeNarrowing partBytes says hasBytes encode
+  unfolding partBytes says hasBytes encode
   comes-fact n from path w t =
       comes-narrow n path (Narrowing.FactId from) w t _
-      (λ v r of z a at rd c hd p. (w .lists .bindings, accept-true _ (w .lists .bindings) (same v r (whole T v (typeAt T t) of) z a at (part-back engine ty key n (SeekKeyPart.RegisterFactId from) path (Narrowing.FactId from) (built T w) (encode v ++ r) rd p))))
+      (λ v r of z a at rd c hd p. (w .lists .bindings, accept-true _ (w .lists .bindings) (same v r (whole T v (typeAt T t) of) z a at (part-back engine ty key T (Becomes.fact from) n path (built T w) (encode v ++ r) rd p))))
     where
       same : (v : Value) (r : List ℕ) → Whole v → zeroFree v ≡ true → Apart r → valueAt ty key path ≡ some v
           → Or ((built T w .building ≡ true) × Starts (encodeFact (engine .row from)) (encode v ++ r)) (holds engine ty key path (Narrowing.FactId from) ≡ true) → sameBytes (encode v) (encodeFact (engine .row from)) ≡ true
       same v r wh z a at (left s) = eq-same (encode v) (encodeFact (engine .row from)) (value-same v (Value.Fact (engine .row from)) r (s .1 .0) wh tt z a (s .1 .1) .front)
       same v r wh z a at (right h) = held-says engine ty key path (Narrowing.FactId from) v at h
 
-  part-last : (n : ℕ) (part : SeekKeyPart) (path : FieldPath) (op : Narrowing) (b : SeekBuilder) → b .building ≡ true → HeldParts engine (placePart n part path op b) → PartHeld engine part
-  unfolding placePart withPart
-  part-last n part path op b on h =
-      by-test (λ (b′ : SeekBuilder). HeldParts engine b′ → PartHeld engine part) (b .building) (λ _ k. each-end (b .parts) (record { key = part; node = n }) k) (λ off. absurd (true≢false (sym on ∙ off))) h
+  -- a register that became a part
+  register-last : (n from : ℕ) (path other : FieldPath) (b : SeekBuilder) → b .building ≡ true → HeldParts engine (placement T (Event.narrow n path (Narrowing.RegisterField from other)) b)
+      → PartHeld engine (SeekKeyPart.RegisterField from other)
+  unfolding openPlacings placePart withPart
+  register-last n from path other b on h =
+      by-test (λ (b′ : SeekBuilder). HeldParts engine b′ → PartHeld engine (SeekKeyPart.RegisterField from other)) (b .building) (λ _ k. each-end (b .parts) (record { key = SeekKeyPart.RegisterField from other; node = n }) k) (λ off. absurd (true≢false (sym on ∙ off))) h
 
   -- a register's field
   pub comes-register : (n from : ℕ) (other path : FieldPath) (w : Walk) (t : ℕ) → Comes w (emit (Event.narrow n path (Narrowing.RegisterField from other)) w) path t (λ v. accept (hasBytes (engine .fields from other) v) (w .lists .bindings))
-  unfolding placeNarrowing partBytes says hasBytes
+  unfolding partBytes says hasBytes
   comes-register n from other path w t =
       comes-narrow n path (Narrowing.RegisterField from other) w t _
-      (λ v r of z a at rd c hd p. (w .lists .bindings, accept-true _ (w .lists .bindings) (same v r (whole T v (typeAt T t) of) z a at hd (part-back engine ty key n (SeekKeyPart.RegisterField from other) path (Narrowing.RegisterField from other) (built T w) (encode v ++ r) rd p))))
+      (λ v r of z a at rd c hd p. (w .lists .bindings, accept-true _ (w .lists .bindings) (same v r (whole T v (typeAt T t) of) z a at hd (part-back engine ty key T (Becomes.register from other) n path (built T w) (encode v ++ r) rd p))))
     where
       same : (v : Value) (r : List ℕ) → Whole v → zeroFree v ≡ true → Apart r → valueAt ty key path ≡ some v
-          → HeldParts engine (placePart n (SeekKeyPart.RegisterField from other) path (Narrowing.RegisterField from other) (built T w))
+          → HeldParts engine (placement T (Event.narrow n path (Narrowing.RegisterField from other)) (built T w))
           → Or ((built T w .building ≡ true) × Starts (engine .fields from other) (encode v ++ r)) (holds engine ty key path (Narrowing.RegisterField from other) ≡ true) → sameBytes (encode v) (engine .fields from other) ≡ true
       same v r wh z a at hd (left s) =
-          let h = part-last n (SeekKeyPart.RegisterField from other) path (Narrowing.RegisterField from other) (built T w) (s .0) hd in
+          let h = register-last n from path other (built T w) (s .0) hd in
           eq-same (encode v) (engine .fields from other)
           (value-same v (h .0) r (s .1 .0) wh (h .1) z a (s .1 .1 ∙ ap (λ (l : List ℕ). l ++ s .1 .0) (h .2)) .front ∙ sym (h .2))
       same v r wh z a at hd (right h) = held-says engine ty key path (Narrowing.RegisterField from other) v at h
 
   pub comes-own : (n : ℕ) (other path : FieldPath) (w : Walk) (t : ℕ) → Comes w (emit (Event.narrow n path (Narrowing.OwnField other)) w) path t (λ v. accept (sameAs ty key other v) (w .lists .bindings))
-  unfolding placeNarrowing says
+  unfolding says
   comes-own n other path w t =
       comes-narrow n path (Narrowing.OwnField other) w t _
-      (λ v r of z a at rd c hd p. (w .lists .bindings, accept-true _ (w .lists .bindings) (held-says engine ty key path (Narrowing.OwnField other) v at (own-back engine ty key n path other (built T w) p))))
+      (λ v r of z a at rd c hd p. (w .lists .bindings, accept-true _ (w .lists .bindings) (held-says engine ty key path (Narrowing.OwnField other) v at (own-back engine ty key T n path other (built T w) p))))
 
   -- the fields of a record
   pub record ComesAll (J : Walk → Type 0) (w w′ : Walk) (place : ℕ → FieldPath) (i : ℕ) (fs : List FieldTy) (m : Values → Option (List Binding)) : Type 0 where

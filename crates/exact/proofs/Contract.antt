@@ -8,10 +8,11 @@ use native.Mathlib.Nat.{not-suc-le-zero, le-of-suc-le-suc}
 use native.Mathlib.Omega.{arith}
 use lib.ListN.{length, getD, take}
 use Rattle.rules.specs.Base.{Each}
-use Rattle.rules.specs.File.{Tables, Binding}
-use Rattle.rules.specs.Events.{Lists}
-use Rattle.rules.specs.Placement.{SeekKey, new}
-use Rattle.rules.specs.Levels.{Level, starting, levels, leftBy, anyMistyped}
+use Rattle.rules.specs.File.{Tables, Binding, LevelEntry}
+use Rattle.rules.specs.Events.{Event, Lists}
+use Rattle.rules.specs.Walk.{walkLevel}
+use Rattle.rules.specs.Placement.{SeekBuilder, SeekKey, new, place, placeAll}
+use Rattle.rules.specs.Levels.{Level, starting, levelOf, level, levelsFrom, levels, leftBy, anyMistyped}
 use Rattle.rules.specs.Plan.{PlanLevel, planLevel, planOf, plan}
 use Rattle.rules.specs.Demand1.{Byte}
 use Rattle.rules.specs.Demand3.{entryAt, levelAt, startOf, Demand3}
@@ -22,6 +23,7 @@ use Rattle.rules.proofs.Consts.{levels-now}
 use Rattle.exact.specs.Values.{Value, zeroFree, OfType}
 use Rattle.exact.specs.Keys.{Engine}
 use Rattle.exact.specs.Conditions.{HoldsValues, Plain, PlainPlan, planLevelAt}
+use Rattle.exact.specs.Placings.{placedBy, levelBy, placement}
 use Rattle.exact.specs.Claims.{planned, keyTypeOf, boundBefore, NoFactSkipped, KeepsExactly}
 use Rattle.exact.proofs.NoFactSkipped.{no-fact-skipped}
 use Rattle.exact.proofs.Exact.{keeps-exactly}
@@ -46,6 +48,24 @@ unfolding startOf
 start-is T [] = refl
 start-is T (l ∷ ls) = refl
 
+-- The claims' placement is the rules', and so their level is the level of the rules' list.
+placed-is : (T : Tables) (es : List Event) (b : SeekBuilder) → placedBy placement T es b ≡ placeAll T es b
+unfolding placedBy placement placeAll
+placed-is T [] b = refl
+placed-is T (e ∷ es) b = placed-is T es (place T e b)
+
+level-by-is : (T : Tables) (start : Lists) (entries : List LevelEntry) (k : ℕ) → levelBy placement T (levelAt T (levelsFrom T start entries) k) ≡ levelAt T (levelsFrom T start entries) k
+unfolding levelBy levelAt levelsFrom level levelOf placedBy
+level-by-is T start [] k = refl
+level-by-is T start (l ∷ ls) zero =
+    let w = walkLevel T l start in
+    ap (λ (b : SeekBuilder). record { start = start; left = w .lists; events = w .events; built = b; mistyped = w .mistyped }) (placed-is T (w .events) new)
+level-by-is T start (l ∷ ls) (suc k) = level-by-is T (level T l start .left) ls k
+
+pub planned-is : (T : Tables) (k : ℕ) → planned T k ≡ planLevel (levelAt T (levels T) k)
+unfolding planned levels
+planned-is T k = ap planLevel (level-by-is T (starting T) (T .levels) k)
+
 module _ (bytes out : List ℕ) (d : Demand3 bytes out) where
   abbrev T : Tables
   T = d .tables
@@ -68,12 +88,12 @@ module _ (bytes out : List ℕ) (d : Demand3 bytes out) where
 
   -- a level of the plan is the rules' level
   level-is : (k : ℕ) → k < length (T .levels) → planLevelAt (d .plan) k ≡ planned T k
-  unfolding planLevelAt planned levelAt
+  unfolding planLevelAt levelAt
   level-is k h =
       let past : PlanLevel = record { narrowings = 0; closers = 0; parts = 0; seek = SeekKey.Prefix [] []; guide = none; residuals = []; folded = [] } in
       ap (λ (ls : List PlanLevel). getD ls k past) (d .holds .levels)
       ∙ get-map planLevel (d .levels) k (record { start = starting T; left = starting T; events = []; built = new; mistyped = false }) past (omega (arith, h, d .every-level))
-      ∙ ap (λ (ls : List Level). planLevel (levelAt T ls k)) same-levels
+      ∙ ap (λ (ls : List Level). planLevel (levelAt T ls k)) same-levels ∙ sym (planned-is T k)
 
   bound-is : (k : ℕ) → startOf T (d .levels) k .bindings ≡ boundBefore T k
   unfolding boundBefore

@@ -11,7 +11,7 @@ use Rattle.rules.specs.File.{Tables, Binding, Constraint, LevelEntry, typeAt, n
 use Rattle.rules.specs.Read.{got, file}
 use Rattle.rules.specs.Events.{Lists}
 use Rattle.rules.specs.Walk.{freshWalk, walkLevel}
-use Rattle.rules.specs.Placement.{SeekKeyPart, Part, SeekBuilder, new, placeAll, seekKey}
+use Rattle.rules.specs.Placement.{SeekKeyPart, Part, SeekBuilder, new, seekKey}
 use Rattle.rules.specs.Levels.{Level, starting, levelOf, level, levelsFrom, levels, leftBy}
 use Rattle.rules.specs.Plan.{planLevel, planOf, plan}
 use Rattle.rules.specs.Demand1.{Byte}
@@ -24,6 +24,7 @@ use Rattle.exact.specs.Keys.{Engine}
 use Rattle.exact.specs.Passes.{passes}
 use Rattle.exact.specs.Matcher.{keyType, matches}
 use Rattle.exact.specs.Conditions.{isText, constraintsAreTexts, isOwn, ownNodes, HoldsValue, HoldsValues, Plain}
+use Rattle.exact.specs.Placings.{placedBy, levelBy, placement}
 use Rattle.exact.specs.Claims.{planned, keyTypeOf, boundBefore, Matches, Passes, KeepsExactly}
 use Rattle.exact.proofs.Placing.{ready-new}
 use Rattle.exact.proofs.Steps.{Excludes}
@@ -46,19 +47,19 @@ unfolding new
 excludes-new r e = absurd (some≢none r (sym e))
 
 nothing-known : (T : Tables) (start : Lists) → Known T (freshWalk start)
-unfolding placeAll new first
+unfolding placedBy new first
 nothing-known T start i h = absurd (some≢none (h .0) (sym (h .1)))
 
 module _ (T : Tables) (facts : Facts T) (S : Sound T) (texts : Each (λ (k : Constraint). IsText (nodeAt T (k .node))) (T .constraints)) where
   one-back : (l : LevelEntry) (start : Lists) → l .predicate < length (T .predicates) → isOwn (nodeAt T (l .node)) (keyType T l) (start .bindings) ≡ true → SameBound T texts (start .bindings) → CleanLists (level T l start .left) → level T l start .mistyped ≡ false
-      → (engine : Engine) (key′ : Value) → HoldsValues T engine (planLevel (level T l start) .seek) → OfType T key′ (keyType T l) → zeroFree key′ ≡ true → passes engine (keyType T l) (planLevel (level T l start)) key′ ≡ true
-      → Some (matches T engine l (planLevel (level T l start) .folded) (start .bindings) key′)
-  unfolding keyType planLevel level levelOf placeAll matches walkLevel seekKey
+      → (engine : Engine) (key′ : Value) → HoldsValues T engine (planLevel (levelBy placement T (level T l start)) .seek) → OfType T key′ (keyType T l) → zeroFree key′ ≡ true → passes engine (keyType T l) (planLevel (levelBy placement T (level T l start))) key′ ≡ true
+      → Some (matches T engine l (planLevel (levelBy placement T (level T l start)) .folded) (start .bindings) key′)
+  unfolding keyType planLevel level levelOf levelBy placedBy matches walkLevel seekKey
   one-back l start h own same clean typed engine key′ held of z p =
       let t : ℕ = predicateAt T (l .predicate) .key in
-      let b : SeekBuilder = placeAll T (walkLevel T l start .events) new in
-      let grown = goes-level T texts l start own engine key′ (planLevel (level T l start) .folded) .grows in
-      comes-key T facts engine (l .address) (predicateAt T (l .predicate) .key) key′ (planLevel (level T l start) .folded) texts (S .keys (l .predicate) h) (l .node) (freshWalk start) own .back of z
+      let b : SeekBuilder = placedBy placement T (walkLevel T l start .events) new in
+      let grown = goes-level T texts l start own engine key′ (planLevel (levelBy placement T (level T l start)) .folded) .grows in
+      comes-key T facts engine (l .address) (predicateAt T (l .predicate) .key) key′ (planLevel (levelBy placement T (level T l start)) .folded) texts (S .keys (l .predicate) h) (l .node) (freshWalk start) own .back of z
       (ready-new engine (typeAt T (predicateAt T (l .predicate) .key)) key′)
       (record {
         clean = clean-walk T texts l start clean typed;
@@ -66,14 +67,14 @@ module _ (T : Tables) (facts : Facts T) (S : Sound T) (texts : Each (λ (k : Con
         consts = same;
         known = nothing-known T start;
         held = each-imply (λ (x : Part) k. part-held T engine (x .key) k) (held-parts T engine (b .parts) (b .range) (b .edges .lo) (b .edges .hi) held);
-        passing = level-passed engine (typeAt T (predicateAt T (l .predicate) .key)) key′ (level T l start)
+        passing = level-passed engine (typeAt T (predicateAt T (l .predicate) .key)) key′ (levelBy placement T (level T l start))
             (grown .steps .excludes (ready-new engine (typeAt T (predicateAt T (l .predicate) .key)) key′ .alone) excludes-new) p;
       })
 
   abbrev Claim : LevelEntry → Lists → Level → Type 0
   Claim l start lv =
-      (engine : Engine) (key′ : Value) → HoldsValues T engine (planLevel lv .seek) → OfType T key′ (keyType T l) → zeroFree key′ ≡ true → passes engine (keyType T l) (planLevel lv) key′ ≡ true
-      → Some (matches T engine l (planLevel lv .folded) (start .bindings) key′)
+      (engine : Engine) (key′ : Value) → HoldsValues T engine (planLevel (levelBy placement T lv) .seek) → OfType T key′ (keyType T l) → zeroFree key′ ≡ true → passes engine (keyType T l) (planLevel (levelBy placement T lv)) key′ ≡ true
+      → Some (matches T engine l (planLevel (levelBy placement T lv) .folded) (start .bindings) key′)
 
   every-back : (start : Lists) {entries : List LevelEntry} → Each (λ (l : LevelEntry). l .predicate < length (T .predicates)) entries → SameBound T texts (start .bindings) → ownNodes T start entries ≡ true
       → Each (λ (l : Level). l .mistyped ≡ false) (levelsFrom T start entries) → CleanLists (leftBy start (levelsFrom T start entries)) → (k : ℕ) → k < length entries → (d : LevelEntry)

@@ -10,6 +10,7 @@ use lib.Dec.{eqb}
 use borrow.Author.Tests.{eq-eqb}
 use Rattle.rules.specs.Base.{allFrom, first}
 use Rattle.rules.specs.File.{Tables, Ty, CompareOp, Comparison}
+use Rattle.rules.specs.Events.{Event}
 use Rattle.rules.specs.Placement.{RangeEdge, Edges, SeekBuilder, withEdges, fall, Sided, sided, takeHi, takeLo, takeEdge, edge, foldFrom, placeBound}
 use Rattle.rules.proofs.Cases.{by-test, by-option, true≢false, some≢none, both-true}
 use Rattle.rules.proofs.Lists.{Onwards, onwards-same, onwards-next, onwards-one}
@@ -17,6 +18,7 @@ use Rattle.exact.specs.Values.{Value, encode}
 use Rattle.exact.specs.Keys.{Engine, stored, ordered}
 use Rattle.exact.specs.Passes.{partsBytes, firstValue, above, under, within}
 use Rattle.exact.specs.Matcher.{comparisonHolds, foldedHold}
+use Rattle.exact.specs.Placings.{placement, openPlacings}
 use Rattle.exact.proofs.Ends.{Apart, Whole, first-value}
 use Rattle.exact.proofs.Placing.{Edged, Ready, ready-fall}
 
@@ -142,9 +144,10 @@ module _ (engine : Engine) (ty : Ty) (key : Value) where
 
   -- a name without constraints: its bound and the skip after it
   pub ready-bound : (T : Tables) (folded : List ℕ) (x t : ℕ) (v : Value) (b : SeekBuilder) (rest y : List ℕ) → Whole v → Apart rest
-      → foldedHold T folded x t v ≡ true → (b .building ≡ true → placeBound T x t b .edges .folded ≡ folded) → Ready engine ty key b (encode v ++ rest) → Ready engine ty key (fall (placeBound T x t b)) y
-  unfolding placeBound withEdges
+      → foldedHold T folded x t v ≡ true → (b .building ≡ true → placement T Event.skip (placement T (Event.bound x t) b) .edges .folded ≡ folded) → Ready engine ty key b (encode v ++ rest)
+      → Ready engine ty key (placement T Event.skip (placement T (Event.bound x t) b)) y
+  unfolding openPlacings placeBound withEdges fall
   ready-bound T folded x t v b rest y w a h f r =
-      by-test (λ (b′ : SeekBuilder). (b .building ≡ true → b′ .edges .folded ≡ folded) → Ready engine ty key (fall b′) y) (b .building)
+      by-test (λ (b′ : SeekBuilder). (b .building ≡ true → fall b′ .edges .folded ≡ folded) → Ready engine ty key (fall b′) y) (b .building)
       (λ on k. ready-edges T folded x t v b rest y w a h on (k on) r)
       (λ off k. ready-fall engine ty key b (encode v ++ rest) y r) f

@@ -10,7 +10,7 @@ use Rattle.rules.specs.File.{Tables, FieldTy, Ty, FieldPattern, FieldPath, Bind
 use Rattle.rules.specs.Constant.{Const, fieldPattern}
 use Rattle.rules.specs.Events.{Code, Narrowing, Event, Walk, report, emit}
 use Rattle.rules.specs.Walk.{narrowing, FieldWalk, eachField}
-use Rattle.rules.specs.Placement.{SeekKeyPart, placeNarrowing, place, placeAll, new}
+use Rattle.rules.specs.Placement.{new}
 use Rattle.rules.proofs.Cases.{some≢none, some-injective, bind-some}
 use Rattle.exact.specs.Values.{Value, Values, _and_, encode, encodeAll}
 use Rattle.exact.specs.Keys.{Engine, nth, valueAt, hasBytes, says}
@@ -18,8 +18,9 @@ use Rattle.exact.specs.Passes.{partBytes}
 use Rattle.exact.specs.Matcher.{Matching, eachMatches}
 use Rattle.exact.proofs.Bytes.{eq-same}
 use Rattle.exact.proofs.Ends.{Apart, Whole, WholeAll, apart-all}
-use Rattle.exact.proofs.Placing.{Ready, ready-fall, ready-part}
+use Rattle.exact.proofs.Placing.{Becomes, Ready, ready-skip, ready-part}
 use Rattle.exact.proofs.Quiet.{Clean}
+use Rattle.exact.specs.Placings.{placedBy, placement}
 use Rattle.exact.proofs.Grows.{built, built-emit, dirty, Grows, grows-same, grows-next, grows-skip, grows-narrow, grows-report}
 use Rattle.exact.proofs.Constants.{Consts, Written}
 use Rattle.exact.proofs.Values.{holds-at}
@@ -62,19 +63,18 @@ module _ (T : Tables) (engine : Engine) (address : ℕ) (ty : Ty) (key : Value) 
         live = λ v r wh a at c f k rd after q.
             h .live v r wh a at c f
             (subst (Consts T engine address ty key folded) (sym b) k)
-            (subst (λ es. Ready engine ty key (placeAll T es new) (encode v ++ r)) (sym e) rd) after q;
+            (subst (λ es. Ready engine ty key (placedBy placement T es new) (encode v ++ r)) (sym e) rd) after q;
       }
 
   pub goes-report : (n : ℕ) (code : Code) (w w′ : Walk) (path : FieldPath) (m : Value → Option (List Binding)) → Grows T engine ty key w w′ → Goes w (report n code w′) path m
   goes-report n code w w′ path m g =
       record { grows = grows-next T engine ty key w w′ (report n code w′) g (grows-report T engine ty key n code w′); live = λ v r wh a at c f k rd after q. absurd (dirty n code w′ c) }
 
-  ready-emit : (e : Event) (w : Walk) (r : List ℕ) → Ready engine ty key (place T e (built T w)) r → Ready engine ty key (built T (emit e w)) r
+  pub ready-emit : (e : Event) (w : Walk) (r : List ℕ) → Ready engine ty key (placement T e (built T w)) r → Ready engine ty key (built T (emit e w)) r
   ready-emit e w r h = subst (λ b. Ready engine ty key b r) (sym (built-emit T e w)) h
 
   pub reached-skip : (w : Walk) (x r : List ℕ) (after : List Binding) → Ready engine ty key (built T w) x → w .lists .bindings ≡ after → Reached (emit Event.skip w) r after
-  unfolding place
-  reached-skip w x r after h b = record { ready = ready-emit Event.skip w r (ready-fall engine ty key (built T w) x r h); bound = stays tt }
+  reached-skip w x r after h b = record { ready = ready-emit Event.skip w r (ready-skip engine ty key T (built T w) x r h); bound = stays tt }
     where
       stays : Unit {0} → emit Event.skip w .lists .bindings ≡ after
       stays _ = unfold emit in b
@@ -86,9 +86,8 @@ module _ (T : Tables) (engine : Engine) (address : ℕ) (ty : Ty) (key : Value) 
   -- one narrowing
   pub goes-narrow : (n : ℕ) (path : FieldPath) (x : Narrowing) (w : Walk) (m : Value → Option (List Binding))
       → ((v : Value) (r : List ℕ) (after : List Binding) → valueAt ty key path ≡ some v → Consts T engine address ty key folded (w .lists .bindings) → m v ≡ some after
-      → (after ≡ w .lists .bindings) × (Ready engine ty key (built T w) (encode v ++ r) → Ready engine ty key (placeNarrowing n path x (built T w)) r))
+      → (after ≡ w .lists .bindings) × (Ready engine ty key (built T w) (encode v ++ r) → Ready engine ty key (placement T (Event.narrow n path x) (built T w)) r))
       → Goes w (emit (Event.narrow n path x) w) path m
-  unfolding place
   goes-narrow n path x w m h =
       record {
         grows = grows-narrow T engine ty key n path x w;
@@ -104,14 +103,14 @@ module _ (T : Tables) (engine : Engine) (address : ℕ) (ty : Ty) (key : Value) 
   pub goes-written : (n : ℕ) (path : FieldPath) (k : Const) (w : Walk) (m : Value → Option (List Binding))
       → ((v : Value) (after : List Binding) → Consts T engine address ty key folded (w .lists .bindings) → m v ≡ some after → Written T engine address ty key folded k v (w .lists .bindings) after)
       → Goes w (emit (Event.narrow n path (narrowing k)) w) path m
-  unfolding placeNarrowing narrowing partBytes says hasBytes
+  unfolding narrowing partBytes says hasBytes
   goes-written n path k w m h =
       goes-narrow n path (narrowing k) w m
       (λ v r after at c q.
       let p = h v after c q in (
         p .same,
-        λ rd. subst (λ (x : Const). Ready engine ty key (placeNarrowing n path (narrowing x) (built T w)) r) (sym (p .is))
-            (ready-part engine ty key n (SeekKeyPart.Bytes (p .bytes)) path (Narrowing.Bytes (p .bytes)) (built T w) (encode v) r (sym (p .encoded))
+        λ rd. subst (λ (x : Const). Ready engine ty key (placement T (Event.narrow n path (narrowing x)) (built T w)) r) (sym (p .is))
+            (ready-part engine ty key T (Becomes.bytes (p .bytes)) n path (built T w) (encode v) r (sym (p .encoded))
             (holds-at ty key engine path (Narrowing.Bytes (p .bytes)) v at (eq-same (encode v) (p .bytes) (p .encoded))) rd),
       ))
 

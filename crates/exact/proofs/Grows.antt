@@ -12,14 +12,14 @@ use Rattle.rules.specs.File.{Tables, Ty, FieldPath, Slot, Binding}
 use Rattle.rules.specs.Constant.{lookup, constNode}
 use Rattle.rules.specs.Events.{Code, Narrowing, Event, Walk, bind, constrained, report, emit, isMistyped, brings, walkOps}
 use Rattle.rules.specs.Resolve.{resolve}
-use Rattle.rules.specs.Placement.{SeekKeyPart, Edges, SeekBuilder, new, withPart, withResidual, withGuide, withRange, withEdges, withCloser, fall, placePart, placePrefix, attachable, placeFuzzy, placeOwn, placeNarrowing, placeCloser, Sided, sided, placeBound, place, placeAll}
+use Rattle.rules.specs.Placement.{SeekKeyPart, Edges, SeekBuilder, new, withPart, withResidual, withGuide, withRange, withEdges, withCloser, fall, placePart, placePrefix, attachable, placeFuzzy, placeOwn, placeCloser, Sided, sided, placeBound}
 use Rattle.rules.proofs.Cases.{by-test}
-use Rattle.rules.proofs.Kept.{placeAll-append}
 use Rattle.rules.specs.Constant.{constBound}
 use Rattle.rules.proofs.Consts.{SameConsts, const-snoc}
 use Rattle.exact.specs.Values.{Value}
 use Rattle.exact.specs.Keys.{Engine}
-use Rattle.exact.proofs.Steps.{Steps, steps-same, steps-next, steps-fall, steps-narrowing, steps-closer, steps-bound}
+use Rattle.exact.specs.Placings.{placedBy, placement, openPlacings}
+use Rattle.exact.proofs.Steps.{Steps, steps-same, steps-next, steps-skip, steps-narrowing, steps-closer, steps-bound}
 use Rattle.exact.proofs.Folding.{Has}
 use Rattle.exact.proofs.Unplaced.{Or, left, right}
 use Rattle.exact.proofs.Folded.{comparisonAt, fold-of}
@@ -27,11 +27,15 @@ use Rattle.exact.proofs.Quiet.{Clean, read-is}
 
 -- what a walk has placed
 abbrev pub built : Tables → Walk → SeekBuilder
-built T w = placeAll T (w .events) new
+built T w = placedBy placement T (w .events) new
 
-pub built-emit : (T : Tables) (e : Event) (w : Walk) → built T (emit e w) ≡ place T e (built T w)
-unfolding emit placeAll
-built-emit T e w = placeAll-append T (w .events) (e ∷ []) new
+pub built-emit : (T : Tables) (e : Event) (w : Walk) → built T (emit e w) ≡ placement T e (built T w)
+unfolding emit placedBy
+built-emit T e w = go (w .events) new
+  where
+    go : (es : List Event) (b : SeekBuilder) → placedBy placement T (es ++ (e ∷ [])) b ≡ placement T e (placedBy placement T es b)
+    go [] b = refl
+    go (d ∷ es) b = go es (placement T d b)
 
 abbrev IsNil : {A : Type 0} → List A → Type 0
 IsNil [] = Unit {0}
@@ -86,19 +90,23 @@ edges-part : (n : ℕ) (part : SeekKeyPart) (path : FieldPath) (op : Narrowing) 
 unfolding placePart withPart withResidual
 edges-part n part path op b = by-test (λ (b′ : SeekBuilder). b′ .edges ≡ b .edges) (b .building) (λ e. refl) (λ e. refl)
 
-pub edges-narrowing : (n : ℕ) (path : FieldPath) (x : Narrowing) (b : SeekBuilder) → placeNarrowing n path x b .edges ≡ b .edges
-unfolding placeNarrowing placePrefix placeFuzzy placeOwn withRange withGuide withResidual fall
-edges-narrowing n path (Narrowing.Bytes bytes) b = edges-part n _ path _ b
-edges-narrowing n path (Narrowing.Tag disc) b = edges-part n _ path _ b
-edges-narrowing n path (Narrowing.RegisterField a at) b = edges-part n _ path _ b
-edges-narrowing n path (Narrowing.FactId a) b = edges-part n _ path _ b
-edges-narrowing n path (Narrowing.Prefix prefix) b = by-test (λ (b′ : SeekBuilder). b′ .edges ≡ b .edges) (b .building) (λ e. refl) (λ e. refl)
-edges-narrowing n path (Narrowing.Fuzzy x d a) b = by-test (λ (b′ : SeekBuilder). b′ .edges ≡ b .edges) (attachable b path) (λ e. refl) (λ e. refl)
-edges-narrowing n path (Narrowing.OwnField at) b = refl
+pub edges-skip : (T : Tables) (b : SeekBuilder) → placement T Event.skip b .edges ≡ b .edges
+unfolding openPlacings fall
+edges-skip T b = refl
 
-edges-closer : (n : ℕ) (b : SeekBuilder) → placeCloser n b .edges ≡ b .edges
-unfolding placeCloser withCloser withPart
-edges-closer n b = by-test (λ (b′ : SeekBuilder). b′ .edges ≡ b .edges) (b .building) (λ e. refl) (λ e. refl)
+pub edges-narrowing : (T : Tables) (n : ℕ) (path : FieldPath) (x : Narrowing) (b : SeekBuilder) → placement T (Event.narrow n path x) b .edges ≡ b .edges
+unfolding openPlacings placePrefix placeFuzzy placeOwn withRange withGuide withResidual fall
+edges-narrowing T n path (Narrowing.Bytes bytes) b = edges-part n _ path _ b
+edges-narrowing T n path (Narrowing.Tag disc) b = edges-part n _ path _ b
+edges-narrowing T n path (Narrowing.RegisterField a at) b = edges-part n _ path _ b
+edges-narrowing T n path (Narrowing.FactId a) b = edges-part n _ path _ b
+edges-narrowing T n path (Narrowing.Prefix prefix) b = by-test (λ (b′ : SeekBuilder). b′ .edges ≡ b .edges) (b .building) (λ e. refl) (λ e. refl)
+edges-narrowing T n path (Narrowing.Fuzzy x d a) b = by-test (λ (b′ : SeekBuilder). b′ .edges ≡ b .edges) (attachable b path) (λ e. refl) (λ e. refl)
+edges-narrowing T n path (Narrowing.OwnField at) b = refl
+
+edges-closer : (T : Tables) (n : ℕ) (b : SeekBuilder) → placement T (Event.closer n) b .edges ≡ b .edges
+unfolding openPlacings placeCloser withCloser withPart
+edges-closer T n b = by-test (λ (b′ : SeekBuilder). b′ .edges ≡ b .edges) (b .building) (λ e. refl) (λ e. refl)
 
 -- each comparison that the level has folded has a name on one side that is bound, and a constant on the other
 abbrev pub Known : Tables → Walk → Type 0
@@ -119,7 +127,7 @@ module _ (T : Tables) (engine : Engine) (ty : Ty) (key : Value) where
   grows-next u v w g h =
       record { clean = λ c. g .clean (h .clean c); steps = steps-next engine ty key (built T u) (built T v) (built T w) (g .steps) (h .steps); consts = λ x. h .consts x ∙ g .consts x; known = λ k. h .known (g .known k) }
 
-  grows-emit : (e : Event) (w : Walk) → Steps engine ty key (built T w) (place T e (built T w)) → place T e (built T w) .edges ≡ built T w .edges → Grows w (emit e w)
+  grows-emit : (e : Event) (w : Walk) → Steps engine ty key (built T w) (placement T e (built T w)) → placement T e (built T w) .edges ≡ built T w .edges → Grows w (emit e w)
   grows-emit e w s d = record { clean = cleaned; steps = subst (Steps engine ty key (built T w)) (sym (built-emit T e w)) s; consts = same; known = knows }
     where
       cleaned : Clean (emit e w) → Clean w
@@ -140,25 +148,21 @@ module _ (T : Tables) (engine : Engine) (ty : Ty) (key : Value) where
           (p .0, p .1, p .2, p .3, p .4, stays (p .0) (p .3) (p .5))
 
   pub grows-narrow : (n : ℕ) (path : FieldPath) (x : Narrowing) (w : Walk) → Grows w (emit (Event.narrow n path x) w)
-  unfolding place
-  grows-narrow n path x w = grows-emit (Event.narrow n path x) w (steps-narrowing engine ty key n path x (built T w)) (edges-narrowing n path x (built T w))
+  grows-narrow n path x w = grows-emit (Event.narrow n path x) w (steps-narrowing engine ty key T n path x (built T w)) (edges-narrowing T n path x (built T w))
 
   pub grows-skip : (w : Walk) → Grows w (emit Event.skip w)
-  unfolding place fall
-  grows-skip w = grows-emit Event.skip w (steps-fall engine ty key (built T w)) refl
+  grows-skip w = grows-emit Event.skip w (steps-skip engine ty key T (built T w)) (edges-skip T (built T w))
 
   pub grows-closer : (n : ℕ) (w : Walk) → Grows w (emit (Event.closer n) w)
-  unfolding place
-  grows-closer n w = grows-emit (Event.closer n) w (steps-closer engine ty key n (built T w)) (edges-closer n (built T w))
+  grows-closer n w = grows-emit (Event.closer n) w (steps-closer engine ty key T n (built T w)) (edges-closer T n (built T w))
 
-  pub built-bound : (x t : ℕ) (w : Walk) → built T (emit Event.skip (emit (Event.bound x t) w)) ≡ fall (placeBound T x t (built T w))
-  unfolding place
-  built-bound x t w = built-emit T Event.skip (emit (Event.bound x t) w) ∙ ap fall (built-emit T (Event.bound x t) w)
+  pub built-bound : (x t : ℕ) (w : Walk) → built T (emit Event.skip (emit (Event.bound x t) w)) ≡ placement T Event.skip (placement T (Event.bound x t) (built T w))
+  built-bound x t w = built-emit T Event.skip (emit (Event.bound x t) w) ∙ ap (placement T Event.skip) (built-emit T (Event.bound x t) w)
 
   -- what a bound folds is its name's
-  known-bound : (x t : ℕ) (w : Walk) (slot : Slot) → lookup (w .lists .bindings) x ≡ some slot → Known T w → (i : ℕ) → Has i (fall (placeBound T x t (built T w)) .edges .folded)
+  known-bound : (x t : ℕ) (w : Walk) (slot : Slot) → lookup (w .lists .bindings) x ≡ some slot → Known T w → (i : ℕ) → Has i (placement T Event.skip (placement T (Event.bound x t) (built T w)) .edges .folded)
       → (y : ℕ) × (u : ℕ) × (s : Sided) × (slot′ : Slot) × (sided T y u (comparisonAt T i) ≡ some s) × (lookup (w .lists .bindings) y ≡ some slot′)
-  unfolding placeBound withEdges fall comparisonAt
+  unfolding openPlacings placeBound withEdges fall comparisonAt
   known-bound x t w slot e k i =
       by-test (λ (b : SeekBuilder). Has i (b .edges .folded) → (y : ℕ) × (u : ℕ) × (s : Sided) × (slot′ : Slot) × (sided T y u (comparisonAt T i) ≡ some s) × (lookup (w .lists .bindings) y ≡ some slot′)) (built T w .building)
       (λ on h. from (fold-of T x t 0 (T .comparisons) (built T w .edges) (λ l m. ap (comparisonAt T) (omega arith)) i h))
@@ -227,9 +231,9 @@ module _ (T : Tables) (engine : Engine) (ty : Ty) (key : Value) where
       let r = read-is T n w in
       record {
         clean = r .clean;
-        steps = subst (Steps engine ty key (built T w)) (ap (λ es. placeAll T es new) (sym (r .events))) (steps-same engine ty key (built T w));
+        steps = subst (Steps engine ty key (built T w)) (ap (λ es. placedBy placement T es new) (sym (r .events))) (steps-same engine ty key (built T w));
         consts = λ x. ap (λ bs. constBound bs x) (r .bindings);
         known = λ h i p.
-            let f = h i (subst (λ es. Has i (placeAll T es new .edges .folded)) (r .events) p) in
+            let f = h i (subst (λ es. Has i (placedBy placement T es new .edges .folded)) (r .events) p) in
             (f .0, f .1, f .2, f .3, f .4, ap (λ bs. lookup bs (f .0)) (r .bindings) ∙ f .5);
       }

@@ -10,7 +10,7 @@ use Rattle.rules.specs.File.{Tables, Ty, Node, FieldPath, Slot, Constraint, nam
 use Rattle.rules.specs.Constant.{Const, constant, constNode, lookup, encodePrefix}
 use Rattle.rules.specs.Events.{Code, Narrowing, Event, Walk, walkOps, bind, constrained, report, emit}
 use Rattle.rules.specs.Walk.{narrowing, rank, narrowBy, constraintsOf, ranked, constrainEach, constrainBy, constrain}
-use Rattle.rules.specs.Placement.{SeekBuilder, fall, placeNarrowing, placeBound, place}
+use Rattle.rules.specs.Placement.{SeekBuilder}
 use Rattle.rules.proofs.Cases.{by-test, both-left, both-right}
 use Rattle.rules.proofs.Each.{each-passes, each-append}
 use Rattle.exact.specs.Values.{Value, encode}
@@ -21,6 +21,8 @@ use Rattle.exact.proofs.Ends.{Apart, Whole}
 use Rattle.exact.proofs.Placing.{Ready, ready-prefix, ready-fuzzy}
 use Rattle.exact.proofs.Folding.{ready-bound}
 use Rattle.exact.proofs.Quiet.{Clean}
+use Rattle.exact.specs.Placings.{placement}
+use Rattle.exact.proofs.Steps.{skip-falls}
 use Rattle.exact.proofs.Grows.{built, built-emit, built-bound, dirty, Grows, grows-same, grows-next, grows-skip, grows-narrow, grows-report, grows-bound, grows-constrained, grows-bind, lookup-last}
 use Rattle.exact.proofs.Constants.{accepted, is-text, prefix-constant, fuzzy-constant}
 use Rattle.exact.proofs.Values.{holds-at}
@@ -68,17 +70,17 @@ module _ (T : Tables) (engine : Engine) (address : ℕ) (ty : Ty) (key : Value) 
 
   -- a Prefix or a Fuzzy that holds of the value: whatever is ahead afterwards, since building falls
   pub ready-text : (node : Node) (n made t : ℕ) (path : FieldPath) (c : Const) (v : Value) (b : SeekBuilder) (r y : List ℕ) → nodeAt T n ≡ node → IsText node → constant T n t ≡ some c
-      → textMatches T engine node v ≡ true → valueAt ty key path ≡ some v → Ready engine ty key b (encode v ++ r) → Ready engine ty key (placeNarrowing made path (narrowing c) b) y
-  unfolding textMatches placeNarrowing narrowing says near encode
+      → textMatches T engine node v ≡ true → valueAt ty key path ≡ some v → Ready engine ty key b (encode v ++ r) → Ready engine ty key (placement T (Event.narrow made path (narrowing c)) b) y
+  unfolding textMatches narrowing says near encode
   ready-text (Node.Prefix x) n made t path c v b r y q i e h at rd =
       let s = is-text (begins (nameAt T x)) v h in
       let starts : begins (encodePrefix (nameAt T x)) (encode v) ≡ true = ap (λ (u : Value). begins (encodePrefix (nameAt T x)) (encode u)) (s .1) ∙ prefix-begins (nameAt T x) (s .0) (s .2) in
-      subst (λ (k : Const). Ready engine ty key (placeNarrowing made path (narrowing k) b) y) (sym (prefix-constant T engine address ty key folded n t x c q e))
-      (ready-prefix engine ty key made path (encodePrefix (nameAt T x)) b (encode v ++ r) y (starts-more (encodePrefix (nameAt T x)) (encode v) r (begins-starts (encodePrefix (nameAt T x)) (encode v) starts))
+      subst (λ (k : Const). Ready engine ty key (placement T (Event.narrow made path (narrowing k)) b) y) (sym (prefix-constant T engine address ty key folded n t x c q e))
+      (ready-prefix engine ty key T made path (encodePrefix (nameAt T x)) b (encode v ++ r) y (starts-more (encodePrefix (nameAt T x)) (encode v) r (begins-starts (encodePrefix (nameAt T x)) (encode v) starts))
       (holds-at ty key engine path (Narrowing.Prefix (encodePrefix (nameAt T x))) v at starts) rd)
   ready-text (Node.Fuzzy x d a) n made t path c v b r y q i e h at rd =
-      subst (λ (k : Const). Ready engine ty key (placeNarrowing made path (narrowing k) b) y) (sym (fuzzy-constant T engine address ty key folded n t x d a c q e))
-      (ready-fuzzy engine ty key made path x d a b (encode v ++ r) y (holds-at ty key engine path (Narrowing.Fuzzy x d a) v at h) rd)
+      subst (λ (k : Const). Ready engine ty key (placement T (Event.narrow made path (narrowing k)) b) y) (sym (fuzzy-constant T engine address ty key folded n t x d a c q e))
+      (ready-fuzzy engine ty key T made path x d a b (encode v ++ r) y (holds-at ty key engine path (Narrowing.Fuzzy x d a) v at h) rd)
   ready-text (Node.Int bytes) n made t path c v b r y q i e h at rd = absurd i
   ready-text (Node.Str x) n made t path c v b r y q i e h at rd = absurd i
   ready-text (Node.Bytes bytes) n made t path c v b r y q i e h at rd = absurd i
@@ -113,7 +115,7 @@ module _ (T : Tables) (engine : Engine) (address : ℕ) (ty : Ty) (key : Value) 
 
   pub one-live : (o : Option Const) (k : Constraint) (t : ℕ) (path : FieldPath) (w : Walk) (v : Value) (r y : List ℕ) → constant T (k .node) t ≡ o → Text k → Holds v k → valueAt ty key path ≡ some v
       → Clean (one o k path w) → Ready engine ty key (built T w) (encode v ++ r) → Ready engine ty key (built T (one o k path w)) y
-  unfolding one place
+  unfolding one
   one-live none k t path w v r y e i h at c rd = absurd (dirty _ _ _ c)
   one-live (some c) k t path w v r y e i h at cl rd =
       subst (λ b. Ready engine ty key b y) (sym (built-emit T (Event.narrow (k .node) path (narrowing c)) w))
@@ -169,10 +171,7 @@ module _ (T : Tables) (engine : Engine) (address : ℕ) (ty : Ty) (key : Value) 
   bound-live x t path w v r y wh a h f rd =
       let e = built-bound T engine ty key x t w in
       subst (λ b. Ready engine ty key b y) (sym e)
-      (ready-bound engine ty key T folded x t v (built T w) r y wh a h (λ on. fallen (placeBound T x t (built T w)) (subst (λ (b : SeekBuilder). b .building ≡ false → b .edges .folded ≡ folded) e f)) rd)
-    where
-      fallen : (b : SeekBuilder) → (fall b .building ≡ false → fall b .edges .folded ≡ folded) → b .edges .folded ≡ folded
-      fallen b h = unfold fall in h refl
+      (ready-bound engine ty key T folded x t v (built T w) r y wh a h (λ on. subst (λ (b : SeekBuilder). b .building ≡ false → b .edges .folded ≡ folded) e f (skip-falls T (placement T (Event.bound x t) (built T w)))) rd)
 
   -- all that is asked of a name: `ks` are its constraints by rank
   pub by-grows : (ks : List Constraint) (x t : ℕ) (path : FieldPath) (w : Walk) (slot : Slot) → lookup (w .lists .bindings) x ≡ some slot → Grows T engine ty key w (constrainBy (walkOps T) T ks x t path w)

@@ -12,7 +12,7 @@ use Rattle.rules.specs.File.{Tables, Ty, Anchor, Node, FieldPath, Slot, Constra
 use Rattle.rules.specs.Constant.{Const, constant, constantNode, constantBelow, lookup, escape, term, encodePrefix, encodeStr}
 use Rattle.rules.specs.Events.{Narrowing, Event, Walk, walkOps, bind, constrained, report}
 use Rattle.rules.specs.Walk.{narrowing, anchorRank, rank, constraintsOf, ranked, constrainEach, constrainBy, constrain}
-use Rattle.rules.specs.Placement.{Edges, SeekBuilder, fall, withEdges, placeNarrowing, foldFrom, placeBound, place}
+use Rattle.rules.specs.Placement.{Edges, SeekBuilder, fall, withEdges, foldFrom, placeBound}
 use Rattle.rules.proofs.Cases.{by-test, ways, true≢false, some≢none, both-true}
 use Rattle.exact.specs.Values.{Value, encode, zeroFree, OfType}
 use Rattle.exact.specs.Keys.{Engine, begins, valueAt, textOf, textPasses, near, says, holds}
@@ -27,7 +27,9 @@ use Rattle.exact.proofs.Quiet.{Clean}
 use Rattle.exact.proofs.Unique.{tails, cancel, prefix-of}
 use Rattle.exact.proofs.Unplaced.{Or, left, right, prefix-back, fuzzy-back, held-says, bound-back}
 use Rattle.exact.proofs.Folded.{comparisonAt, other-name, silent, within-holds}
-use Rattle.exact.proofs.Grows.{built, built-emit, built-bound, edges-narrowing, dirty, Known}
+use Rattle.exact.specs.Placings.{placement, openPlacings}
+use Rattle.exact.proofs.Steps.{skip-falls}
+use Rattle.exact.proofs.Grows.{built, built-emit, built-bound, edges-skip, edges-narrowing, dirty, Known}
 use Rattle.exact.proofs.Constants.{Consts, prefix-constant, fuzzy-constant, constant-of}
 use Rattle.exact.proofs.Typed.{str-type, of-str}
 use Rattle.exact.proofs.Accepts.{accept-true}
@@ -117,11 +119,11 @@ prefix-typed T engine address ty key folded n t x c q e =
 module _ (T : Tables) (engine : Engine) (address : ℕ) (ty : Ty) (key : Value) (folded : List ℕ) where
   -- a Prefix or a Fuzzy that a key passes holds of the value
   pub text-back : (node : Node) (n made t : ℕ) (path : FieldPath) (c : Const) (v : Value) (b : SeekBuilder) (r : List ℕ) → nodeAt T n ≡ node → IsText node → constant T n t ≡ some c
-      → OfType T v (typeAt T t) → zeroFree v ≡ true → Apart r → valueAt ty key path ≡ some v → Ready engine ty key b (encode v ++ r) → Passing engine ty key (placeNarrowing made path (narrowing c) b) → textMatches T engine node v ≡ true
-  unfolding textMatches placeNarrowing narrowing says near encode encodeStr encodePrefix zeroFree
+      → OfType T v (typeAt T t) → zeroFree v ≡ true → Apart r → valueAt ty key path ≡ some v → Ready engine ty key b (encode v ++ r) → Passing engine ty key (placement T (Event.narrow made path (narrowing c)) b) → textMatches T engine node v ≡ true
+  unfolding textMatches narrowing says near encode encodeStr encodePrefix zeroFree
   text-back (Node.Prefix x) n made t path c v b r q i e of z a at rd p =
       let o = of-str T v (typeAt T t) of (text-type tt) in
-      by (o .0) (o .1) (prefix-back engine ty key made path (encodePrefix (nameAt T x)) b (encode v ++ r) rd (subst (λ (k : Const). Passing engine ty key (placeNarrowing made path (narrowing k) b)) (prefix-constant T engine address ty key folded n t x c q e) p))
+      by (o .0) (o .1) (prefix-back engine ty key T made path (encodePrefix (nameAt T x)) b (encode v ++ r) rd (subst (λ (k : Const). Passing engine ty key (placement T (Event.narrow made path (narrowing k)) b)) (prefix-constant T engine address ty key folded n t x c q e) p))
     where
       text-type : Unit {0} → typeAt T t ≡ Ty.Str
       text-type _ = prefix-typed T engine address ty key folded n t x c q e
@@ -136,7 +138,7 @@ module _ (T : Tables) (engine : Engine) (address : ℕ) (ty : Ty) (key : Value) 
           (prefix-of (nameAt T x) s [] (h .0) (ap zeroFree (sym is) ∙ z) tt (append-nil (escape s ++ term) ∙ tails 3 3 (escape s ++ term) (escape (nameAt T x) ++ h .0) (ap encode (sym is) ∙ h .1)))
   text-back (Node.Fuzzy x d h) n made t path c v b r q i e of z a at rd p =
       held-says engine ty key path (Narrowing.Fuzzy x d h) v at
-      (fuzzy-back engine ty key made path x d h b (subst (λ (k : Const). Passing engine ty key (placeNarrowing made path (narrowing k) b)) (fuzzy-constant T engine address ty key folded n t x d h c q e) p))
+      (fuzzy-back engine ty key T made path x d h b (subst (λ (k : Const). Passing engine ty key (placement T (Event.narrow made path (narrowing k)) b)) (fuzzy-constant T engine address ty key folded n t x d h c q e) p))
   text-back (Node.Int bytes) n made t path c v b r q i e of z a at rd p = absurd i
   text-back (Node.Str x) n made t path c v b r q i e of z a at rd p = absurd i
   text-back (Node.Bytes bytes) n made t path c v b r q i e of z a at rd p = absurd i
@@ -156,7 +158,7 @@ module _ (T : Tables) (engine : Engine) (address : ℕ) (ty : Ty) (key : Value) 
   -- one constraint
   one-back : (o : Option Const) (k : Constraint) (t : ℕ) (path : FieldPath) (w : Walk) (v : Value) (r : List ℕ) → constant T (k .node) t ≡ o → Text T engine address ty key folded k → OfType T v (typeAt T t) → zeroFree v ≡ true → Apart r → valueAt ty key path ≡ some v
       → Ready engine ty key (built T w) (encode v ++ r) → Clean (one T engine address ty key folded o k path w) → Passing engine ty key (built T (one T engine address ty key folded o k path w)) → Holds T engine address ty key folded v k
-  unfolding one place
+  unfolding one
   one-back none k t path w v r e i of z a at rd c p = absurd (dirty _ _ _ c)
   one-back (some c) k t path w v r e i of z a at rd cl p =
       text-back (nodeAt T (k .node)) (k .node) (k .node) t path c v (built T w) r refl i e of z a at rd
@@ -179,9 +181,9 @@ module _ (T : Tables) (engine : Engine) (address : ℕ) (ty : Ty) (key : Value) 
 
   -- constraints set no edge
   one-edges : (o : Option Const) (k : Constraint) (path : FieldPath) (w : Walk) → built T (one T engine address ty key folded o k path w) .edges ≡ built T w .edges
-  unfolding one place report fall
-  one-edges none k path w = ap (λ (b : SeekBuilder). b .edges) (built-emit T Event.skip w)
-  one-edges (some c) k path w = ap (λ (b : SeekBuilder). b .edges) (built-emit T (Event.narrow (k .node) path (narrowing c)) w) ∙ edges-narrowing (k .node) path (narrowing c) (built T w)
+  unfolding one report
+  one-edges none k path w = ap (λ (b : SeekBuilder). b .edges) (built-emit T Event.skip w) ∙ edges-skip T (built T w)
+  one-edges (some c) k path w = ap (λ (b : SeekBuilder). b .edges) (built-emit T (Event.narrow (k .node) path (narrowing c)) w) ∙ edges-narrowing T (k .node) path (narrowing c) (built T w)
 
   each-edges : (ks : List Constraint) (t : ℕ) (path : FieldPath) (w : Walk) → built T (constrainEach (walkOps T) T ks t path w) .edges ≡ built T w .edges
   unfolding next
@@ -213,17 +215,17 @@ module _ (T : Tables) (engine : Engine) (address : ℕ) (ty : Ty) (key : Value) 
         empty : (j : ℕ) → Has j [] → ⊥
         empty j h = unfold first in some≢none (h .0) (sym (h .1))
 
-    bound-edges : (x t : ℕ) (b : SeekBuilder) → b .building ≡ true → fall (placeBound T x t b) .edges ≡ foldFrom T x t 0 (T .comparisons) (b .edges)
-    unfolding placeBound withEdges fall
+    bound-edges : (x t : ℕ) (b : SeekBuilder) → b .building ≡ true → placement T Event.skip (placement T (Event.bound x t) b) .edges ≡ foldFrom T x t 0 (T .comparisons) (b .edges)
+    unfolding openPlacings placeBound withEdges fall
     bound-edges x t b on = by-test (λ (b′ : SeekBuilder). fall b′ .edges ≡ foldFrom T x t 0 (T .comparisons) (b .edges)) (b .building) (λ _. refl) (λ off. absurd (true≢false (sym on ∙ off)))
 
-    bound-none : (x t : ℕ) (b : SeekBuilder) → b .building ≡ false → fall (placeBound T x t b) .edges ≡ b .edges
-    unfolding placeBound withEdges fall
+    bound-none : (x t : ℕ) (b : SeekBuilder) → b .building ≡ false → placement T Event.skip (placement T (Event.bound x t) b) .edges ≡ b .edges
+    unfolding openPlacings placeBound withEdges fall
     bound-none x t b off = by-test (λ (b′ : SeekBuilder). fall b′ .edges ≡ b .edges) (b .building) (λ on. absurd (true≢false (sym on ∙ off))) (λ _. refl)
 
     -- a name without constraints
     bound-folds : (x t : ℕ) (b : SeekBuilder) (v : Value) (r : List ℕ) → (b .edges .folded ≡ folded → foldedHold T folded x t v ≡ true) → Whole v → Apart r → Ready engine ty key b (encode v ++ r)
-        → fall (placeBound T x t b) .edges .folded ≡ folded → Passing engine ty key (fall (placeBound T x t b)) → foldedHold T folded x t v ≡ true
+        → placement T Event.skip (placement T (Event.bound x t) b) .edges .folded ≡ folded → Passing engine ty key (placement T Event.skip (placement T (Event.bound x t) b)) → foldedHold T folded x t v ≡ true
     bound-folds x t b v r quiet wh a rd f p =
         ways (b .building) (foldedHold T folded x t v ≡ true)
         (λ on.
@@ -236,12 +238,12 @@ module _ (T : Tables) (engine : Engine) (address : ℕ) (ty : Ty) (key : Value) 
         → (built T u .edges .folded ≡ folded → foldedHold T folded x t v ≡ true) → Ready engine ty key (built T u) (encode v ++ r)
         → Clean (constrainBy (walkOps T) T ks x t path u) → Final T engine address ty key folded (constrainBy (walkOps T) T ks x t path u) → Passing engine ty key (built T (constrainBy (walkOps T) T ks x t path u))
         → Each (Holds T engine address ty key folded v) ks × (foldedHold T folded x t v ≡ true)
-    unfolding constrainBy constrained fall
+    unfolding constrainBy constrained
     by-back [] x t path u v r is of z a at quiet rd c f p =
         let e = built-bound T engine ty key x t u in (
           done,
           bound-folds x t (built T u) v r quiet (whole T v (typeAt T t) of) a rd
-              (subst (λ (b : SeekBuilder). b .building ≡ false → b .edges .folded ≡ folded) e f refl) (subst (Passing engine ty key) e p),
+              (subst (λ (b : SeekBuilder). b .building ≡ false → b .edges .folded ≡ folded) e f (skip-falls T (placement T (Event.bound x t) (built T u)))) (subst (Passing engine ty key) e p),
         )
     by-back (k ∷ ks) x t path u v r is of z a at quiet rd c f p =
         let u′ : Walk = constrained x u in

@@ -10,7 +10,6 @@ use Rattle.rules.specs.Base.{Each, done, more}
 use Rattle.rules.specs.File.{Tables, Ty, Node, FieldTy, Binding, Constraint, LevelEntry, typeAt, nodeAt, predicateAt}
 use Rattle.rules.specs.Events.{Lists}
 use Rattle.rules.specs.Walk.{freshWalk, walkLevel, key}
-use Rattle.rules.specs.Placement.{placeAll}
 use Rattle.rules.specs.Levels.{Level, starting, levelOf, level, levelsFrom, levels, leftBy, anyMistyped}
 use Rattle.rules.specs.Plan.{planLevel, planOf, plan}
 use Rattle.rules.specs.Demand3.{entryAt, levelAt, startOf}
@@ -22,6 +21,7 @@ use Rattle.exact.specs.Keys.{Engine}
 use Rattle.exact.specs.Passes.{passes}
 use Rattle.exact.specs.Matcher.{keyType, matches}
 use Rattle.exact.specs.Conditions.{isText, constraintsAreTexts, isOwn, ownNodes, Plain}
+use Rattle.exact.specs.Placings.{placedBy, levelBy, placement}
 use Rattle.exact.specs.Claims.{planned, keyTypeOf, boundBefore, Matches, Passes, NoFactSkipped}
 use Rattle.exact.proofs.Ends.{Whole, WholeAll}
 use Rattle.exact.proofs.Placing.{ready-new}
@@ -89,14 +89,14 @@ module _ (T : Tables) (texts : Each (λ (k : Constraint). IsText (nodeAt T (k .n
   clean-walk l start c m = record { diagnostics = c .diagnostics; typed = m }
 
   pub one-level : (l : LevelEntry) (start : Lists) → isOwn (nodeAt T (l .node)) (keyType T l) (start .bindings) ≡ true → SameBound (start .bindings) → CleanLists (level T l start .left) → level T l start .mistyped ≡ false
-      → (engine : Engine) (key′ : Value) → OfType T key′ (keyType T l) → (after : List Binding) → matches T engine l (planLevel (level T l start) .folded) (start .bindings) key′ ≡ some after
-      → (passes engine (keyType T l) (planLevel (level T l start)) key′ ≡ true) × (level T l start .left .bindings ≡ after)
-  unfolding keyType planLevel level levelOf placeAll
+      → (engine : Engine) (key′ : Value) → OfType T key′ (keyType T l) → (after : List Binding) → matches T engine l (planLevel (levelBy placement T (level T l start)) .folded) (start .bindings) key′ ≡ some after
+      → (passes engine (keyType T l) (planLevel (levelBy placement T (level T l start))) key′ ≡ true) × (level T l start .left .bindings ≡ after)
+  unfolding keyType planLevel level levelOf levelBy placedBy
   one-level l start own same clean typed engine key′ of after m =
       let ty : Ty = typeAt T (predicateAt T (l .predicate) .key) in
-      let g = goes-level l start own engine key′ (planLevel (level T l start) .folded) in
+      let g = goes-level l start own engine key′ (planLevel (levelBy placement T (level T l start)) .folded) in
       let r = g .live (whole T key′ ty of) (clean-walk l start clean typed) (λ q. refl) same (ready-new engine ty key′) after m in
-      (level-passes engine ty key′ (level T l start) (r .ready .passing), r .bound)
+      (level-passes engine ty key′ (levelBy placement T (level T l start)) (r .ready .passing), r .bound)
 
   -- any engine and key will do for what does not hang on them
   some-engine : Engine
@@ -132,8 +132,8 @@ module _ (T : Tables) (texts : Each (λ (k : Constraint). IsText (nodeAt T (k .n
 
   abbrev Claim : LevelEntry → Lists → Level → Type 0
   Claim l start lv =
-      (engine : Engine) (key′ : Value) → OfType T key′ (keyType T l) → (after : List Binding) → matches T engine l (planLevel lv .folded) (start .bindings) key′ ≡ some after
-      → (passes engine (keyType T l) (planLevel lv) key′ ≡ true) × (lv .left .bindings ≡ after)
+      (engine : Engine) (key′ : Value) → OfType T key′ (keyType T l) → (after : List Binding) → matches T engine l (planLevel (levelBy placement T lv) .folded) (start .bindings) key′ ≡ some after
+      → (passes engine (keyType T l) (planLevel (levelBy placement T lv)) key′ ≡ true) × (lv .left .bindings ≡ after)
 
   every-level : (start : Lists) (entries : List LevelEntry) → SameBound (start .bindings) → ownNodes T start entries ≡ true → Each (λ (l : Level). l .mistyped ≡ false) (levelsFrom T start entries)
       → CleanLists (leftBy start (levelsFrom T start entries)) → (k : ℕ) → k < length entries → (d : LevelEntry)

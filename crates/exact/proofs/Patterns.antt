@@ -13,27 +13,22 @@ use Rattle.rules.specs.Constant.{Const, constant, alternativeOf, onlyField, loo
 use Rattle.rules.specs.Events.{Code, Narrowing, Event, Walk, walkOps, report, emit, bind}
 use Rattle.rules.specs.Resolve.{Resolver, give, resolveNode, resolveBelow, resolve}
 use Rattle.rules.specs.Walk.{narrowing, narrowBy, deferred, unresolved, partial, injectAlternative, injectOnly, inject, readAnswer, read, ranged, variable, fieldNode, fieldBelow, field, constrain}
-use Rattle.rules.specs.Placement.{SeekKeyPart, placeNarrowing, place}
 use Rattle.rules.proofs.Cases.{by-test, true≢false, some≢none, some-injective, bind-some}
 use Rattle.exact.specs.Values.{Value, _and_, encode}
 use Rattle.exact.specs.Keys.{Engine, valueAt, hasDisc, says}
 use Rattle.exact.specs.Passes.{partBytes}
 use Rattle.exact.specs.Matcher.{Matching, quiet, slotOf, accept, held, textMatches, alternativeMatches, unionMatches, recordAt, writtenMatches, slotMatches, readMatches, newName, nodeMatches, matchesBelow, fieldMatches}
 use Rattle.exact.proofs.Ends.{Whole}
-use Rattle.exact.proofs.Placing.{Ready, ready-part, ready-closer}
+use Rattle.exact.proofs.Placing.{Becomes, Ready, ready-part, ready-closer}
 use Rattle.exact.proofs.Quiet.{read-is}
-use Rattle.exact.proofs.Grows.{built, built-emit, grows-same, grows-next, grows-skip, grows-narrow, grows-closer, grows-read}
+use Rattle.exact.proofs.Grows.{built, grows-same, grows-next, grows-skip, grows-narrow, grows-closer, grows-read}
 use Rattle.exact.proofs.Constants.{Consts, below, accepted, is-union, written-constant, not-constant}
 use Rattle.exact.proofs.Values.{value-payload, holds-at}
-use Rattle.exact.proofs.Forward.{final-back, Goes, Walks, goes-agree, goes-from, goes-report, goes-skip, goes-narrow, goes-written}
+use Rattle.exact.proofs.Forward.{final-back, Goes, Walks, goes-agree, goes-from, goes-report, ready-emit, goes-skip, goes-narrow, goes-written}
 use Rattle.exact.proofs.Names.{IsText, ready-text, goes-new}
 use Rattle.exact.proofs.Pieces.{record-node, union-type, goes-partial, goes-matched}
 
 module _ (T : Tables) (engine : Engine) (address : ℕ) (ty : Ty) (key : Value) (folded : List ℕ) (texts : Each (λ (k : Constraint). IsText (nodeAt T (k .node))) (T .constraints)) where
-  -- an emitted event
-  emitted : (e : Event) (w : Walk) (r : List ℕ) → Ready engine ty key (place T e (built T w)) r → Ready engine ty key (built T (emit e w)) r
-  emitted e w r h = subst (λ b. Ready engine ty key b r) (sym (built-emit T e w)) h
-
   pub emit-bound : (e : Event) (w : Walk) → emit e w .lists .bindings ≡ w .lists .bindings
   unfolding emit
   emit-bound e w = refl
@@ -41,10 +36,10 @@ module _ (T : Tables) (engine : Engine) (address : ℕ) (ty : Ty) (key : Value) 
   -- a tag, before what the union holds
   pub ready-tag : (n disc : ℕ) (path : FieldPath) (w : Walk) (v : Value) (r : List ℕ) → valueAt ty key path ≡ some (Value.Uni disc v) → Ready engine ty key (built T w) (encode (Value.Uni disc v) ++ r)
       → Ready engine ty key (built T (emit (Event.narrow n path (Narrowing.Tag disc)) w)) (encode v ++ (0 ∷ r))
-  unfolding place placeNarrowing partBytes says hasDisc encode encodeUnion
+  unfolding partBytes says hasDisc encode encodeUnion
   ready-tag n disc path w v r at rd =
-      emitted (Event.narrow n path (Narrowing.Tag disc)) w (encode v ++ (0 ∷ r))
-      (ready-part engine ty key n (SeekKeyPart.Bytes (unionTag disc)) path (Narrowing.Tag disc) (built T w) (unionTag disc) (encode v ++ (0 ∷ r)) refl
+      ready-emit T engine address ty key folded (Event.narrow n path (Narrowing.Tag disc)) w (encode v ++ (0 ∷ r))
+      (ready-part engine ty key T (Becomes.tag disc) n path (built T w) (unionTag disc) (encode v ++ (0 ∷ r)) refl
       (holds-at ty key engine path (Narrowing.Tag disc) (Value.Uni disc v) at (eq-eqb disc disc refl))
       (subst (Ready engine ty key (built T w)) (layout tt) rd))
     where
@@ -82,7 +77,7 @@ module _ (T : Tables) (engine : Engine) (address : ℕ) (ty : Ty) (key : Value) 
         }
       where
         closed : (u′ : Walk) (r : List ℕ) → Ready engine ty key (built T u′) (0 ∷ r) → Ready engine ty key (built T (emit (Event.closer n) u′)) r
-        closed u′ r rd = unfold place in emitted (Event.closer n) u′ r (ready-closer engine ty key n (built T u′) r rd)
+        closed u′ r rd = ready-emit T engine address ty key folded (Event.closer n) u′ r (ready-closer engine ty key T n (built T u′) r rd)
 
     goes-only : (n : ℕ) (f : Option FieldPattern) (alts : List Alternative) (path : FieldPath) (w : Walk)
         → Goes T engine address ty key folded w (injectOnly (walkOps T) T address walkBelow n f alts path w) path (λ v. unionMatches T engine address ty key folded matchBelow f alts v path (w .lists .bindings))

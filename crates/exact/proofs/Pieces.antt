@@ -10,7 +10,7 @@ use Rattle.rules.specs.File.{Tables, FieldTy, Alternative, Ty, FieldPattern, No
 use Rattle.rules.specs.Constant.{Const, constant}
 use Rattle.rules.specs.Events.{Code, Narrowing, Event, Walk, walkOps, report, emit, unlessRecords, isMistyped, brings}
 use Rattle.rules.specs.Walk.{narrowing, narrowBy, eachField, refersTo, partialFields, partial, matched, fieldBelow, field}
-use Rattle.rules.specs.Placement.{SeekKeyPart, SeekBuilder, fall, placeNarrowing, place}
+use Rattle.rules.specs.Placement.{SeekBuilder}
 use Rattle.rules.proofs.Cases.{true≢false, some≢none, some-injective, bind-some}
 use Rattle.exact.specs.Values.{Value, _and_, encode, encodeAll, encodeFact}
 use Rattle.exact.specs.Keys.{Engine, valueAt, sameBytes, sameAs, hasBytes, says}
@@ -18,8 +18,9 @@ use Rattle.exact.specs.Passes.{partBytes}
 use Rattle.exact.specs.Matcher.{Matching, accept, eachMatches, fieldsOf, recordMatches, recordAt, writtenMatches, slotMatches}
 use Rattle.exact.proofs.Bytes.{same-eq}
 use Rattle.exact.proofs.Ends.{Whole}
-use Rattle.exact.proofs.Placing.{Ready, ready-fallen, ready-part, ready-own}
+use Rattle.exact.proofs.Placing.{Becomes, Ready, ready-fallen, ready-part, ready-own}
 use Rattle.exact.proofs.Quiet.{Clean}
+use Rattle.exact.proofs.Steps.{skip-falls}
 use Rattle.exact.proofs.Grows.{built, built-emit, either-right, Grows, grows-same, grows-next, grows-skip, grows-brings}
 use Rattle.exact.proofs.Constants.{Consts, below, accepted, is-record, written-constant}
 use Rattle.exact.proofs.Values.{value-field, holds-at}
@@ -86,8 +87,7 @@ module _ (T : Tables) (engine : Engine) (address : ℕ) (ty : Ty) (key : Value) 
       }
 
   pub fell-skip : (w : Walk) → Fell (emit Event.skip w)
-  unfolding place fall
-  fell-skip w = ap (λ (b : SeekBuilder). b .building) (built-emit T Event.skip w)
+  fell-skip w = ap (λ (b : SeekBuilder). b .building) (built-emit T Event.skip w) ∙ skip-falls T (built T w)
 
   module _ (limit : ℕ) (ih : Walks T engine address ty key folded (fieldBelow (walkOps T) T address limit) (below T engine address ty key folded limit)) where
     abbrev walkBelow : ℕ → ℕ → FieldPath → Walk → Walk
@@ -202,34 +202,34 @@ module _ (T : Tables) (engine : Engine) (address : ℕ) (ty : Ty) (key : Value) 
     goes-test false w x y path p q g h = h
 
     goes-fact : (n from : ℕ) (path : FieldPath) (w : Walk) → Goes T engine address ty key folded w (emit (Event.narrow n path (Narrowing.FactId from)) w) path (λ v. accept (hasBytes (encodeFact (engine .row from)) v) (w .lists .bindings))
-    unfolding placeNarrowing partBytes says hasBytes
+    unfolding partBytes says hasBytes
     goes-fact n from path w =
         goes-narrow T engine address ty key folded n path (Narrowing.FactId from) w _
         (λ v r after at c q.
         let p = accepted (sameBytes (encode v) (encodeFact (engine .row from))) (w .lists .bindings) after q in (
           p .1,
-          ready-part engine ty key n (SeekKeyPart.RegisterFactId from) path (Narrowing.FactId from) (built T w) (encode v) r (sym (same-eq (encode v) (encodeFact (engine .row from)) (p .0)))
+          ready-part engine ty key T (Becomes.fact from) n path (built T w) (encode v) r (sym (same-eq (encode v) (encodeFact (engine .row from)) (p .0)))
               (holds-at ty key engine path (Narrowing.FactId from) v at (p .0)),
         ))
 
     goes-register : (n from : ℕ) (other path : FieldPath) (w : Walk) → Goes T engine address ty key folded w (emit (Event.narrow n path (Narrowing.RegisterField from other)) w) path (λ v. accept (hasBytes (engine .fields from other) v) (w .lists .bindings))
-    unfolding placeNarrowing partBytes says hasBytes
+    unfolding partBytes says hasBytes
     goes-register n from other path w =
         goes-narrow T engine address ty key folded n path (Narrowing.RegisterField from other) w _
         (λ v r after at c q.
         let p = accepted (sameBytes (encode v) (engine .fields from other)) (w .lists .bindings) after q in (
           p .1,
-          ready-part engine ty key n (SeekKeyPart.RegisterField from other) path (Narrowing.RegisterField from other) (built T w) (encode v) r (sym (same-eq (encode v) (engine .fields from other) (p .0)))
+          ready-part engine ty key T (Becomes.register from other) n path (built T w) (encode v) r (sym (same-eq (encode v) (engine .fields from other) (p .0)))
               (holds-at ty key engine path (Narrowing.RegisterField from other) v at (p .0)),
         ))
 
     goes-own : (n : ℕ) (other path : FieldPath) (w : Walk) → Goes T engine address ty key folded w (emit (Event.narrow n path (Narrowing.OwnField other)) w) path (λ v. accept (sameAs ty key other v) (w .lists .bindings))
-    unfolding placeNarrowing says
+    unfolding says
     goes-own n other path w =
         goes-narrow T engine address ty key folded n path (Narrowing.OwnField other) w _
         (λ v r after at c q.
         let p = accepted (sameAs ty key other v) (w .lists .bindings) after q in
-        (p .1, ready-own engine ty key n path other (built T w) (encode v ++ r) r (holds-at ty key engine path (Narrowing.OwnField other) v at (p .0))))
+        (p .1, ready-own engine ty key T n path other (built T w) (encode v ++ r) r (holds-at ty key engine path (Narrowing.OwnField other) v at (p .0))))
 
     -- what a slot stands for
     pub goes-matched : (n : ℕ) (slot : Slot) (t : ℕ) (path : FieldPath) (w : Walk)

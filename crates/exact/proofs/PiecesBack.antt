@@ -11,7 +11,6 @@ use Rattle.rules.specs.File.{Tables, FieldTy, Alternative, Ty, FieldPattern, No
 use Rattle.rules.specs.Constant.{Const, constant, constantNode, constantBelow, constantRecord, alternativeOf, onlyField, term, unionTag, encodeInt, encodeStr, encodeBytes, encodeUnion}
 use Rattle.rules.specs.Events.{Code, Narrowing, Event, Walk, walkOps, report, emit, brings}
 use Rattle.rules.specs.Walk.{narrowing, narrowBy, eachField, refersTo, partialFields, partial, matched, injectAlternative, injectOnly, inject, fieldBelow}
-use Rattle.rules.specs.Placement.{SeekKeyPart, placePart, placeNarrowing, place}
 use Rattle.rules.proofs.Cases.{true≢false, some≢none, eqb-eq}
 use Rattle.rules.proofs.Each.{each-first}
 use Rattle.rules.proofs.Keeps.{record-children, union-children}
@@ -21,8 +20,9 @@ use Rattle.exact.specs.Passes.{partBytes}
 use Rattle.exact.specs.Matcher.{Matching, accept, eachMatches, held, recordMatches, alternativeMatches, unionMatches, recordAt, writtenMatches, slotMatches}
 use Rattle.exact.proofs.Bytes.{Starts, same-eq}
 use Rattle.exact.proofs.Ends.{Apart}
-use Rattle.exact.proofs.Placing.{Passing, Ready}
+use Rattle.exact.proofs.Placing.{Becomes, Passing, Ready}
 use Rattle.exact.proofs.Unplaced.{Or, left, right, part-back, held-says}
+use Rattle.exact.specs.Placings.{placement}
 use Rattle.exact.proofs.Grows.{built, built-emit, grows-next, grows-skip, grows-narrow, grows-closer, grows-brings}
 use Rattle.exact.proofs.Constants.{Consts, below, at-int, at-str, at-bytes, not-constant, constant-of, record-constant}
 use Rattle.exact.proofs.Values.{value-field, value-payload}
@@ -90,13 +90,13 @@ module _ (T : Tables) (facts : Facts T) (engine : Engine) (address : ℕ) (ty : 
     -- a constant's bytes
     comes-written : (n c t : ℕ) (path : FieldPath) (k : Const) (b : List ℕ) (w : Walk) → k ≡ Const.Bytes b → varName (nodeAt T c) ≡ none → t < suc limit → constant T c t ≡ some k
         → Comes T engine address ty key folded w (emit (Event.narrow n path (narrowing k)) w) path t (λ v. writtenMatches T engine address ty key folded matchBelow (nodeAt T c) t v path (w .lists .bindings))
-    unfolding placeNarrowing narrowing partBytes says hasBytes
+    unfolding narrowing partBytes says hasBytes
     comes-written n c t path k b w is o l e =
         comes-narrow T engine address ty key folded n path (narrowing k) w t _
         (λ v r of z a at rd cs hd p. (
           w .lists .bindings,
           by v r of z a at cs
-              (part-back engine ty key n (SeekKeyPart.Bytes b) path (Narrowing.Bytes b) (built T w) (encode v ++ r) rd (subst (λ (x : Const). Passing engine ty key (placeNarrowing n path (narrowing x) (built T w))) is p)),
+              (part-back engine ty key T (Becomes.bytes b) n path (built T w) (encode v ++ r) rd (subst (λ (x : Const). Passing engine ty key (placement T (Event.narrow n path (narrowing x)) (built T w))) is p)),
         ))
       where
         by : (v : Value) (r : List ℕ) → OfType T v (typeAt T t) → zeroFree v ≡ true → Apart r → valueAt ty key path ≡ some v → Consts T engine address ty key folded (w .lists .bindings)
@@ -211,8 +211,8 @@ module _ (T : Tables) (facts : Facts T) (engine : Engine) (address : ℕ) (ty : 
             layout : (x : Value) (r : List ℕ) → encode (Value.Uni (alt .disc) x) ++ r ≡ unionTag (alt .disc) ++ (encode x ++ (0 ∷ r))
             layout x r = unfold encode encodeUnion in append-assoc (unionTag (alt .disc) ++ encode x) term r ∙ append-assoc (unionTag (alt .disc)) (encode x) (0 ∷ r)
 
-        placed : Passing engine ty key (built T u) → Passing engine ty key (placePart n (SeekKeyPart.Bytes (unionTag (alt .disc))) path (Narrowing.Tag (alt .disc)) (built T w))
-        placed p = unfold place placeNarrowing in subst (Passing engine ty key) (built-emit T (Event.narrow n path (Narrowing.Tag (alt .disc))) w) p
+        placed : Passing engine ty key (built T u) → Passing engine ty key (placement T (Event.narrow n path (Narrowing.Tag (alt .disc))) (built T w))
+        placed p = subst (Passing engine ty key) (built-emit T (Event.narrow n path (Narrowing.Tag (alt .disc))) w) p
 
         free : (v x : Value) → v ≡ Value.Uni (alt .disc) x → zeroFree v ≡ true → zeroFree x ≡ true
         free v x e z = unfold zeroFree in ap zeroFree (sym e) ∙ z
@@ -228,7 +228,7 @@ module _ (T : Tables) (facts : Facts T) (engine : Engine) (address : ℕ) (ty : 
             let inner = goes (f .node) (alt .type) (payload path (alt .disc)) u .grows in
             let last = grows-closer T engine ty key n u′ in
             let first = given-first T engine address ty key folded w u (emit (Event.closer n) u′) tagged (grows-next T engine ty key u u′ (emit (Event.closer n) u′) inner last) (encode v ++ r) rd gv in
-            let c = found v r of at (part-back engine ty key n (SeekKeyPart.Bytes (unionTag (alt .disc))) path (Narrowing.Tag (alt .disc)) (built T w) (encode v ++ r) rd (placed (first .passing))) in
+            let c = found v r of at (part-back engine ty key T (Becomes.tag (alt .disc)) n path (built T w) (encode v ++ r) rd (placed (first .passing))) in
             let rdu = ready-tag T engine address ty key folded texts n (alt .disc) path w (c .0) r (at ∙ ap some (c .1)) (subst (λ (y : Value). Ready engine ty key (built T w) (encode y ++ r)) (c .1) rd) in
             let s = comes (f .node) (alt .type) (payload path (alt .disc)) u below-it .back (c .0) (0 ∷ r) (c .2) (free v (c .0) (c .1) z) refl (value-payload ty key path (alt .disc) (c .0) (at ∙ ap some (c .1))) rdu
             (given-first T engine address ty key folded u u′ (emit (Event.closer n) u′) inner last (encode (c .0) ++ (0 ∷ r)) rdu (given-second T engine address ty key folded w u (emit (Event.closer n) u′) tagged gv)) in

@@ -1,4 +1,4 @@
--- What a level that is being built asks of a key, and what each placement does to it: where the event that is placed holds, the key still passes.
+-- What a level that is being built asks of a key, and what the claims' placement does to it: where the event that is placed holds, the key still passes.
 use mathlib.Core.Bool.{true, false}
 use mathlib.Core.List.{List, [], _∷_, _++_, append-nil, append-assoc}
 use mathlib.Core.Option.{Option, none, some}
@@ -6,16 +6,24 @@ use mathlib.Core.Path.{_≡_, refl, sym, ap, _∙_, subst}
 use Prim.Native.Nat.{ℕ}
 use lib.ListN.{length, drop}
 use Rattle.rules.specs.Base.{Each, done, concatMap}
-use Rattle.rules.specs.File.{Ty, FieldPath, Anchor}
-use Rattle.rules.specs.Constant.{term}
-use Rattle.rules.specs.Events.{Narrowing}
+use Rattle.rules.specs.File.{Tables, Ty, FieldPath, Anchor}
+use Rattle.rules.specs.Constant.{unionTag, term}
+use Rattle.rules.specs.Events.{Narrowing, Event}
 use Rattle.rules.specs.Placement.{SeekKeyPart, Part, Residual, Guide, Range, RangeEdge, Edges, SeekBuilder, new, withPart, withResidual, withGuide, withRange, withCloser, fall, placePart, placePrefix, attachable, placeFuzzy, placeOwn, placeCloser}
 use Rattle.rules.proofs.Cases.{by-test, by-option, ways, true≢false, some≢none, some-injective}
 use Rattle.rules.proofs.Each.{each-snoc}
 use Rattle.exact.specs.Values.{Value}
 use Rattle.exact.specs.Keys.{Engine, stored, holds}
 use Rattle.exact.specs.Passes.{partBytes, partsBytes, firstValue, within}
+use Rattle.exact.specs.Placings.{placement, openPlacings}
 use Rattle.exact.proofs.Bytes.{Starts}
+
+-- "The first four": a byte, tag, register or fact narrowing, and the part that it can become
+pub data Becomes : Narrowing → SeekKeyPart → Type 0 where
+  bytes : (own : List ℕ) → Becomes (Narrowing.Bytes own) (SeekKeyPart.Bytes own)
+  tag : (disc : ℕ) → Becomes (Narrowing.Tag disc) (SeekKeyPart.Bytes (unionTag disc))
+  register : (address : ℕ) (at : FieldPath) → Becomes (Narrowing.RegisterField address at) (SeekKeyPart.RegisterField address at)
+  fact : (address : ℕ) → Becomes (Narrowing.FactId address) (SeekKeyPart.RegisterFactId address)
 
 -- what stands while building holds: nothing but parts
 pub record Open (range : Option Range) (guide : Option Guide) (e : Edges) : Type 0 where
@@ -80,6 +88,11 @@ module _ (engine : Engine) (ty : Ty) (key : Value) where
         ahead = λ q. absurd (true≢false (sym q));
       }
 
+  -- a skip: building falls
+  pub ready-skip : (T : Tables) (b : SeekBuilder) (x y : List ℕ) → Ready b x → Ready (placement T Event.skip b) y
+  unfolding openPlacings
+  ready-skip T b x y r = ready-fall b x y r
+
   ready-residual : (b : SeekBuilder) (x y : List ℕ) (residual : Residual) → Ready b x → b .building ≡ false → holds engine ty key (residual .path) (residual .op) ≡ true → Ready (withResidual residual b) y
   unfolding withResidual
   ready-residual b x y residual r f h =
@@ -108,14 +121,22 @@ module _ (engine : Engine) (ty : Ty) (key : Value) where
         ahead = λ q. on;
       }
 
-  -- a byte, tag, register or fact narrowing
-  pub ready-part : (n : ℕ) (part : SeekKeyPart) (path : FieldPath) (op : Narrowing) (b : SeekBuilder) (x rest : List ℕ)
+  ready-place-part : (n : ℕ) (part : SeekKeyPart) (path : FieldPath) (op : Narrowing) (b : SeekBuilder) (x rest : List ℕ)
       → partBytes engine part ≡ x → holds engine ty key path op ≡ true → Ready b (x ++ rest) → Ready (placePart n part path op b) rest
   unfolding placePart
-  ready-part n part path op b x rest e h r =
+  ready-place-part n part path op b x rest e h r =
       by-test (λ b′. Ready b′ rest) (b .building)
       (λ t. ready-with-part b x rest (record { key = part; node = n }) r t e)
       (λ f. ready-residual b (x ++ rest) rest (record { path = path; op = op; node = n }) r f h)
+
+  -- a byte, tag, register or fact narrowing: its bytes are next
+  pub ready-part : (T : Tables) {op : Narrowing} {part : SeekKeyPart} → Becomes op part → (n : ℕ) (path : FieldPath) (b : SeekBuilder) (x rest : List ℕ)
+      → partBytes engine part ≡ x → holds engine ty key path op ≡ true → Ready b (x ++ rest) → Ready (placement T (Event.narrow n path op) b) rest
+  unfolding openPlacings
+  ready-part T (Becomes.bytes own) n path b x rest e h r = ready-place-part n (SeekKeyPart.Bytes own) path (Narrowing.Bytes own) b x rest e h r
+  ready-part T (Becomes.tag disc) n path b x rest e h r = ready-place-part n (SeekKeyPart.Bytes (unionTag disc)) path (Narrowing.Tag disc) b x rest e h r
+  ready-part T (Becomes.register a at) n path b x rest e h r = ready-place-part n (SeekKeyPart.RegisterField a at) path (Narrowing.RegisterField a at) b x rest e h r
+  ready-part T (Becomes.fact a) n path b x rest e h r = ready-place-part n (SeekKeyPart.RegisterFactId a) path (Narrowing.FactId a) b x rest e h r
 
   ready-range : (b : SeekBuilder) (x y : List ℕ) (range : Range) → Ready b x → b .building ≡ true → Starts (range .prefix) x → Ready (fall (withRange range b)) y
   unfolding fall withRange
@@ -135,10 +156,10 @@ module _ (engine : Engine) (ty : Ty) (key : Value) where
       }
 
   -- a prefix: building falls, or has fallen
-  pub ready-prefix : (n : ℕ) (path : FieldPath) (prefix : List ℕ) (b : SeekBuilder) (x y : List ℕ)
-      → Starts prefix x → holds engine ty key path (Narrowing.Prefix prefix) ≡ true → Ready b x → Ready (placePrefix n path prefix b) y
-  unfolding placePrefix
-  ready-prefix n path prefix b x y s h r =
+  pub ready-prefix : (T : Tables) (n : ℕ) (path : FieldPath) (prefix : List ℕ) (b : SeekBuilder) (x y : List ℕ)
+      → Starts prefix x → holds engine ty key path (Narrowing.Prefix prefix) ≡ true → Ready b x → Ready (placement T (Event.narrow n path (Narrowing.Prefix prefix)) b) y
+  unfolding openPlacings placePrefix
+  ready-prefix T n path prefix b x y s h r =
       by-test (λ b′. Ready b′ y) (b .building)
       (λ t. ready-range b x y (record { path = path; prefix = prefix; node = n }) r t s)
       (λ f. ready-residual b x y (record { path = path; op = Narrowing.Prefix prefix; node = n }) r f h)
@@ -167,18 +188,18 @@ module _ (engine : Engine) (ty : Ty) (key : Value) where
       (λ e q h. by-test (λ r. r ≡ false → b .building ≡ false) (b .building) (λ t r. absurd (true≢false r)) (λ f r. f) q)
       (λ g e q h. ways (b .building) (b .building ≡ false) (λ t. absurd (some≢none g (sym e ∙ h t))) (λ f. f))
 
-  pub ready-fuzzy : (n : ℕ) (path : FieldPath) (x distance : ℕ) (anchor : Anchor) (b : SeekBuilder) (rest y : List ℕ)
-      → holds engine ty key path (Narrowing.Fuzzy x distance anchor) ≡ true → Ready b rest → Ready (placeFuzzy n path x distance anchor b) y
-  unfolding placeFuzzy
-  ready-fuzzy n path x distance anchor b rest y h r =
+  pub ready-fuzzy : (T : Tables) (n : ℕ) (path : FieldPath) (x distance : ℕ) (anchor : Anchor) (b : SeekBuilder) (rest y : List ℕ)
+      → holds engine ty key path (Narrowing.Fuzzy x distance anchor) ≡ true → Ready b rest → Ready (placement T (Event.narrow n path (Narrowing.Fuzzy x distance anchor)) b) y
+  unfolding openPlacings placeFuzzy
+  ready-fuzzy T n path x distance anchor b rest y h r =
       by-test (λ b′. Ready b′ y) (attachable b path)
       (λ t. ready-guide b rest y (record { path = path; term = x; distance = distance; anchor = anchor; node = n }) r h)
       (λ f. ready-residual b rest y (record { path = path; op = Narrowing.Fuzzy x distance anchor; node = n }) r (attaches b path f (λ t. r .alone t .no-guide)) h)
 
   -- a field of the level's own row: always a residual, and building falls
-  pub ready-own : (n : ℕ) (path at : FieldPath) (b : SeekBuilder) (x y : List ℕ) → holds engine ty key path (Narrowing.OwnField at) ≡ true → Ready b x → Ready (placeOwn n path at b) y
-  unfolding placeOwn fall withResidual
-  ready-own n path at b x y h r =
+  pub ready-own : (T : Tables) (n : ℕ) (path at : FieldPath) (b : SeekBuilder) (x y : List ℕ) → holds engine ty key path (Narrowing.OwnField at) ≡ true → Ready b x → Ready (placement T (Event.narrow n path (Narrowing.OwnField at)) b) y
+  unfolding openPlacings placeOwn fall withResidual
+  ready-own T n path at b x y h r =
       record {
         alone = λ q. absurd (true≢false (sym q));
         passing = record { starts = r .passing .starts; range = r .passing .range; edges = r .passing .edges; guide = r .passing .guide; residuals = each-snoc (r .passing .residuals) h };
@@ -186,9 +207,9 @@ module _ (engine : Engine) (ty : Ty) (key : Value) where
       }
 
   -- a closer: the byte 00 is next
-  pub ready-closer : (n : ℕ) (b : SeekBuilder) (rest : List ℕ) → Ready b (0 ∷ rest) → Ready (placeCloser n b) rest
-  unfolding placeCloser withCloser withPart partBytes
-  ready-closer n b rest r =
+  pub ready-closer : (T : Tables) (n : ℕ) (b : SeekBuilder) (rest : List ℕ) → Ready b (0 ∷ rest) → Ready (placement T (Event.closer n) b) rest
+  unfolding openPlacings placeCloser withCloser withPart partBytes
+  ready-closer T n b rest r =
       by-test (λ b′. Ready b′ rest) (b .building)
       (λ t. let p = ready-with-part b term rest (record { key = SeekKeyPart.Bytes term; node = n }) r t refl in
       record {

@@ -1,4 +1,4 @@
--- What every placement does, whatever the key: building never returns, what is folded after the fall stays, and a key that the level keeps after an event was kept
+-- What the claims' placement does, whatever the key: building never returns, what is folded after the fall stays, and a key that the level keeps after an event was kept
 -- before it.
 use mathlib.Core.Bool.{true, false}
 use mathlib.Core.List.{List, [], _∷_, _++_}
@@ -7,13 +7,14 @@ use mathlib.Core.Path.{_≡_, refl, sym, _∙_, subst}
 use Prim.Native.Nat.{ℕ}
 use Rattle.rules.specs.Base.{Each, done, more}
 use Rattle.rules.specs.File.{Ty, Tables, FieldPath, Anchor}
-use Rattle.rules.specs.Events.{Narrowing}
+use Rattle.rules.specs.Events.{Narrowing, Event}
 use Rattle.rules.specs.Placement.{SeekKeyPart, Part, Residual, Range, SeekBuilder, withPart, withResidual, withGuide, withRange, withEdges, withCloser, fall, placePart, placePrefix, attachable, placeFuzzy, placeOwn, placeNarrowing, placeCloser, placeBound}
 use Rattle.rules.proofs.Cases.{by-test, by-option, true≢false, some≢none}
 use Rattle.rules.proofs.Lists.{Onwards, onwards-same, onwards-next, onwards-one}
 use Rattle.exact.specs.Values.{Value}
 use Rattle.exact.specs.Keys.{Engine, stored, holds}
 use Rattle.exact.specs.Passes.{partBytes, partsBytes}
+use Rattle.exact.specs.Placings.{placement, openPlacings}
 use Rattle.exact.proofs.Bytes.{Starts, starts-less}
 use Rattle.exact.proofs.Placing.{Open, edged-none, parts-snoc, Passing}
 
@@ -28,6 +29,11 @@ Excludes b = (r : Range) → b .range ≡ some r → (b .edges .lo ≡ none) × 
 each-init : {A : Type 0} {P : A → Type 0} (xs : List A) (x : A) → Each P (xs ++ (x ∷ [])) → Each P xs
 each-init [] x h = done
 each-init (y ∷ xs) x (more p h) = more p (each-init xs x h)
+
+-- after a skip building does not hold
+pub skip-falls : (T : Tables) (b : SeekBuilder) → placement T Event.skip b .building ≡ false
+unfolding openPlacings fall
+skip-falls T b = refl
 
 module _ (engine : Engine) (ty : Ty) (key : Value) where
   pub record Steps (b b′ : SeekBuilder) : Type 0 where
@@ -52,7 +58,7 @@ module _ (engine : Engine) (ty : Ty) (key : Value) where
         back = λ q p. g .back q (h .back (g .alone q) p);
       }
 
-  pub steps-fall : (b : SeekBuilder) → Steps b (fall b)
+  steps-fall : (b : SeekBuilder) → Steps b (fall b)
   unfolding fall
   steps-fall b =
       record {
@@ -63,6 +69,10 @@ module _ (engine : Engine) (ty : Ty) (key : Value) where
         excludes = λ a x. x;
         back = λ a p. record { starts = p .starts; range = p .range; edges = p .edges; guide = p .guide; residuals = p .residuals };
       }
+
+  pub steps-skip : (T : Tables) (b : SeekBuilder) → Steps b (placement T Event.skip b)
+  unfolding openPlacings
+  steps-skip T b = steps-fall b
 
   steps-residual : (b : SeekBuilder) (residual : Residual) → Steps b (withResidual residual b)
   unfolding withResidual
@@ -133,15 +143,15 @@ module _ (engine : Engine) (ty : Ty) (key : Value) where
       })
       (λ off. steps-residual b (record { path = path; op = Narrowing.Fuzzy x distance anchor; node = n }))
 
-  pub steps-narrowing : (n : ℕ) (path : FieldPath) (x : Narrowing) (b : SeekBuilder) → Steps b (placeNarrowing n path x b)
-  unfolding placeNarrowing placeOwn
-  steps-narrowing n path (Narrowing.Bytes bytes) b = steps-part n _ path _ b
-  steps-narrowing n path (Narrowing.Tag disc) b = steps-part n _ path _ b
-  steps-narrowing n path (Narrowing.RegisterField a at) b = steps-part n _ path _ b
-  steps-narrowing n path (Narrowing.FactId a) b = steps-part n _ path _ b
-  steps-narrowing n path (Narrowing.Prefix prefix) b = steps-prefix n path prefix b
-  steps-narrowing n path (Narrowing.Fuzzy x d a) b = steps-fuzzy n path x d a b
-  steps-narrowing n path (Narrowing.OwnField at) b = steps-next b _ _ (steps-residual b _) (steps-fall _)
+  pub steps-narrowing : (T : Tables) (n : ℕ) (path : FieldPath) (x : Narrowing) (b : SeekBuilder) → Steps b (placement T (Event.narrow n path x) b)
+  unfolding openPlacings placeOwn
+  steps-narrowing T n path (Narrowing.Bytes bytes) b = steps-part n _ path _ b
+  steps-narrowing T n path (Narrowing.Tag disc) b = steps-part n _ path _ b
+  steps-narrowing T n path (Narrowing.RegisterField a at) b = steps-part n _ path _ b
+  steps-narrowing T n path (Narrowing.FactId a) b = steps-part n _ path _ b
+  steps-narrowing T n path (Narrowing.Prefix prefix) b = steps-prefix n path prefix b
+  steps-narrowing T n path (Narrowing.Fuzzy x d a) b = steps-fuzzy n path x d a b
+  steps-narrowing T n path (Narrowing.OwnField at) b = steps-next b _ _ (steps-residual b _) (steps-fall _)
 
   steps-counted : (b b′ : SeekBuilder) → Steps b b′ → Steps b (withCloser b′)
   unfolding withCloser
@@ -155,13 +165,13 @@ module _ (engine : Engine) (ty : Ty) (key : Value) where
         back = λ a p. s .back a (record { starts = p .starts; range = p .range; edges = p .edges; guide = p .guide; residuals = p .residuals });
       }
 
-  pub steps-closer : (n : ℕ) (b : SeekBuilder) → Steps b (placeCloser n b)
-  unfolding placeCloser
-  steps-closer n b = by-test (Steps b) (b .building) (λ on. steps-counted b _ (steps-with-part b _ on)) (λ off. steps-same b)
+  pub steps-closer : (T : Tables) (n : ℕ) (b : SeekBuilder) → Steps b (placement T (Event.closer n) b)
+  unfolding openPlacings placeCloser
+  steps-closer T n b = by-test (Steps b) (b .building) (λ on. steps-counted b _ (steps-with-part b _ on)) (λ off. steps-same b)
 
   -- a bound and the skip after it
-  pub steps-bound : (T : Tables) (x t : ℕ) (b : SeekBuilder) → Steps b (fall (placeBound T x t b))
-  unfolding placeBound fall withEdges
+  pub steps-bound : (T : Tables) (x t : ℕ) (b : SeekBuilder) → Steps b (placement T Event.skip (placement T (Event.bound x t) b))
+  unfolding openPlacings placeBound fall withEdges
   steps-bound T x t b =
       by-test (λ b′. Steps b (fall b′)) (b .building)
       (λ on. record {

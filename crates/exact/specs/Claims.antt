@@ -12,11 +12,13 @@ use Rattle.exact.specs.Values.{Value}
 use Rattle.exact.specs.Keys.{Engine}
 use Rattle.exact.specs.Passes.{passes}
 use Rattle.exact.specs.Matcher.{keyType, matches}
+use Rattle.exact.specs.Placings.{levelBy, placement}
 
--- level k as the plan has it, the type of its keys, and the bindings that the levels before it left
+-- level k as the plan has it: its walk's events, placed one by one
 unfoldable pub planned : Tables → ℕ → PlanLevel
-planned T k = planLevel (levelAt T (levels T) k)
+planned T k = planLevel (levelBy placement T (levelAt T (levels T) k))
 
+-- the type of its keys, and the bindings that the levels before it left
 unfoldable pub keyTypeOf : Tables → ℕ → Ty
 keyTypeOf T k = keyType T (entryAt T k)
 

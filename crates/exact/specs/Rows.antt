@@ -21,6 +21,7 @@ use Rattle.exact.specs.Keys.{Engine, begins, openKeys}
 use Rattle.exact.specs.Passes.{passes, openPasses}
 use Rattle.exact.specs.Matcher.{matches, openMatcher}
 use Rattle.exact.specs.Conditions.{constraintsAreTexts, ownNodes, openConditions}
+use Rattle.exact.specs.Placings.{placedBy, levelBy, openPlacings}
 use Rattle.exact.specs.Claims.{planned, keyTypeOf, boundBefore, openClaims}
 
 -- texts: a, b, ab, none, and a zero byte
@@ -216,5 +217,5 @@ isPlain T =
 -- the rules, opened for computing
 unfoldable pub openExact : Unit {0}
 unfolding openBase openFile openChecks openConstant openLookup openEvents openResolve openWalk openPlacement openLevels openPlan openDemand3
-    openValues openKeys openPasses openMatcher openClaims openConditions isSome keeps accepts same holds isEmpty isPlain
+    openValues openKeys openPasses openMatcher placedBy levelBy openPlacings openClaims openConditions isSome keeps accepts same holds isEmpty isPlain
 openExact = tt
