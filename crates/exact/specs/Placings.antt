@@ -93,7 +93,7 @@ prefixAsPart T (Event.bound x t) level = place T (Event.bound x t) level
 unfoldable pub placement : Placing
 placement = place
 
--- the placements, opened: of an event that is known each gives a level
+-- All of them opened: a proof about one kind of event computes with whichever `placement` is, and fails only where that one differs.
 unfoldable pub openPlacings : Unit {0}
 unfolding placement place placeNarrowing narrowLate partAfterTheFall closerForgotten skipKeepsBuilding takeLast foldLast lastComparison
     narrowPrefix prefixAsPart

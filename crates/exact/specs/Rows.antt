@@ -217,5 +217,6 @@ isPlain T =
 -- the rules, opened for computing
 unfoldable pub openExact : Unit {0}
 unfolding openBase openFile openChecks openConstant openLookup openEvents openResolve openWalk openPlacement openLevels openPlan openDemand3
-    openValues openKeys openPasses openMatcher placedBy levelBy openPlacings openClaims openConditions isSome keeps accepts same holds isEmpty isPlain
+    openValues openKeys openPasses openMatcher placedBy levelBy openPlacings openClaims openConditions isSome keeps accepts same
+    holds isEmpty isPlain
 openExact = tt
