@@ -1,16 +1,16 @@
 -- What passes matches, piece by piece: where a key passes after the events of a piece of the walk, the matcher accepts what that piece reads. The key has no zero
 -- byte in its texts, and the registers that became parts hold encoded values.
-use mathlib.Core.Bool.{true, false}
+use mathlib.Core.Bool.{true}
 use mathlib.Core.List.{List, [], _∷_, _++_, append-assoc}
 use mathlib.Core.Option.{Option, none, some}
 use mathlib.Core.Path.{_≡_, refl, sym, ap, _∙_, subst}
-use Prim.Native.Nat.{ℕ, zero, suc, _+_, _<_}
+use Prim.Native.Nat.{ℕ, suc, _+_, _<_}
 use native.Mathlib.Omega.{arith}
 use Rattle.rules.specs.Base.{Each, done, more, _whenSome_}
 use Rattle.rules.specs.File.{Tables, FieldTy, Ty, FieldPattern, FieldPath, Binding, typeAt}
 use Rattle.rules.specs.Constant.{fieldPattern}
 use Rattle.rules.specs.Events.{Code, Narrowing, Event, Walk, report, emit}
-use Rattle.rules.specs.Walk.{narrowing, FieldWalk, eachField}
+use Rattle.rules.specs.Walk.{FieldWalk, eachField}
 use Rattle.rules.specs.Placement.{SeekKeyPart, Part, SeekBuilder, withPart, placePart, new}
 use Rattle.rules.proofs.Cases.{by-test, true≢false, both-left, both-right}
 use Rattle.rules.proofs.Lists.{Onwards}

@@ -11,7 +11,7 @@ use lib.Seq.{getD-take}
 use lib.Dec.{eqb}
 use Rattle.rules.specs.Base.{first, _whenSome_}
 use Rattle.rules.specs.File.{Tables, Alternative, FieldPattern, Node, FieldPath, Slot, Binding, typeAt, nodeAt, factTy, unionTy, recordFields, varName, constantOf, constants, isConstant}
-use Rattle.rules.specs.Constant.{Const, constant, alternativeOf, fieldPattern, lookup, constNode}
+use Rattle.rules.specs.Constant.{Const, alternativeOf, fieldPattern, lookup, constNode}
 use Rattle.rules.specs.Lookup.{FieldAt, fetchedRegister, slotAt, rowField, rowValue, foldedField, foldedSlot, hoistedSlot}
 use Rattle.rules.specs.Resolve.{Answer, Resolver, follow, _whenFound_, give, declined, fetchedRow, dereference, fieldOfRow, fieldSlot, valueSlot, selected, selectSlot, resolveNode, resolveBelow, resolve}
 use Rattle.rules.proofs.BottomUp.{extends, at-place}

@@ -1,5 +1,5 @@
 -- The comparisons that a level folds: where they hold of a value, its bytes are within the edges.
-use mathlib.Core.Bool.{Bool, true, false}
+use mathlib.Core.Bool.{Bool, true}
 use mathlib.Core.List.{List, [], _∷_, _++_}
 use mathlib.Core.Option.{Option, none, some}
 use mathlib.Core.Path.{_≡_, refl, sym, ap, _∙_, subst}
@@ -11,7 +11,7 @@ use borrow.Author.Tests.{eq-eqb}
 use Rattle.rules.specs.Base.{allFrom, first}
 use Rattle.rules.specs.File.{Tables, Ty, CompareOp, Comparison}
 use Rattle.rules.specs.Events.{Event}
-use Rattle.rules.specs.Placement.{RangeEdge, Edges, SeekBuilder, withEdges, fall, Sided, sided, takeHi, takeLo, takeEdge, edge, foldFrom, placeBound}
+use Rattle.rules.specs.Placement.{RangeEdge, Edges, SeekBuilder, withEdges, fall, Sided, sided, takeHi, takeLo, takeEdge, foldFrom, placeBound}
 use Rattle.rules.proofs.Cases.{by-test, by-option, true≢false, some≢none, both-true}
 use Rattle.rules.proofs.Lists.{Onwards, onwards-same, onwards-next, onwards-one}
 use Rattle.exact.specs.Values.{Value, encode}

@@ -3,7 +3,7 @@ use mathlib.Core.Bool.{Bool, true, false}
 use mathlib.Core.List.{List, [], _∷_, _++_, append-nil}
 use mathlib.Core.Option.{Option, none, some}
 use mathlib.Core.Path.{_≡_, refl, sym, ap, _∙_, subst}
-use Prim.Native.Nat.{ℕ, _+_}
+use Prim.Native.Nat.{ℕ}
 use native.Mathlib.Omega.{arith}
 use Rattle.rules.specs.Base.{Each, _whenSome_}
 use Rattle.rules.specs.File.{Tables, FieldTy, Ty, FieldPattern, Node, Slot, Binding, Constraint, typeAt, nodeAt, recordFields, recordTy, fieldPath}

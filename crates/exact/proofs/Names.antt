@@ -5,7 +5,7 @@ use mathlib.Core.Option.{Option, none, some}
 use mathlib.Core.Path.{_≡_, refl, sym, ap, _∙_, subst}
 use Prim.Native.Nat.{ℕ}
 use lib.Dec.{eqb}
-use Rattle.rules.specs.Base.{Each, done, more, both, all, filter}
+use Rattle.rules.specs.Base.{Each, done, more, both, filter}
 use Rattle.rules.specs.File.{Tables, Ty, Node, FieldPath, Slot, Constraint, nameAt, nodeAt}
 use Rattle.rules.specs.Constant.{Const, constant, constNode, lookup, encodePrefix}
 use Rattle.rules.specs.Events.{Code, Narrowing, Event, Walk, walkOps, bind, constrained, report, emit}
@@ -14,7 +14,7 @@ use Rattle.rules.specs.Placement.{SeekBuilder}
 use Rattle.rules.proofs.Cases.{by-test, both-left, both-right}
 use Rattle.rules.proofs.Each.{each-passes, each-append}
 use Rattle.exact.specs.Values.{Value, encode}
-use Rattle.exact.specs.Keys.{Engine, begins, valueAt, near, says, holds}
+use Rattle.exact.specs.Keys.{Engine, begins, valueAt, near, says}
 use Rattle.exact.specs.Matcher.{textMatches, constraintsHold, foldedHold, newName}
 use Rattle.exact.proofs.Bytes.{begins-starts, starts-more, prefix-begins}
 use Rattle.exact.proofs.Ends.{Apart, Whole}

@@ -7,7 +7,7 @@ use Prim.Native.Nat.{ℕ}
 use native.Mathlib.Omega.{arith}
 use lib.ListN.{length}
 use lib.Dec.{eqb}
-use Rattle.rules.specs.Base.{Each, done, more, both, all, filter, first}
+use Rattle.rules.specs.Base.{Each, done, more, both, filter, first}
 use Rattle.rules.specs.File.{Tables, Ty, Anchor, Node, FieldPath, Slot, Constraint, nameAt, typeAt, nodeAt, varName}
 use Rattle.rules.specs.Constant.{Const, constant, constantNode, constantBelow, lookup, escape, term, encodePrefix, encodeStr}
 use Rattle.rules.specs.Events.{Narrowing, Event, Walk, walkOps, bind, constrained, report}

@@ -1,9 +1,9 @@
 -- Unions, reads, names and the pattern by its kind, beside the matcher's; and so every pattern of a level.
-use mathlib.Core.Bool.{true, false}
+use mathlib.Core.Bool.{false}
 use mathlib.Core.List.{List, _∷_, _++_, append-assoc}
 use mathlib.Core.Option.{Option, none, some}
 use mathlib.Core.Path.{_≡_, refl, sym, ap, _∙_, subst}
-use Prim.Native.Nat.{ℕ, zero, suc, _+_}
+use Prim.Native.Nat.{ℕ, zero, suc}
 use borrow.Author.Tests.{eq-eqb}
 use lib.Dec.{eqb}
 use lib.ListN.{length}
@@ -14,7 +14,7 @@ use Rattle.rules.specs.Events.{Code, Narrowing, Event, Walk, walkOps, report, e
 use Rattle.rules.specs.Resolve.{Resolver, give, resolveNode, resolveBelow, resolve}
 use Rattle.rules.specs.Walk.{narrowing, narrowBy, deferred, unresolved, partial, injectAlternative, injectOnly, inject, readAnswer, read, ranged, variable, fieldNode, fieldBelow, field, constrain}
 use Rattle.rules.proofs.Cases.{by-test, true≢false, some≢none, some-injective, bind-some}
-use Rattle.exact.specs.Values.{Value, _and_, encode}
+use Rattle.exact.specs.Values.{Value, encode}
 use Rattle.exact.specs.Keys.{Engine, valueAt, hasDisc, says}
 use Rattle.exact.specs.Passes.{partBytes}
 use Rattle.exact.specs.Matcher.{Matching, quiet, slotOf, accept, held, textMatches, alternativeMatches, unionMatches, recordAt, writtenMatches, slotMatches, readMatches, newName, nodeMatches, matchesBelow, fieldMatches}

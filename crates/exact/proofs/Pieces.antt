@@ -3,16 +3,16 @@ use mathlib.Core.Bool.{Bool, true, false}
 use mathlib.Core.List.{List, _++_}
 use mathlib.Core.Option.{Option, none, some}
 use mathlib.Core.Path.{_≡_, refl, sym, ap, _∙_, subst}
-use Prim.Native.Nat.{ℕ, _+_}
+use Prim.Native.Nat.{ℕ}
 use native.Mathlib.Omega.{arith}
 use lib.Dec.{eqb}
 use Rattle.rules.specs.File.{Tables, FieldTy, Alternative, Ty, FieldPattern, Node, FieldPath, Slot, Binding, typeAt, nodeAt, recordFields, factTy, recordTy, unionTy, then}
 use Rattle.rules.specs.Constant.{Const, constant}
 use Rattle.rules.specs.Events.{Code, Narrowing, Event, Walk, walkOps, report, emit, unlessRecords, isMistyped, brings}
-use Rattle.rules.specs.Walk.{narrowing, narrowBy, eachField, refersTo, partialFields, partial, matched, fieldBelow, field}
+use Rattle.rules.specs.Walk.{narrowing, narrowBy, eachField, refersTo, partialFields, partial, matched, fieldBelow}
 use Rattle.rules.specs.Placement.{SeekBuilder}
 use Rattle.rules.proofs.Cases.{true≢false, some≢none, some-injective, bind-some}
-use Rattle.exact.specs.Values.{Value, _and_, encode, encodeAll, encodeFact}
+use Rattle.exact.specs.Values.{Value, encode, encodeAll, encodeFact}
 use Rattle.exact.specs.Keys.{Engine, valueAt, sameBytes, sameAs, hasBytes, says}
 use Rattle.exact.specs.Passes.{partBytes}
 use Rattle.exact.specs.Matcher.{Matching, accept, eachMatches, fieldsOf, recordMatches, recordAt, writtenMatches, slotMatches}

@@ -3,7 +3,7 @@ use mathlib.Core.Bool.{Bool, true, false}
 use mathlib.Core.List.{List, [], _∷_, _++_, append-assoc, append-nil}
 use mathlib.Core.Option.{Option, none, some}
 use mathlib.Core.Path.{_≡_, refl, sym, ap, _∙_, subst}
-use Prim.Native.Nat.{ℕ, suc, _+_, _<_}
+use Prim.Native.Nat.{ℕ, suc, _<_}
 use native.Mathlib.Omega.{arith}
 use lib.Dec.{eqb}
 use Rattle.rules.specs.Base.{Each, _whenSome_}
@@ -14,7 +14,7 @@ use Rattle.rules.specs.Walk.{narrowing, narrowBy, eachField, refersTo, partialF
 use Rattle.rules.proofs.Cases.{true≢false, some≢none, eqb-eq}
 use Rattle.rules.proofs.Each.{each-first}
 use Rattle.rules.proofs.Keeps.{record-children, union-children}
-use Rattle.exact.specs.Values.{Value, Values, _and_, encode, encodeAll, encodeFact, zeroFree, OfType}
+use Rattle.exact.specs.Values.{Value, Values, encode, encodeAll, encodeFact, zeroFree, OfType}
 use Rattle.exact.specs.Keys.{Engine, valueAt, sameAs, hasBytes, hasDisc, says, holds}
 use Rattle.exact.specs.Passes.{partBytes}
 use Rattle.exact.specs.Matcher.{Matching, accept, eachMatches, held, recordMatches, alternativeMatches, unionMatches, recordAt, writtenMatches, slotMatches}

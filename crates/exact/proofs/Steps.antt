@@ -8,11 +8,11 @@ use Prim.Native.Nat.{ℕ}
 use Rattle.rules.specs.Base.{Each, done, more}
 use Rattle.rules.specs.File.{Ty, Tables, FieldPath, Anchor}
 use Rattle.rules.specs.Events.{Narrowing, Event}
-use Rattle.rules.specs.Placement.{SeekKeyPart, Part, Residual, Range, SeekBuilder, withPart, withResidual, withGuide, withRange, withEdges, withCloser, fall, placePart, placePrefix, attachable, placeFuzzy, placeOwn, placeNarrowing, placeCloser, placeBound}
+use Rattle.rules.specs.Placement.{SeekKeyPart, Part, Residual, Range, SeekBuilder, withPart, withResidual, withGuide, withRange, withEdges, withCloser, fall, placePart, placePrefix, attachable, placeFuzzy, placeOwn, placeCloser, placeBound}
 use Rattle.rules.proofs.Cases.{by-test, by-option, true≢false, some≢none}
 use Rattle.rules.proofs.Lists.{Onwards, onwards-same, onwards-next, onwards-one}
 use Rattle.exact.specs.Values.{Value}
-use Rattle.exact.specs.Keys.{Engine, stored, holds}
+use Rattle.exact.specs.Keys.{Engine, stored}
 use Rattle.exact.specs.Passes.{partBytes, partsBytes}
 use Rattle.exact.specs.Placings.{placement, openPlacings}
 use Rattle.exact.proofs.Bytes.{Starts, starts-less}

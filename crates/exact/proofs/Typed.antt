@@ -1,6 +1,6 @@
 -- Values by their type, and Ints by their bytes.
 use mathlib.Core.List.{List, [], _∷_, reverse, reverse-cons, reverse-reverse}
-use mathlib.Core.Option.{none, some}
+use mathlib.Core.Option.{some}
 use mathlib.Core.Path.{_≡_, refl, sym, ap, _∙_, subst}
 use Prim.Native.Nat.{ℕ, _+_, _%_}
 use native.Mathlib.Omega.{arith}
@@ -12,7 +12,7 @@ use Rattle.rules.specs.Constant.{Const, atInt, atStr, atBytes, flipSign, encode
 use Rattle.rules.specs.Demand1.{Byte}
 use Rattle.rules.proofs.Cases.{some≢none}
 use Rattle.rules.proofs.Each.{each-snoc}
-use Rattle.exact.specs.Values.{Value, Values, _and_, OfType, OfTypes}
+use Rattle.exact.specs.Values.{Value, Values, OfType, OfTypes}
 use Rattle.exact.proofs.Unique.{heads, tails}
 
 -- types of one kind each

@@ -1,7 +1,6 @@
 -- The placements with a mistake: for each a file and a key show that it makes a level keep too much or too little.
 use mathlib.Core.Bool.{Bool, true, false}
 use mathlib.Core.List.{List, [], _∷_, _++_}
-use Prim.Native.Nat.{ℕ}
 use Rattle.rules.specs.Base.{both}
 use Rattle.rules.specs.File.{Tables, Ty, Node, CompareOp}
 use Rattle.rules.specs.Levels.{levels}
