@@ -21,7 +21,7 @@ use Rattle.rules.proofs.Cases.{by-test, true≢false, pick}
 use Rattle.rules.proofs.Choices.{by-test₂}
 use Rattle.state.specs.State.{state, stop}
 use Rattle.state.specs.Levels as StateLevels
-use Rattle.state.specs.Levels.{writtenTo, finished, compiled, lists}
+use Rattle.state.specs.Levels.{writtenTo, finished, unpaged, compiled, lists}
 use Rattle.state.proofs.Whole.{exact-file, mistyped-file}
 use Rattle.rules.specs.Literals.{levelsMeet}
 use Rattle.rules.proofs.Literals.{levels-meet}
@@ -126,7 +126,7 @@ unfolding finished stop
 finished-within k =
     by-test (λ (r : StateLevels.Written). r .state .over ≡ false → r .at ≤ length (r .state .plan)) (k .state .over) (λ q e. absurd (true≢false (sym q ∙ e)))
     (λ q. by-test (λ (r : StateLevels.Written). r .state .over ≡ false → r .at ≤ length (r .state .plan)) (leb (k .at + length (lists (k .state))) (min planLimit (length (k .state .plan))))
-    {x = writtenTo (k .at + length (lists (k .state))) (state false (k .state .ends) (k .state .level) (k .state .target) (k .state .work) (sets (k .state .plan) (k .at) (lists (k .state))))}
+    {x = writtenTo (k .at + length (lists (k .state))) (state false (k .state .ends) (k .state .level) (k .state .target) (k .state .work) (sets (k .state .plan) (k .at) (lists (k .state)))) (k .page)}
     (λ t e. omega (arith, leb-true (k .at + length (lists (k .state))) (min planLimit (length (k .state .plan))) t, length-sets (k .state .plan) (k .at) (lists (k .state))))
     (λ t e. absurd (true≢false e)))
 
@@ -138,8 +138,8 @@ pub refused-memory : (v : Verdict) (n : ℕ) (T : Tables) (work plan : List ℕ)
 unfolding memoryBy
 refused-memory v n T work plan e = left-by (Ve.Refused n) v T work plan (memory work plan) refl (sym e)
 
-module _ (T : Tables) (work plan work′ plan′ : List ℕ) (w : Written) (m : levelsMeet T (T .levels) ≡ false) (e : writtenOf w work′ plan′ ≡ betweenLevels (compiled T work plan)) where
-  same : StateLevels.writtenOutcome (writtenOf w work′ plan′) ≡ acceptedOutcome T work plan
+module _ (T : Tables) (work plan work′ plan′ : List ℕ) (w : Written) (m : levelsMeet T (T .levels) ≡ false) (e : writtenOf w work′ plan′ [] ≡ betweenLevels (compiled T work plan)) where
+  same : StateLevels.writtenOutcome (writtenOf w work′ plan′ []) ≡ acceptedOutcome T work plan
   unfolding betweenLevels unleveled StateLevels.writtenOutcome acceptedOutcome
   same = ap StateLevels.writtenOutcome e ∙ sym (pick (levelsMeet T (T .levels)) false (Outcome.refused 19) (StateLevels.writtenOutcome (compiled T work plan)) m)
 
@@ -154,7 +154,7 @@ module _ (T : Tables) (work plan work′ plan′ : List ℕ) (w : Written) (m : 
   too-long o = ap (λ (b : Bool). elim b [ true ↦ Outcome.refused 15 | false ↦ Outcome.planned (take (w .at) plan′) ]) (sym o) ∙ same
 
   pub short-enough : w .lists .over ≡ false → (endingOutcome (Planned (w .at)) plan′ ≡ acceptedOutcome T work plan) × (w .at ≤ length plan′)
-  unfolding endingOutcome StateLevels.writtenOutcome writtenOf betweenLevels unleveled compiled
+  unfolding endingOutcome StateLevels.writtenOutcome writtenOf betweenLevels unleveled compiled unpaged
   short-enough o = (
     ap (λ (b : Bool). elim b [ true ↦ Outcome.refused 15 | false ↦ Outcome.planned (take (w .at) plan′) ]) (sym o) ∙ same,
     omega (arith, ap (λ k. k .at) e, ap (λ k. length (k .state .plan)) e, finished-within _ (ap (λ k. k .state .over) (sym e) ∙ o)),

@@ -28,9 +28,9 @@ levels-between T (l ∷ ls) w = go (w .state .over)
     go true = refl
     go false = ap (λ (x : StateLevels.Written). betweenLevels (levels T ls x)) (level-between T l w)
 
-pub settled : (w : Written) (work plan : List ℕ) → betweenLevels (writtenOf w work plan) ≡ writtenOf w work plan
+pub settled : (w : Written) (work plan page : List ℕ) → betweenLevels (writtenOf w work plan page) ≡ writtenOf w work plan page
 unfolding betweenLevels unleveled writtenOf
-settled w work plan = refl
+settled w work plan page = refl
 
 levels-over : (T : Tables) (ls : List LevelEntry) (w : StateLevels.Written) → w .state .over ≡ true → levels T ls w ≡ w
 unfolding levels
@@ -42,22 +42,23 @@ unfolding levels
 levels-live T l ls w e = by-test (λ (r : StateLevels.Written). r ≡ levels T ls (level T l w)) (w .state .over) (λ q. absurd (true≢false (sym q ∙ e))) (λ q. refl)
 
 -- The levels from k on, of what the first k left, make what all make of the start.
-module _ (T : Tables) (start : Written) (work₀ plan₀ : List ℕ) where
+module _ (T : Tables) (start : Written) (work₀ plan₀ page₀ : List ℕ) where
   abbrev all : StateLevels.Written
-  all = betweenLevels (levels T (T .levels) (writtenOf start work₀ plan₀))
+  all = betweenLevels (levels T (T .levels) (writtenOf start work₀ plan₀ page₀))
 
-  pub record Going (k : ℕ) (w : Written) (work plan : List ℕ) : Type 0 where
-    pub left : betweenLevels (levels T (drop k (T .levels)) (writtenOf w work plan)) ≡ all
+  pub record Going (k : ℕ) (w : Written) (work plan page : List ℕ) : Type 0 where
+    pub left : betweenLevels (levels T (drop k (T .levels)) (writtenOf w work plan page)) ≡ all
     pub near : w .at ≤ planLimit
     pub work-size : length work ≡ length work₀
     pub plan-size : length plan ≡ length plan₀
+    pub page-size : length page ≡ length page₀
 
-  pub going-start : start .at ≤ planLimit → Going 0 start work₀ plan₀
-  going-start h = record { left = refl; near = h; work-size = refl; plan-size = refl }
+  pub going-start : start .at ≤ planLimit → Going 0 start work₀ plan₀ page₀
+  going-start h = record { left = refl; near = h; work-size = refl; plan-size = refl; page-size = refl }
 
-  module _ (k : ℕ) (w : Written) (work plan : List ℕ) (g : Going k w work plan) where
+  module _ (k : ℕ) (w : Written) (work plan page : List ℕ) (g : Going k w work plan page) where
     abbrev here : StateLevels.Written
-    here = writtenOf w work plan
+    here = writtenOf w work plan page
 
     going-left : (x : StateLevels.Written) → k < length (T .levels) → w .lists .over ≡ false → x ≡ betweenLevels (level T (levelEntryAt T k) here) → betweenLevels (levels T (drop (k + 1) (T .levels)) x) ≡ all
     unfolding levelEntryAt writtenOf
@@ -69,14 +70,14 @@ module _ (T : Tables) (start : Written) (work₀ plan₀ : List ℕ) where
         ∙ sym (ap (λ (ls : List LevelEntry). betweenLevels (levels T ls here)) (drop-cons (T .levels) k _ h))
         ∙ g .left
 
-    pub going-more : (w₁ : Written) (work₁ plan₁ : List ℕ) → k < length (T .levels) → w .lists .over ≡ false → (writtenOf w₁ work₁ plan₁ ≡ betweenLevels (level T (levelEntryAt T k) here)) × (w₁ .at ≤ planLimit) → length work₁ ≡ length work → length plan₁ ≡ length plan → Going (k + 1) w₁ work₁ plan₁
-    going-more w₁ work₁ plan₁ h o e lw lp =
-        record { left = going-left (writtenOf w₁ work₁ plan₁) h o (e .0); near = e .1; work-size = lw ∙ g .work-size; plan-size = lp ∙ g .plan-size }
+    pub going-more : (w₁ : Written) (work₁ plan₁ page₁ : List ℕ) → k < length (T .levels) → w .lists .over ≡ false → (writtenOf w₁ work₁ plan₁ page₁ ≡ betweenLevels (level T (levelEntryAt T k) here)) × (w₁ .at ≤ planLimit) → length work₁ ≡ length work → length plan₁ ≡ length plan → length page₁ ≡ length page → Going (k + 1) w₁ work₁ plan₁ page₁
+    going-more w₁ work₁ plan₁ page₁ h o e lw lp lq =
+        record { left = going-left (writtenOf w₁ work₁ plan₁ page₁) h o (e .0); near = e .1; work-size = lw ∙ g .work-size; plan-size = lp ∙ g .plan-size; page-size = lq ∙ g .page-size }
 
     pub going-over : w .lists .over ≡ true → (here ≡ all) × (w .at ≤ planLimit)
     unfolding writtenOf
-    going-over o = (sym (settled w work plan) ∙ ap betweenLevels (sym (levels-over T (drop k (T .levels)) here o)) ∙ g .left, g .near)
+    going-over o = (sym (settled w work plan page) ∙ ap betweenLevels (sym (levels-over T (drop k (T .levels)) here o)) ∙ g .left, g .near)
 
     pub going-end : length (T .levels) ≤ k → (here ≡ all) × (w .at ≤ planLimit)
     unfolding levels
-    going-end h = (sym (settled w work plan) ∙ ap (λ (ls : List LevelEntry). betweenLevels (levels T ls here)) (sym (drop-of-length-le (T .levels) {i = k} h)) ∙ g .left, g .near)
+    going-end h = (sym (settled w work plan page) ∙ ap (λ (ls : List LevelEntry). betweenLevels (levels T ls here)) (sym (drop-of-length-le (T .levels) {i = k} h)) ∙ g .left, g .near)

@@ -3,11 +3,8 @@ use mathlib.Core.Bool.{Bool, true, false}
 use mathlib.Core.List.{List}
 use mathlib.Core.Path.{_≡_, refl, sym, ap, _∙_}
 use Prim.Native.Nat.{ℕ, _+_, _≤_, _<_}
-use native.Mathlib.Omega.{arith}
-use borrow.Author.Tests.{eq-eqb, ne-eqb}
 use lib.Dec.{eqb}
 use lib.ListN.{length}
-use Rattle.rules.specs.Base.{both}
 use Rattle.rules.specs.Limits.{planLimit}
 use Rattle.rules.specs.File.{Tables, predicateAt}
 use Rattle.rules.specs.File as File
@@ -26,7 +23,7 @@ use Rattle.views.specs.declared.LevelEntry.{LevelEntry}
 use Rattle.views.specs.declared.Predicate.{Predicate}
 use Rattle.accepted_file.specs.AcceptedFile.{AcceptedFile}
 use Rattle.accepted_file.proofs.Given.{sound-tables}
-use Rattle.seek.specs.Seek.{sumsOf, countsOf, levelOf, stateOf}
+use Rattle.seek.specs.Seek.{levelOf, stateOf}
 use Rattle.seek.specs.declared.SeekBuilder.{SeekBuilder}
 use Rattle.lists.specs.Lists.{endsOf, stateWith}
 use Rattle.lists.specs.declared.Ends.{Ends}
@@ -78,41 +75,28 @@ pub lists-left : (T : Tables) (r : Walk) (l : Lists) (work plan : List ℕ) → 
 unfolding unleveled walkState stateOf
 lists-left T r l work plan e = ap (λ (x : Lists). stateWith x newLevel measuring work plan) e
 
--- whether a level is bare
-some-parts : (n r : ℕ) → 0 < n → false ≡ both (eqb n 0) (eqb r 0)
-some-parts n r h = ap (λ (b : Bool). both b (eqb r 0)) (sym (ne-eqb n 0 (λ e. omega (arith, h, e))))
-
-no-parts : (n r : ℕ) → n ≤ 0 → eqb r 0 ≡ both (eqb n 0) (eqb r 0)
-no-parts n r h = ap (λ (b : Bool). both b (eqb r 0)) (sym (eq-eqb n 0 (omega (arith, h))))
-
-pub parted-is : (T : Tables) (l : SeekBuilder) → 0 < l .counts .closers + l .counts .others → false ≡ StateLevels.bare (levelOf T l)
-unfolding StateLevels.bare levelOf countsOf sumsOf
-parted-is T l h = some-parts (l .counts .closers + l .counts .others) (l .counts .residuals) h
-
-pub bare-is : (T : Tables) (l : SeekBuilder) → l .counts .closers + l .counts .others ≤ 0 → eqb (l .counts .residuals) 0 ≡ StateLevels.bare (levelOf T l)
-unfolding StateLevels.bare levelOf countsOf sumsOf
-bare-is T l h = no-parts (l .counts .closers + l .counts .others) (l .counts .residuals) h
-
--- a bare level: its frame written, the lists as the walk left them
-pub framed-is : (T : Tables) (v : File.LevelEntry) (e : Memory.Ends) (at : ℕ) (m : Walk) (x : Lists) (work plan plan₁ : List ℕ) → x ≡ listsOf m → plan₁ ≡ StateLevels.frame at (levelOf T (m .level)) plan → StateLevels.bare (levelOf T (m .level)) ≡ true
-    → stateWith x newLevel measuring work plan₁ ≡ unleveled (StateLevels.rewritten T v e at (walkState T m work plan))
-unfolding StateLevels.rewritten StateLevels.framed walkState stateOf unleveled
-framed-is T v e at m x work plan plan₁ ex ep q =
-    ap (λ (y : Lists). stateWith y newLevel measuring work plan₁) ex
-    ∙ ap (stateWith (listsOf m) newLevel measuring work) ep
-    ∙ by-test (λ (r : State). stateWith (listsOf m) newLevel measuring work (StateLevels.frame at (levelOf T (m .level)) plan) ≡ unleveled r) (StateLevels.bare (levelOf T (m .level))) (λ _. refl) (λ p. absurd (true≢false (sym q ∙ p)))
-
--- the second walk
+-- The level in the plan: its frame, then what its walk wrote to the page.
 module _ (T : Tables) (at : ℕ) (m : Walk) (f : Frame) (ef : f ≡ frameOf at (levelOf T (m .level))) (h : f .end ≤ planLimit) where
   abbrev l : Level
   l = levelOf T (m .level)
 
-  pub rewritten-is : (v : File.LevelEntry) (e : Memory.Ends) (work plan plan₁ : List ℕ) → plan₁ ≡ StateLevels.frame at l plan → StateLevels.bare l ≡ false
-      → (t : Memory.Target) → t ≡ place (StateLevels.joining l) (f .parts) (f .nodes) (f .rest) → (b r : State) → b ≡ state (m .level .over) e newLevel t work plan₁ → r ≡ StateLevels.walked T v b
-      → unleveled r ≡ unleveled (StateLevels.rewritten T v e at (walkState T m work plan))
-  unfolding StateLevels.rewritten StateLevels.writingAt StateLevels.framed StateLevels.begin walkState stateOf
-  rewritten-is v e work plan plan₁ ep q t et b r eb er =
-      ap unleveled (er ∙ ap (StateLevels.walked T v) (eb ∙ ap (λ (x : Memory.Target). state (m .level .over) e newLevel x work plan₁)
-      (et ∙ (λ i. place (StateLevels.joining l) (parts-is at l f ef i) (nodes-is at l f ef i) (rest-is at l f ef h i)))
-      ∙ ap (λ (p : List ℕ). state (m .level .over) e newLevel (StateLevels.writingAt at l) work p) ep)
-      ∙ by-test (λ (x : State). StateLevels.walked T v (state (m .level .over) e newLevel (StateLevels.writingAt at l) work (StateLevels.frame at l plan)) ≡ x) (StateLevels.bare l) (λ p. absurd (true≢false (sym p ∙ q))) (λ _. refl))
+  target-at : (t : Memory.Target) → t ≡ place (StateLevels.joining l) (f .parts) (f .nodes) (f .rest) → t ≡ StateLevels.writingAt at l
+  unfolding StateLevels.writingAt
+  target-at t et = et ∙ (λ i. place (StateLevels.joining l) (parts-is at l f ef i) (nodes-is at l f ef i) (rest-is at l f ef h i))
+
+  module _ (v : File.LevelEntry) (e : Memory.Ends) (work plan page plan₁ : List ℕ) (ep : plan₁ ≡ StateLevels.frame at l plan) (t : Memory.Target) (et : t ≡ place (StateLevels.joining l) (f .parts) (f .nodes) (f .rest)) where
+    abbrev seen : State
+    seen = walkState T m work page
+
+    pub paged-is : (x : Lists) (plan₂ : List ℕ) → x ≡ listsOf m → StateLevels.paged (l .counts) ≡ true → plan₂ ≡ StateLevels.fromPage t (l .counts) page plan₁ → stateWith x newLevel measuring work plan₂ ≡ unleveled (StateLevels.placed T v e at plan seen)
+    unfolding StateLevels.placed StateLevels.withPlan walkState stateOf unleveled
+    paged-is x plan₂ ex q e₂ =
+        (λ i. stateWith (ex i) newLevel measuring work ((e₂ ∙ (λ j. StateLevels.fromPage (target-at t et j) (l .counts) page (ep j))) i))
+        ∙ by-test (λ (r : State). stateWith (listsOf m) newLevel measuring work (StateLevels.fromPage (StateLevels.writingAt at l) (l .counts) page (StateLevels.frame at l plan)) ≡ unleveled r) (StateLevels.paged (l .counts)) (λ _. refl) (λ p. absurd (true≢false (sym q ∙ p)))
+
+    -- walked once more
+    pub again-is : StateLevels.paged (l .counts) ≡ false → (b r : State) → b ≡ state (m .level .over) e newLevel t work plan₁ → r ≡ StateLevels.walked T v b → unleveled r ≡ unleveled (StateLevels.placed T v e at plan seen)
+    unfolding StateLevels.placed StateLevels.begin walkState stateOf
+    again-is q b r eb er =
+        ap unleveled (er ∙ ap (StateLevels.walked T v) (eb ∙ (λ i. state (m .level .over) e newLevel (target-at t et i) work (ep i)))
+        ∙ by-test (λ (x : State). StateLevels.walked T v (state (m .level .over) e newLevel (StateLevels.writingAt at l) work (StateLevels.frame at l plan)) ≡ x) (StateLevels.paged (l .counts)) (λ p. absurd (true≢false (sym p ∙ q))) (λ _. refl))

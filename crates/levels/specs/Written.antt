@@ -12,7 +12,7 @@ unfoldable pub unleveled : State → State
 unleveled s = state (s .over) (s .ends) newLevel measuring (s .work) (s .plan)
 
 unfoldable pub betweenLevels : StateLevels.Written → StateLevels.Written
-betweenLevels w = writtenTo (w .at) (unleveled (w .state))
+betweenLevels w = writtenTo (w .at) (unleveled (w .state)) (w .page)
 
-unfoldable pub writtenOf : Written → List ℕ → List ℕ → StateLevels.Written
-writtenOf w work plan = writtenTo (w .at) (stateWith (w .lists) newLevel measuring work plan)
+unfoldable pub writtenOf : Written → List ℕ → List ℕ → List ℕ → StateLevels.Written
+writtenOf w work plan page = writtenTo (w .at) (stateWith (w .lists) newLevel measuring work plan) page

@@ -1,8 +1,8 @@
-// A level measured, then written at its place in the plan; the list of levels, each from exactly what the one before left;
+// A level walked onto the page, then written at its place in the plan; the list of levels, each from exactly what the one before left;
 // the four lists after them.
 ghost use mathlib.Core.Path.{_≡_};
 ghost use mathlib.Core.Bool.{true};
-ghost use mathlib.Core.List.{List};
+ghost use mathlib.Core.List.{List, []};
 ghost use Prim.Native.Nat.{ℕ, _≤_, _<_};
 ghost use lib.ListN.{length};
 ghost use Rattle.rules.specs.Limits.{planLimit};
@@ -24,6 +24,10 @@ use level_frame::put_frame;
 use level_frame::seek_number;
 use lists::Ends;
 use lists::Lists;
+use page::PAGE;
+use page::is_paged;
+use page::paging;
+use page::put_page;
 use plan_lists::lists_len;
 use plan_lists::put_lists;
 use records::put16;
@@ -88,23 +92,14 @@ fn writing(f: Frame, l: SeekBuilder) -> Target
     }
 }
 
-// Whether a level has neither parts nor residuals: then its frame is all of its bytes.
-fn bare(l: SeekBuilder) -> bool
-    ensures { λ r. ⌜ ((T : Tables) → r ≡ StateLevels.bare (levelOf T l)) ⌝ }
-{
-    let c = l.counts;
-    if wide32(c.closers) + wide32(c.others) > 0 {
-        return false;
-    }
-    c.residuals == 0
-}
-
-// Measured, the level is walked once more from the lists as they were, and written; a bare one has nothing more to write.
-fn rewritten(
+// The level's frame and what its walk wrote to the page, in the plan. A level that is too long for the page is walked once more, from the
+// lists as they were, and written at its place.
+fn placed(
     file: &[u8],
     index: &[u16],
     work: &mut [u8],
     plan: &mut [u8],
+    page: &[u8],
     k: usize,
     at: usize,
     f: Frame,
@@ -116,18 +111,20 @@ fn rewritten(
     requires { ⌜ (f ≡ frameOf at (levelOf (tablesOf (now file)) (m .level))) × (f .end ≤ planLimit) ⌝ }
     ensures { λ r. ⌜ (
         let T = tablesOf (now (file .entry)) in
-        let before = walkState T m (now (work .entry)) (now (plan .entry)) in
+        let walked = walkState T m (now (work .entry)) (now (page .entry)) in
         let after = stateWith r newLevel measuring (now (work .exit)) (now (plan .exit)) in
-        after ≡ unleveled (StateLevels.rewritten T (levelEntryAt T k) (endsOf ends) at before)
+        after ≡ unleveled (StateLevels.placed T (levelEntryAt T k) (endsOf ends) at (now (plan .entry)) walked)
         ) ⌝ }
 {
     let l = m.level;
+    let c = l.counts;
+    let t = writing(f, l);
     put_frame(file, index, plan, at, f, l);
-    if bare(l) {
+    if is_paged(c) {
+        put_page(page, plan, t, c);
         return m.lists();
     }
-    let w = begun(l.over, ends, writing(f, l));
-    let r = walked(file, index, work, plan, k, w);
+    let r = walked(file, index, work, plan, k, begun(l.over, ends, t));
     r.lists()
 }
 
@@ -140,12 +137,13 @@ fn stopped(at: usize, l: Lists) -> Written
     Written { at, lists }
 }
 
-// A level that was walked to measure it: written where it fits.
-fn measured(
+// A level that was walked onto the page: in the plan, if it fits.
+fn ended(
     file: &[u8],
     index: &[u16],
     work: &mut [u8],
     plan: &mut [u8],
+    page: &[u8],
     k: usize,
     at: usize,
     ends: Ends,
@@ -155,9 +153,9 @@ fn measured(
     requires { ⌜ (k < length (tablesOf (now file) .levels)) × (at ≤ planLimit) ⌝ }
     ensures writes { λ r. ⌜ (
         let T = tablesOf (now (file .entry)) in
-        let before = walkState T m (now (work .entry)) (now (plan .entry)) in
-        let after = writtenOf r (now (work .exit)) (now (plan .exit)) in
-        after ≡ betweenLevels (StateLevels.measured T (levelEntryAt T k) (endsOf ends) at before)
+        let walked = walkState T m (now (work .entry)) (now (page .entry)) in
+        let after = writtenOf r (now (work .exit)) (now (plan .exit)) (now (page .entry)) in
+        after ≡ betweenLevels (StateLevels.ended T (levelEntryAt T k) (endsOf ends) at (now (plan .entry)) walked)
         ) ⌝ }
     ensures bounded { λ r. ⌜ r .at ≤ planLimit ⌝ }
 {
@@ -174,19 +172,20 @@ fn measured(
     if end > plan.len() {
         return stopped(at, lists);
     }
-    let left = rewritten(file, index, work, plan, k, at, f, m, ends);
+    let left = placed(file, index, work, plan, page, k, at, f, m, ends);
     Written {
         at: end,
         lists: left,
     }
 }
 
-// Level k: measured, then written.
+// Level k: walked onto the page, then written.
 fn level(
     file: &[u8],
     index: &[u16],
     work: &mut [u8],
     plan: &mut [u8],
+    page: &mut [u8],
     k: usize,
     w: Written,
 ) -> Written
@@ -194,33 +193,40 @@ fn level(
     requires { ⌜ (k < length (tablesOf (now file) .levels)) × (w .at ≤ planLimit) ⌝ }
     ensures writes { λ r. ⌜ (
         let T = tablesOf (now (file .entry)) in
-        let before = writtenOf w (now (work .entry)) (now (plan .entry)) in
-        let after = writtenOf r (now (work .exit)) (now (plan .exit)) in
+        let before = writtenOf w (now (work .entry)) (now (plan .entry)) (now (page .entry)) in
+        let after = writtenOf r (now (work .exit)) (now (plan .exit)) (now (page .exit)) in
         after ≡ betweenLevels (StateLevels.level T (levelEntryAt T k) before)
         ) ⌝ }
     ensures bounded { λ r. ⌜ r .at ≤ planLimit ⌝ }
 {
     let lists = w.lists;
     let ends = lists.ends;
-    let t = Target {
-        writing: false,
-        joining: false,
-        parts: 0,
-        nodes: 0,
-        rest: 0,
-    };
-    let m = walked(file, index, work, plan, k, begun(lists.over, ends, t));
-    measured(file, index, work, plan, k, w.at, ends, m)
+    let m = walked(
+        file,
+        index,
+        work,
+        page,
+        k,
+        begun(lists.over, ends, paging()),
+    );
+    ended(file, index, work, plan, &page[..], k, w.at, ends, m)
 }
 
 // The levels in order; once the plan is too long no level is walked.
-fn levels(file: &[u8], index: &[u16], work: &mut [u8], plan: &mut [u8], start: Written) -> Written
+fn levels(
+    file: &[u8],
+    index: &[u16],
+    work: &mut [u8],
+    plan: &mut [u8],
+    page: &mut [u8],
+    start: Written,
+) -> Written
     requires { ⌜ AcceptedFile (now file) (now index) ⌝ }
     requires { ⌜ start .at ≤ planLimit ⌝ }
     ensures writes { λ r. ⌜ (
         let T = tablesOf (now (file .entry)) in
-        let before = writtenOf start (now (work .entry)) (now (plan .entry)) in
-        let after = writtenOf r (now (work .exit)) (now (plan .exit)) in
+        let before = writtenOf start (now (work .entry)) (now (plan .entry)) (now (page .entry)) in
+        let after = writtenOf r (now (work .exit)) (now (plan .exit)) (now (page .exit)) in
         after ≡ betweenLevels (StateLevels.levels T (T .levels) before)
         ) ⌝ }
     ensures bounded { λ r. ⌜ r .at ≤ planLimit ⌝ }
@@ -233,7 +239,7 @@ fn levels(file: &[u8], index: &[u16], work: &mut [u8], plan: &mut [u8], start: W
         if lists.over {
             return w;
         }
-        w = level(file, index, work, plan, k, w);
+        w = level(file, index, work, plan, page, k, w);
         k += 1;
     }
     w
@@ -243,8 +249,9 @@ fn levels(file: &[u8], index: &[u16], work: &mut [u8], plan: &mut [u8], start: W
 fn finished(work: &[u8], plan: &mut [u8], w: Written) -> Written
     requires { ⌜ w .at ≤ planLimit ⌝ }
     ensures { λ r. ⌜ (
-        let before = writtenOf w (now (work .entry)) (now (plan .entry)) in
-        let after = writtenOf r (now (work .entry)) (now (plan .exit)) in
+        (page : List ℕ) →
+        let before = writtenOf w (now (work .entry)) (now (plan .entry)) page in
+        let after = writtenOf r (now (work .entry)) (now (plan .exit)) page in
         after ≡ betweenLevels (StateLevels.finished before)
         ) ⌝ }
 {
@@ -270,7 +277,7 @@ pub fn write(file: &[u8], index: &[u16], work: &mut [u8], plan: &mut [u8]) -> Wr
     requires { ⌜ AcceptedFile (now file) (now index) ⌝ }
     ensures { λ r. ⌜ (
         let T = tablesOf (now (file .entry)) in
-        let after = writtenOf r (now (work .exit)) (now (plan .exit)) in
+        let after = writtenOf r (now (work .exit)) (now (plan .exit)) [] in
         after ≡ betweenLevels (StateLevels.compiled T (now (work .entry)) (now (plan .entry)))
         ) ⌝ }
 {
@@ -285,6 +292,7 @@ pub fn write(file: &[u8], index: &[u16], work: &mut [u8], plan: &mut [u8]) -> Wr
     };
     let lists = Lists { over: false, ends };
     let start = Written { at: 2, lists };
-    let w = levels(file, index, work, plan, start);
+    let mut page = [0u8; PAGE];
+    let w = levels(file, index, work, plan, &mut page, start);
     finished(&work[..], plan, w)
 }

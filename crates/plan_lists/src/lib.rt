@@ -7,6 +7,7 @@ ghost use lib.ListN.{length};
 ghost use lib.Seq.{slice};
 ghost use Rattle.rules.specs.Plan as Plan;
 ghost use Rattle.lists.specs.Lists.{endsOf};
+ghost use Rattle.records.specs.Records.{reach};
 ghost use Rattle.encode.specs.Written.{Wrote};
 ghost use Rattle.plan_lists.specs.PlanLists.{listsIn};
 use lists::Ends;
@@ -41,8 +42,9 @@ fn run_len(work: &[u8], from: usize, to: usize) -> usize
     past(least(to, work.len()), from)
 }
 
-fn copy_run(work: &[u8], from: usize, to: usize, plan: &mut [u8], at: usize) -> usize
-    requires { ⌜ at ≤ 1099511627776 ⌝ }
+// Copies a run, and gives where its copy ends.
+pub fn copy_run(work: &[u8], from: usize, to: usize, plan: &mut [u8], at: usize) -> usize
+    requires { ⌜ at ≤ reach ⌝ }
     ensures { λ r. ⌜ Wrote (slice from to (now (work .entry))) at (now (plan .entry)) r (now (plan .exit)) ⌝ }
 {
     let end = least(to, work.len());

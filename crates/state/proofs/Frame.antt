@@ -54,7 +54,7 @@ parts-size true parts = omega (arith, length-append (concatMap textOf parts) (no
 parts-size false parts = refl
 
 -- one part, written in the two ways
-joined-one : (t : Target) (before : List Part) (p : Part) (plan : List ℕ) → t .joining ≡ true
+pub joined-one : (t : Target) (before : List Part) (p : Part) (plan : List ℕ) → t .joining ≡ true
     → partPut t (countsOf before) p plan ≡ sets (sets plan (t .nodesAt + 2 * length before) (Plan.u16 (p .node))) (t .partsAt + length (concatMap textOf before)) (textOf p)
 unfolding partPut putMade partAt partForm nodeAt
 joined-one t before p plan e = rw e refl
@@ -81,7 +81,7 @@ joined-put t before (p ∷ parts) plan e h =
     ∙ sets-then (sets plan at (textOf p ++ texts)) to node (nodesIn parts) to′ (omega (arith, length-append before (p ∷ [])))
 
 -- parts that stand by themselves
-apart-put : (t : Target) (before parts : List Part) (plan : List ℕ) → t .joining ≡ false → partsPut t before parts plan ≡ sets plan (t .partsAt + length (concatMap Plan.part before)) (concatMap Plan.part parts)
+pub apart-put : (t : Target) (before parts : List Part) (plan : List ℕ) → t .joining ≡ false → partsPut t before parts plan ≡ sets plan (t .partsAt + length (concatMap Plan.part before)) (concatMap Plan.part parts)
 unfolding partsPut concatMap
 apart-put t before [] plan e = refl
 apart-put t before (p ∷ parts) plan e =
@@ -187,7 +187,7 @@ level-end at n b =
     omega (arith, parts-size (joining l) (b .parts), ap length (sym (level-bytes n b)), length-append (head l) (partsIn n b), length-append (head l ++ partsIn n b) (middle l), length-append (head l ++ partsIn n b ++ middle l) (restIn b), length-append (head l ++ partsIn n b ++ middle l ++ restIn b) (tail l))
 
 -- what a level counts for is no more than its bytes
-joins-plain : (plain : Bool) (range : Option Range) (lo hi : Option RangeEdge) → joins plain range lo hi ≡ true → plain ≡ true
+pub joins-plain : (plain : Bool) (range : Option Range) (lo hi : Option RangeEdge) → joins plain range lo hi ≡ true → plain ≡ true
 unfolding joins
 joins-plain plain range (some lo) hi e = absurd (true≢false (sym e))
 joins-plain plain range none (some hi) e = absurd (true≢false (sym e))

@@ -13,5 +13,6 @@ pub mod Fitting
 pub mod Sim
 -- A level in the plan, the list of levels, and the whole plan.
 pub mod Frame
+pub mod Paged
 pub mod Leveled
 pub mod Whole

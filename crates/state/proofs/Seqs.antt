@@ -5,7 +5,7 @@ use Prim.Native.Nat.{ℕ, zero, suc, _+_, _*_, _≤_, _<_}
 use native.Mathlib.Nat.{add-zero, zero-add, add-suc, suc-add, mul-zero, mul-suc}
 use native.Mathlib.Omega.{arith}
 use lib.ListN.{length, take, drop, set, length-append}
-use lib.Seq.{sets, slice, set-comm, sets-eq, take-set-le, take-set-lt, drop-set-lt, length-take-le, take-at, drop-append-le, take-nil, take-take}
+use lib.Seq.{sets, slice, set-comm, sets-eq, take-set-le, take-set-lt, drop-set-lt, length-take-le, take-at, drop-append-le, drop-append-seam, take-nil, take-take}
 use Rattle.rules.specs.Base.{Each, done, more, concatMap}
 
 module _ {A : Type 0} where
@@ -54,6 +54,14 @@ module _ {A : Type 0} where
 
   pub slice-front : (f n t : ℕ) (l : List A) → f + n ≤ t → slice f (f + n) l ≡ take n (slice f t l)
   slice-front f n t l h = ap (drop f) (sym (take-take (f + n) t l h)) ∙ drop-take f n (take t l)
+
+  -- a part that stands between two others
+  pub slice-middle : (a x b : List A) (f t : ℕ) → f ≡ length a → t ≡ length a + length x → slice f t (a ++ (x ++ b)) ≡ x
+  slice-middle a x b f t ef et =
+      (λ i. drop (ef i) (take (et i) (a ++ (x ++ b))))
+      ∙ drop-take (length a) (length x) (a ++ (x ++ b))
+      ∙ ap (take (length x)) (drop-append-seam a (x ++ b))
+      ∙ take-at x b (length x) refl
 
   -- a part that grows at its end
   pub slice-sets-at : (f t : ℕ) (l vs : List A) → f ≤ t → t + length vs ≤ length l → slice f (t + length vs) (sets l t vs) ≡ slice f t l ++ vs

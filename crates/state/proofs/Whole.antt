@@ -8,7 +8,7 @@ use native.Mathlib.Nat.{zero-add}
 use native.Mathlib.Omega.{arith}
 use borrow.Author.Tests.{leb-true, leb-false, le-leb, lt-leb}
 use lib.Dec.{leb}
-use lib.ListN.{length, take, drop, length-append, length-map}
+use lib.ListN.{length, take, drop, length-append, length-map, length-replicate}
 use lib.Seq.{sets, length-sets, drop-append-seam}
 use Rattle.rules.specs.Base.{Each, done, more, concatMap}
 use Rattle.rules.specs.Limits.{fileLimit, workLimit, planLimit}
@@ -30,7 +30,7 @@ use Rattle.rules.proofs.Lists.{AddsTo, adds-keeps, Onwards}
 use Rattle.rules.proofs.Numbers.{Bounded, bounded as read-bounded}
 use Rattle.rules.proofs.Sound.{BindingOk, Sound, Passed, passed-all, sound}
 use Rattle.state.specs.State.{State, state, stop, constrainedAt, diagnosticsAt}
-use Rattle.state.specs.Levels.{Written, writtenTo, level, levels, lists, finished, started, compiled, writtenOutcome}
+use Rattle.state.specs.Levels.{pageLength, Written, writtenTo, level, levels, lists, finished, started, unpaged, compiled, writtenOutcome}
 use Rattle.state.proofs.Seqs.{sets-append, slice-sets-at, concatMap-append, length-stride, length-drop-append}
 use Rattle.state.proofs.Mem.{Mem, mem-none, diagnostic-length}
 use Rattle.state.proofs.Growth.{listSize}
@@ -221,7 +221,7 @@ plan-is T =
 -- before the first level
 between-start : (T : Tables) (work plan : List ℕ) → 65536 ≤ length work → Between T plan (LevelsRules.starting T) (Plan.u16 (length (T .levels))) (started T work plan)
 unfolding started LevelsRules.starting Plan.u16
-between-start T work plan h = record { mem = mem-none T work h; at = refl; plan = refl }
+between-start T work plan h = record { mem = mem-none T work h; at = refl; plan = refl; page = length-replicate {A = ℕ} pageLength 0 }
 
 live-start : (T : Tables) (work plan : List ℕ) → started T work plan .state .over ≡ false
 unfolding started
@@ -233,7 +233,7 @@ fit-start T S = S .bindings
 
 -- For every accepted file, work area and plan buffer: the rules' plan, or refusal 15 exactly where it is longer than a plan may be or than the buffer.
 pub exact : (T : Tables) → Passed T → Bounded T → (work plan : List ℕ) → 65536 ≤ length work → writtenOutcome (compiled T work plan) ≡ Compile.written (length plan) (Plan.planBytes (Plan.plan T))
-unfolding compiled
+unfolding compiled unpaged writtenOutcome
 exact T passed bounded work plan room = go (ended .state .over) refl ∙ ap (Compile.written (length plan)) (sym (plan-is T))
   where
     S : Sound T

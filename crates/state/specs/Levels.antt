@@ -1,10 +1,10 @@
--- A level measured, then written at its final place in the plan; the list of levels; the four lists after them.
+-- A level walked onto the page, then copied to its place in the plan; the list of levels; the four lists after them.
 use mathlib.Core.Bool.{Bool, true, false}
 use mathlib.Core.List.{List, [], _∷_, _++_}
 use mathlib.Core.Option.{Option, none, some}
-use Prim.Native.Nat.{ℕ, _+_, _-_, _/_, min}
-use lib.ListN.{length, take}
-use lib.Dec.{leb, eqb}
+use Prim.Native.Nat.{ℕ, zero, suc, _+_, _-_, _*_, _/_, min}
+use lib.ListN.{length, take, getD, replicate}
+use lib.Dec.{leb}
 use lib.Seq.{sets, slice}
 use Rattle.rules.specs.Base.{both}
 use Rattle.rules.specs.Limits.{planLimit}
@@ -13,7 +13,7 @@ use Rattle.rules.specs.Walk.{key}
 use Rattle.rules.specs.Placement.{Range, RangeEdge}
 use Rattle.rules.specs.Plan as Plan
 use Rattle.rules.specs.Compile.{Outcome}
-use Rattle.state.specs.State.{Ends, Level, newLevel, Target, measuring, State, state, noEnds, stop, bindingsAt, constrainedAt}
+use Rattle.state.specs.State.{Ends, Counts, Level, newLevel, Target, measuring, State, state, noEnds, stop, bindingsAt, constrainedAt}
 use Rattle.state.specs.State.{selectsAt, diagnosticsAt, joinedBytes}
 use Rattle.state.specs.Ops.{ops}
 
@@ -77,17 +77,57 @@ tailAt at l = restAt at l + l .counts .rest
 unfoldable pub levelEnd : ℕ → Level → ℕ
 levelEnd at l = tailAt at l + length (tail l)
 
--- a plan that is written up to `at`
+-- The page: a level's walk writes its parts there, each by itself, and from `pageRest` on its residuals, before it is known where they
+-- stand in the plan.
+abbrev pub pageRest : ℕ
+pageRest = 2048
+
+abbrev pub pageLength : ℕ
+pageLength = 4096
+
+unfoldable pub paging : Target
+paging = record { writing = true; joining = false; partsAt = 0; nodesAt = 0; restAt = pageRest }
+
+-- whether the page has room for the parts and for the residuals that a level counts
+unfoldable pub paged : Counts → Bool
+paged c = both (leb (c .parted) pageRest) (leb (c .rest) (pageLength - pageRest))
+
+-- a u16 of the page
+unfoldable pub pageWord : List ℕ → ℕ → ℕ
+pageWord page p = getD page p 0 + 256 * getD page (p + 1) 0
+
+-- The parts of the page from p on, n of them and all bytes, joined in the plan: their texts from `text` on, their nodes from `node` on.
+unfoldable pub joinParts : ℕ → List ℕ → ℕ → ℕ → ℕ → List ℕ → List ℕ
+joinParts zero page p text node plan = plan
+joinParts (suc n) page p text node plan =
+    let size = pageWord page (p + 1) in
+    let to = p + 3 + size in
+    joinParts n page (to + 2) (text + size) (node + 2) (sets (sets plan node (slice to (to + 2) page)) text (slice (p + 3) to page))
+
+-- the parts that a level counts, from the page to their place
+unfoldable pub partsFrom : Target → Counts → List ℕ → List ℕ → List ℕ
+partsFrom t c page plan =
+    elim (t .joining) [
+      | true ↦ joinParts (c .parts) page 0 (t .partsAt) (t .nodesAt) plan
+      | false ↦ sets plan (t .partsAt) (slice 0 (c .parted) page)
+    ]
+
+-- its parts, then its residuals
+unfoldable pub fromPage : Target → Counts → List ℕ → List ℕ → List ℕ
+fromPage t c page plan = sets (partsFrom t c page plan) (t .restAt) (slice pageRest (pageRest + c .rest) page)
+
+-- a plan that is written up to `at`, and the page
 pub record Written : Type 0 where
   pub at : ℕ
   pub state : State
+  pub page : List ℕ
 
-abbrev pub writtenTo : ℕ → State → Written
-writtenTo at s = record { at = at; state = s }
+abbrev pub writtenTo : ℕ → State → List ℕ → Written
+writtenTo at s page = record { at = at; state = s; page = page }
 
--- a level's walk begins
-unfoldable pub begin : Ends → Target → State → State
-begin e t s = state (s .over) e newLevel t (s .work) (s .plan)
+-- a level's walk begins; `plan` is what it writes to
+unfoldable pub begin : Ends → Target → List ℕ → State → State
+begin e t plan s = state (s .over) e newLevel t (s .work) plan
 
 unfoldable pub walked : Tables → LevelEntry → State → State
 walked T l s = key (ops T) T (l .address) (l .node) (predicateAt T (l .predicate) .key) s
@@ -96,37 +136,40 @@ walked T l s = key (ops T) T (l .address) (l .node) (predicateAt T (l .predicate
 unfoldable pub frame : ℕ → Level → List ℕ → List ℕ
 frame at l plan = sets (sets (sets plan at (head l)) (middleAt at l) (middle l)) (tailAt at l) (tail l)
 
--- whether a level has neither parts nor residuals: then its frame is all of its bytes
-unfoldable pub bare : Level → Bool
-bare l = both (eqb (l .counts .parts) 0) (eqb (l .counts .residuals) 0)
+-- the state with the plan again, after a walk that wrote to the page
+unfoldable pub withPlan : List ℕ → State → State
+withPlan plan s = state (s .over) (s .ends) (s .level) (s .target) (s .work) plan
 
--- the measured state, with the level's frame in the plan
-unfoldable pub framed : ℕ → State → State
-framed at m = state (m .over) (m .ends) (m .level) (m .target) (m .work) (frame at (m .level) (m .plan))
-
--- where a measured level is written
+-- where a level is written
 unfoldable pub writingAt : ℕ → Level → Target
 writingAt at l =
     record { writing = true; joining = joining l; partsAt = partsAt at l; nodesAt = nodesAt at l; restAt = restAt at l }
 
--- Measured, it is walked once more from the lists as they were, and written. A bare one has nothing more to write, and its lists are made
--- already: it is not walked again.
-unfoldable pub rewritten : Tables → LevelEntry → Ends → ℕ → State → State
-rewritten T l e at m =
-    elim (bare (m .level)) [ true ↦ framed at m | false ↦ walked T l (begin e (writingAt at (m .level)) (framed at m)) ]
+-- The level's frame goes to the plan, and what its walk m wrote to the page. A level that is too long for the page is walked once more, from
+-- the lists as they were, and written at its place.
+unfoldable pub placed : Tables → LevelEntry → Ends → ℕ → List ℕ → State → State
+placed T l e at plan m =
+    let framed = frame at (m .level) plan in
+    elim (paged (m .level .counts)) [
+      | true ↦ withPlan (fromPage (writingAt at (m .level)) (m .level .counts) (m .plan) framed) m
+      | false ↦ walked T l (begin e (writingAt at (m .level)) framed m)
+    ]
 
-unfoldable pub measured : Tables → LevelEntry → Ends → ℕ → State → Written
-measured T l e at m =
+-- a level that was walked onto the page: in the plan, if it fits
+unfoldable pub ended : Tables → LevelEntry → Ends → ℕ → List ℕ → State → Written
+ended T l e at plan m =
     elim (m .over) [
-      | true ↦ writtenTo at m
-      | false ↦ elim (leb (levelEnd at (m .level)) (min planLimit (length (m .plan)))) [
-        | true ↦ writtenTo (levelEnd at (m .level)) (rewritten T l e at m)
-        | false ↦ writtenTo at (stop m)
+      | true ↦ writtenTo at (withPlan plan m) (m .plan)
+      | false ↦ elim (leb (levelEnd at (m .level)) (min planLimit (length plan))) [
+        | true ↦ writtenTo (levelEnd at (m .level)) (placed T l e at plan m) (m .plan)
+        | false ↦ writtenTo at (stop (withPlan plan m)) (m .plan)
       ]
     ]
 
 unfoldable pub level : Tables → LevelEntry → Written → Written
-level T l w = measured T l (w .state .ends) (w .at) (walked T l (begin (w .state .ends) measuring (w .state)))
+level T l w =
+    let s = w .state in
+    ended T l (s .ends) (w .at) (s .plan) (walked T l (begin (s .ends) paging (w .page) s))
 
 -- the list of levels; once the plan is too long no level is walked
 unfoldable pub levels : Tables → List LevelEntry → Written → Written
@@ -150,21 +193,29 @@ finished w =
         | true ↦ writtenTo (w .at + length (lists (w .state)))
             (state false (w .state .ends) (w .state .level) (w .state .target) (w .state .work)
             (sets (w .state .plan) (w .at) (lists (w .state))))
-        | false ↦ writtenTo (w .at) (stop (w .state))
+            (w .page)
+        | false ↦ writtenTo (w .at) (stop (w .state)) (w .page)
       ]
     ]
 
--- a plan begins with the count of its levels
+-- a plan begins with the count of its levels, and the page with nothing on it
 unfoldable pub started : Tables → List ℕ → List ℕ → Written
-started T work plan = writtenTo 2 (state false noEnds newLevel measuring work (sets plan 0 (Plan.u16 (length (T .levels)))))
+started T work plan =
+    let counted = sets plan 0 (Plan.u16 (length (T .levels))) in
+    writtenTo 2 (state false noEnds newLevel measuring work counted) (replicate pageLength 0)
+
+-- the page is gone when the plan is written
+unfoldable pub unpaged : Written → Written
+unpaged w = writtenTo (w .at) (w .state) []
 
 unfoldable pub compiled : Tables → List ℕ → List ℕ → Written
-compiled T work plan = finished (levels T (T .levels) (started T work plan))
+compiled T work plan = unpaged (finished (levels T (T .levels) (started T work plan)))
 
 unfoldable pub writtenOutcome : Written → Outcome
 writtenOutcome w = elim (w .state .over) [ true ↦ Outcome.refused 15 | false ↦ Outcome.planned (take (w .at) (w .state .plan)) ]
 
 unfoldable pub openLevels : Unit {0}
-unfolding seekNumber seekOf joins joining head rangeOrEdges middle tail partsAt nodesAt middleAt restAt tailAt levelEnd begin walked frame
-    bare framed writingAt rewritten measured level levels lists finished started compiled writtenOutcome
+unfolding seekNumber seekOf joins joining head rangeOrEdges middle tail partsAt nodesAt middleAt restAt tailAt levelEnd paging paged
+    pageWord joinParts partsFrom fromPage begin walked frame withPlan writingAt placed ended level levels lists finished started unpaged
+    compiled writtenOutcome
 openLevels = tt

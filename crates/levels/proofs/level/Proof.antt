@@ -8,32 +8,55 @@ use Rattle.levels.proofs.level.Tie as tie
 use Rattle.levels.proofs.level.Reads as reads
 use Rattle.levels.proofs.level.Lts as lts
 use Rattle.levels.proofs.begun.Reads as begun-reads
-use Rattle.levels.proofs.measured.Reads as measured-reads
+use Rattle.levels.proofs.ended.Reads as ended-reads
 use Rattle.levels.proofs.walked.Reads as walked-reads
+use Rattle.page.proofs.paging.Reads as paging-reads
 
+-- src/lib.rt:210:33
+paging-requires : tie.Need-paging-requires
+paging-requires c κs = search needs
+
+-- src/lib.rt:210:9
 begun-requires : tie.Need-begun-requires
 begun-requires c κs = search needs
 
+-- src/lib.rt:204:9
 walked-requires : tie.Need-walked-requires
 walked-requires c κs = search needs
 
-measured-requires : tie.Need-measured-requires
-measured-requires c κs = search needs
+-- src/lib.rt:212:5
+ended-requires : tie.Need-ended-requires
+ended-requires c κs = let s = c .before .before .before .before .before .before .before .before .before .before .before .before .before .before .before .before .before .before .before in (s .pre .0, s .pre .1)
 
+-- src/lib.rt:183:1
 same-length : tie.Need-same-length
 same-length c = search needs
 
+-- src/lib.rt:183:1
 same-length-2 : tie.Need-same-length-2
 same-length-2 c = search needs
 
+-- src/lib.rt:183:1
+same-length-3 : tie.Need-same-length-3
+same-length-3 c = search needs
+
+-- src/lib.rt:183:1
 returns : tie.Need-returns
 returns c =
-    let a = c .before .before .before .before .before .before .before .before .before .before .before .before .before .before .before .before .before .before .before .before .before .args in
+    let a = c .before .before .before .before .before .before .before .before .before .before .before .before .before .before .before .before .before .before .before .before .before .before .before .before .args in
     let T = tablesOf (now (a .file)) in
-    let m = c .before .before .before .before .measured .ensures in
-    (level-is T (levelEntryAt T (a .k)) (a .w) (now (a .work)) (now (a .plan)) _ _ _ (c .before .before .before .before .before .before .before .before .before .before .before .before .begun .ensures .0 T _ _) (c .before .before .before .before .before .before .before .before .before .before .before .walked .ensures) (m .0), m .1)
+    let m = c .before .before .before .before .ended .ensures in
+    (level-is T (levelEntryAt T (a .k)) (a .w) (now (a .work)) (now (a .plan)) (now (a .page)) _ _ _ _ (c .before .before .before .before .before .before .before .before .before .before .before .before .before .before .paging .ensures) (c .before .before .before .before .before .before .before .before .before .before .before .before .before .begun .ensures .0 T _ _) (c .before .before .before .before .before .before .before .before .before .before .before .before .walked .ensures) (m .0), m .1)
 
 pub level-spec : {M : Type 1} → statement M
 level-spec =
     tie.close
-    (tie.spec begun-requires walked-requires measured-requires same-length same-length-2 returns)
+    (tie.spec
+    paging-requires
+    begun-requires
+    walked-requires
+    ended-requires
+    same-length
+    same-length-2
+    same-length-3
+    returns)
