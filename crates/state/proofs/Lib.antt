@@ -2,6 +2,7 @@
 pub mod Stopped
 -- The lists, as their runs hold them.
 pub mod Seqs
+pub mod Backwards
 pub mod Made
 pub mod Mem
 -- A level, as the memory keeps it, and when it fits.

@@ -21,7 +21,7 @@ use Rattle.rules.proofs.Keeps.{narrow, skip}
 use Rattle.rules.proofs.Numbers.{TypeNumbers, NodeNumbers, Bounded}
 use Rattle.rules.proofs.RoundTrip.{PathNumbers, BindingNumbers}
 use Rattle.rules.proofs.Runs.{Numbers, Stands, Sim}
-use Rattle.state.specs.State.{Target, State, unless, made, constrainedAt, selectsAt, diagnosticsAt, runsEnd}
+use Rattle.state.specs.State.{Target, State, unless, made}
 use Rattle.rules.proofs.Sound.{Sound}
 use Rattle.rules.proofs.ReaderTables.{PathWithin, first-within, then-within}
 use Rattle.state.specs.Ops as Ops
@@ -30,10 +30,10 @@ use Rattle.state.proofs.Seqs.{length-snoc, length-least}
 use Rattle.state.proofs.Stopped.{stopped}
 use Rattle.state.proofs.Fitting.{all-fitting}
 use Rattle.state.proofs.Made.{binding-length}
-use Rattle.state.proofs.Mem.{mem-bind, mem-constrain, mem-select, mem-report, mem-lookup, same-reported}
+use Rattle.state.proofs.Mem.{new-is, mem-bind, mem-constrain, mem-select, mem-report, mem-lookup, same-reported}
 use Rattle.state.proofs.Sizes.{Sane}
 use Rattle.state.proofs.Growth.{built, met, built-emit, met-emit, listSize, Grew, grew-bind, grew-constrained, grew-select, grew-report, grew-skip, grew-bound, grew-constant, grew-register, grew-fact, grew-own, grew-tag, grew-closer}
-use Rattle.state.proofs.Rel.{Good, RelAt, Rel, rel-stays, rel-unless, rel-append, rel-counted, rel-fall, rel-bound, rel-close, rel-narrowing}
+use Rattle.state.proofs.Rel.{Good, RelAt, Rel, rel-stays, rel-unless, rel-append, rel-down, rel-counted, rel-fall, rel-bound, rel-close, rel-narrowing}
 
 abbrev pub Name : ℕ → Type 0
 Name x = x < 65536
@@ -92,19 +92,19 @@ module _ (T : Tables) (t : Target) (base : List ℕ) where
       rel-unless T t base w (bind x slot w) c _ (grew-bind T x slot w) r λ e g s.
       let b : Binding = record { name = x; slot = slot } in
       let m = g .mem in
-      rel-counted T t base (bind x slot w .lists) (met w) (built T w) c _ (c .ends .bindings) constrainedAt (Plan.binding b) _
-      (omega (arith, m .bindingCount, length-least Plan.binding (each-all (m .new) binding-length), m .bindings .fits))
-      (rel-append T t base (bind x slot w .lists) (met w) (built T w) c (c .ends .bindings) constrainedAt (Plan.binding b) _ e s
+      rel-counted T t base (bind x slot w .lists) (met w) (built T w) c _ (c .ends .bindings) (c .ends .constrained) (Plan.binding b) _
+      (omega (arith, m .bindingCount, length-least Plan.binding (each-all (m .new) binding-length), m .bindings .ends, m .first, m .constrained .ends))
+      (rel-append T t base (bind x slot w .lists) (met w) (built T w) c (c .ends .bindings) (c .ends .constrained) (Plan.binding b) _ e s
       (λ h. record { mem = mem-bind T (w .lists) (c .ends) (c .work) m b numbers h; level = g .level; target = g .target; plan = g .plan })
-      (λ h. omega (arith, h, m .bindings .ends, length-snoc Plan.binding (m .new) b, ap (λ (bs : List Binding). length (concatMap Plan.binding bs)) (new-after T (w .lists) (m .new) (b ∷ []) (m .bindings-are)))))
+      (λ h. omega (arith, h, m .bindings .ends, m .constrained .ends, length-snoc Plan.binding (m .new) b, ap (λ (bs : List Binding). length (concatMap Plan.binding bs)) (new-after T (w .lists) (m .new) (b ∷ []) (m .bindings-are)))))
 
   rel-constrained : (x : ℕ) (w : Walk) (c : State) → Rel T t base w c → Rel T t base (constrained x w) (Ops.constrained x c)
   unfolding constrained Ops.constrained listSize
   rel-constrained x w c r =
       rel-unless T t base w (constrained x w) c _ (grew-constrained T x w) r λ e g s.
-      rel-append T t base (constrained x w .lists) (met w) (built T w) c (c .ends .constrained) selectsAt (Plan.u16 x) _ e s
+      rel-down T t base (constrained x w .lists) (met w) (built T w) c (c .ends .constrained) (c .ends .bindings) (Plan.u16 x) _ e s
       (λ h. record { mem = mem-constrain T (w .lists) (c .ends) (c .work) (g .mem) x h; level = g .level; target = g .target; plan = g .plan })
-      (λ h. omega (arith, h, g .mem .constrained .ends, length-snoc Plan.u16 (w .lists .constrained) x))
+      (λ h. omega (arith, h, g .mem .bindings .ends, g .mem .constrained .ends, length-snoc Plan.u16 (w .lists .constrained) x, ap (λ (bs : List Binding). length (concatMap Plan.binding bs)) (new-is T (w .lists) (g .mem .new) (g .mem .bindings-are))))
 
   rel-select : (a : ℕ) (p : FieldPath) (d : ℕ) (w : Walk) (c : State) → Rel T t base w c → Rel T t base (select a p d w) (Ops.select a p d c)
   unfolding select Ops.select listSize
@@ -112,20 +112,20 @@ module _ (T : Tables) (t : Target) (base : List ℕ) where
       rel-unless T t base w (select a p d w) c _ (grew-select T a p d w) r λ e g s.
       let k : Select = record { address = a; path = p; disc = d } in
       let m = g .mem in
-      rel-counted T t base (select a p d w .lists) (met w) (built T w) c _ (c .ends .selects) diagnosticsAt (Plan.select k) _
-      (omega (arith, m .selectCount, length-least Plan.select (each-all (w .lists .selects) select-length), m .selects .fits))
-      (rel-append T t base (select a p d w .lists) (met w) (built T w) c (c .ends .selects) diagnosticsAt (Plan.select k) _ e s
+      rel-counted T t base (select a p d w .lists) (met w) (built T w) c _ (c .ends .selects) (c .ends .diagnostics) (Plan.select k) _
+      (omega (arith, m .selectCount, length-least Plan.select (each-all (w .lists .selects) select-length), m .selects .ends, m .second, m .diagnostics .ends))
+      (rel-append T t base (select a p d w .lists) (met w) (built T w) c (c .ends .selects) (c .ends .diagnostics) (Plan.select k) _ e s
       (λ h. record { mem = mem-select T (w .lists) (c .ends) (c .work) m k h; level = g .level; target = g .target; plan = g .plan })
-      (λ h. omega (arith, h, m .selects .ends, length-snoc Plan.select (w .lists .selects) k)))
+      (λ h. omega (arith, h, m .selects .ends, m .diagnostics .ends, length-snoc Plan.select (w .lists .selects) k)))
 
   rel-report : (n : ℕ) (code : Code) (w : Walk) (c : State) → Rel T t base w c → Rel T t base (report n code w) (Ops.report n code c)
   unfolding report Ops.report listSize
   rel-report n code w c r =
       rel-unless T t base w (report n code w) c _ (grew-report T n code w) r λ e g s.
       let d : Diagnostic = record { node = n; code = code } in
-      rel-append T t base (report n code w .lists) (met w) (built T w) c (c .ends .diagnostics) runsEnd (Plan.diagnostic d) _ e s
+      rel-down T t base (report n code w .lists) (met w) (built T w) c (c .ends .diagnostics) (c .ends .selects) (Plan.diagnostic d) _ e s
       (λ h. record { mem = mem-report T (w .lists) (c .ends) (c .work) (g .mem) d h; level = g .level; target = g .target; plan = g .plan })
-      (λ h. omega (arith, h, g .mem .diagnostics .ends, length-snoc Plan.diagnostic (w .lists .diagnostics) d))
+      (λ h. omega (arith, h, g .mem .selects .ends, g .mem .diagnostics .ends, length-snoc Plan.diagnostic (w .lists .diagnostics) d))
 
   -- A constant noted: the memory keeps nothing of it.
   rel-brings : (slot : Slot) (ty : Ty) (w : Walk) (c : State) → Rel T t base w c → Rel T t base (brings T slot ty w) c

@@ -3,13 +3,13 @@ use mathlib.Core.Bool.{Bool, true, false}
 use mathlib.Core.List.{List, [], _∷_, _++_, map, append-nil, append-assoc}
 use mathlib.Core.Option.{none}
 use mathlib.Core.Path.{_≡_, refl, sym, ap, _∙_, subst}
-use Prim.Native.Nat.{ℕ, suc, _+_, _-_, _/_, _≤_, _<_, min}
+use Prim.Native.Nat.{ℕ, suc, _+_, _≤_, _<_, min}
 use native.Mathlib.Nat.{zero-add}
 use native.Mathlib.Omega.{arith}
 use borrow.Author.Tests.{leb-true, leb-false, le-leb, lt-leb}
 use lib.Dec.{leb}
 use lib.ListN.{length, take, drop, length-append, length-map, length-replicate}
-use lib.Seq.{sets, length-sets, drop-append-seam}
+use lib.Seq.{sets, length-sets}
 use Rattle.rules.specs.Base.{Each, done, more, concatMap}
 use Rattle.rules.specs.Limits.{fileLimit, workLimit, planLimit}
 use Rattle.rules.specs.File.{Tables, Binding, LevelEntry}
@@ -29,10 +29,10 @@ use Rattle.rules.proofs.Alone.{walk-keeps}
 use Rattle.rules.proofs.Lists.{AddsTo, adds-keeps, Onwards}
 use Rattle.rules.proofs.Numbers.{Bounded, bounded as read-bounded}
 use Rattle.rules.proofs.Sound.{BindingOk, Sound, Passed, passed-all, sound}
-use Rattle.state.specs.State.{State, state, stop, constrainedAt, diagnosticsAt}
-use Rattle.state.specs.Levels.{pageLength, Written, writtenTo, level, levels, lists, finished, started, unpaged, compiled, writtenOutcome}
-use Rattle.state.proofs.Seqs.{sets-append, slice-sets-at, concatMap-append, length-stride, length-drop-append}
-use Rattle.state.proofs.Mem.{Mem, mem-none, diagnostic-length}
+use Rattle.state.specs.State.{State, state, stop, constrainedAt, diagnosticsAt, backwards}
+use Rattle.state.specs.Levels.{pageLength, Written, writtenTo, level, levels, constrainedCount, diagnosticCount, lists, finished, started, unpaged, compiled, writtenOutcome}
+use Rattle.state.proofs.Seqs.{sets-append, slice-sets-at, concatMap-append, length-drop-append}
+use Rattle.state.proofs.Mem.{Mem, mem-none, down-low, u16-length, diagnostic-length, new-is}
 use Rattle.state.proofs.Growth.{listSize}
 use Rattle.state.proofs.Leveled.{EntryOk, Between, After, ends-level}
 
@@ -85,26 +85,20 @@ adds-size T l l′ a =
     )
 
 -- The lists that the runs hold are the plan's.
-u16-length : (x : ℕ) → length (Plan.u16 x) ≡ 2
-unfolding Plan.u16
-u16-length x = refl
-
-new-is : (T : Tables) (l : Lists) (new : List Binding) → l .bindings ≡ T .bindings ++ new → new ≡ drop (length (T .bindings)) (l .bindings)
-new-is T l new e = sym (ap (drop (length (T .bindings))) e ∙ drop-append-seam (T .bindings) new)
-
 lists-are : (T : Tables) (l : Lists) (s : State) → Mem T l (s .ends) (s .work) → lists s ≡ listBytes T l
-unfolding lists Plan.counted
+unfolding lists constrainedCount diagnosticCount Plan.counted
 lists-are T l s m =
     let bound = new-is T l (m .new) (m .bindings-are) in
     let bindings = m .bindings .holds ∙ ap (concatMap Plan.binding) bound in
-    let bindingCount = m .bindingCount ∙ ap length bound in
-    let constrainedCount : (s .ends .constrained - constrainedAt) / 2 ≡ length (l .constrained) = omega (arith, m .constrained .ends, length-stride Plan.u16 2 u16-length (l .constrained)) in
-    let diagnosticCount : (s .ends .diagnostics - diagnosticsAt) / 3 ≡ length (l .diagnostics) = omega (arith, m .diagnostics .ends, length-stride Plan.diagnostic 3 diagnostic-length (l .diagnostics)) in
+    let names : constrainedCount (s .ends) ≡ length (l .constrained) = omega (arith, down-low Plan.u16 2 u16-length constrainedAt (s .ends .constrained) (l .constrained) (s .work) (m .constrained)) in
+    let reports : diagnosticCount (s .ends) ≡ length (l .diagnostics) = omega (arith, down-low Plan.diagnostic 3 diagnostic-length diagnosticsAt (s .ends .diagnostics) (l .diagnostics) (s .work) (m .diagnostics)) in
+    let constrained = ap (λ (n : ℕ). backwards 2 n constrainedAt (s .work)) names ∙ m .constrained .holds in
+    let diagnostics = ap (λ (n : ℕ). backwards 3 n diagnosticsAt (s .work)) reports ∙ m .diagnostics .holds in
     λ i.
-    Plan.u16 (bindingCount i) ++ bindings i
-    ++ (Plan.u16 (constrainedCount i) ++ m .constrained .holds i)
+    Plan.u16 ((m .bindingCount ∙ ap length bound) i) ++ bindings i
+    ++ (Plan.u16 (names i) ++ constrained i)
     ++ (Plan.u16 (m .selectCount i) ++ m .selects .holds i)
-    ++ (Plan.u16 (diagnosticCount i) ++ m .diagnostics .holds i)
+    ++ (Plan.u16 (reports i) ++ diagnostics i)
 
 -- The list of levels.
 levels-over : (T : Tables) (entries : List LevelEntry) (w : Written) → w .state .over ≡ true → levels T entries w ≡ w

@@ -14,7 +14,7 @@ use Rattle.rules.specs.Placement.{Range, RangeEdge}
 use Rattle.rules.specs.Plan as Plan
 use Rattle.rules.specs.Compile.{Outcome}
 use Rattle.state.specs.State.{Ends, Counts, Level, newLevel, Target, measuring, State, state, noEnds, stop, bindingsAt, constrainedAt}
-use Rattle.state.specs.State.{selectsAt, diagnosticsAt, joinedBytes}
+use Rattle.state.specs.State.{selectsAt, diagnosticsAt, backwards, joinedBytes}
 use Rattle.state.specs.Ops.{ops}
 
 -- The four seeks, as numbers of the plan: 0 Prefix, 1 Composite, 2 PrefixRange, 3 Bounded.
@@ -176,14 +176,21 @@ unfoldable pub levels : Tables → List LevelEntry → Written → Written
 levels T [] w = w
 levels T (l ∷ ls) w = elim (w .state .over) [ true ↦ w | false ↦ levels T ls (level T l w) ]
 
+-- how many constrained names and diagnostics there are
+unfoldable pub constrainedCount : Ends → ℕ
+constrainedCount e = (constrainedAt - e .constrained) / 2
+
+unfoldable pub diagnosticCount : Ends → ℕ
+diagnosticCount e = (diagnosticsAt - e .diagnostics) / 3
+
 -- the four lists, each after its count, as their runs hold them
 unfoldable pub lists : State → List ℕ
 lists s =
     let e = s .ends in
     Plan.u16 (e .bindingCount) ++ slice bindingsAt (e .bindings) (s .work)
-    ++ (Plan.u16 ((e .constrained - constrainedAt) / 2) ++ slice constrainedAt (e .constrained) (s .work))
+    ++ (Plan.u16 (constrainedCount e) ++ backwards 2 (constrainedCount e) constrainedAt (s .work))
     ++ (Plan.u16 (e .selectCount) ++ slice selectsAt (e .selects) (s .work))
-    ++ (Plan.u16 ((e .diagnostics - diagnosticsAt) / 3) ++ slice diagnosticsAt (e .diagnostics) (s .work))
+    ++ (Plan.u16 (diagnosticCount e) ++ backwards 3 (diagnosticCount e) diagnosticsAt (s .work))
 
 unfoldable pub finished : Written → Written
 finished w =
@@ -216,6 +223,6 @@ writtenOutcome w = elim (w .state .over) [ true ↦ Outcome.refused 15 | false �
 
 unfoldable pub openLevels : Unit {0}
 unfolding seekNumber seekOf joins joining head rangeOrEdges middle tail partsAt nodesAt middleAt restAt tailAt levelEnd paging paged
-    pageWord joinParts partsFrom fromPage begin walked frame withPlan writingAt placed ended level levels lists finished started unpaged
-    compiled writtenOutcome
+    pageWord joinParts partsFrom fromPage begin walked frame withPlan writingAt placed ended level levels constrainedCount diagnosticCount
+    lists finished started unpaged compiled writtenOutcome
 openLevels = tt

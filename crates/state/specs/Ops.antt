@@ -2,7 +2,7 @@
 use mathlib.Core.Bool.{Bool, true, false}
 use mathlib.Core.List.{List, [], _++_}
 use mathlib.Core.Option.{Option, none, some}
-use Prim.Native.Nat.{ℕ, _+_, _*_}
+use Prim.Native.Nat.{ℕ, _+_, _-_, _*_}
 use lib.ListN.{length}
 use lib.Dec.{leb}
 use lib.Seq.{sets}
@@ -14,16 +14,23 @@ use Rattle.rules.specs.Constant.{lookup, constant, unionTag, term}
 use Rattle.rules.specs.Events.{Code, Narrowing, Ops}
 use Rattle.rules.specs.Placement.{SeekKeyPart, Part, Guide, Edges, rangeAt, foldFrom}
 use Rattle.rules.specs.Plan as Plan
-use Rattle.state.specs.State.{Ends, ends, Counts, counts, Level, Target, State, state, constrainedAt, selectsAt, diagnosticsAt}
-use Rattle.state.specs.State.{runsEnd, stop, unless, made, fits}
+use Rattle.state.specs.State.{Ends, ends, Counts, counts, Level, Target, State, state, stop, unless, made, fits}
 
--- A record at a list's end, if its run has room: where the list ends, where its run ends, the record, and the ends with that list's moved.
-unfoldable pub append : ℕ → ℕ → List ℕ → (ℕ → Ends) → State → State
-append at limit bytes move s =
-    elim (leb (at + length bytes) limit) [
-      | true ↦ state (s .over) (move (at + length bytes)) (s .level) (s .target) (sets (s .work) at bytes) (s .plan)
+-- A record at a place of the work area, if there is room for it, and the ends with its list's moved.
+unfoldable pub placed : Bool → ℕ → List ℕ → Ends → State → State
+placed room at bytes moved s =
+    elim room [
+      | true ↦ state (s .over) moved (s .level) (s .target) (sets (s .work) at bytes) (s .plan)
       | false ↦ stop s
     ]
+
+-- At the end of a list that grows up: where the list ends, how far the run's other list has come down, the record.
+unfoldable pub append : ℕ → ℕ → List ℕ → (ℕ → Ends) → State → State
+append at limit bytes move s = placed (leb (at + length bytes) limit) at bytes (move (at + length bytes)) s
+
+-- Before the newest record of a list that grows down: where that begins, where the run's other list ends, the record.
+unfoldable pub appendDown : ℕ → ℕ → List ℕ → (ℕ → Ends) → State → State
+appendDown at limit bytes move s = placed (leb (limit + length bytes) at) (at - length bytes) bytes (move (at - length bytes)) s
 
 -- a record of a list that is counted; its count stays below what its field holds, as it does in every run that has room
 unfoldable pub appendCounted : ℕ → ℕ → ℕ → List ℕ → (ℕ → Ends) → State → State
@@ -32,25 +39,25 @@ appendCounted count at limit bytes move s = elim (leb count 65534) [ true ↦ ap
 unfoldable pub bind : ℕ → Slot → State → State
 bind x slot s =
     let e = s .ends in
-    unless (appendCounted (e .bindingCount) (e .bindings) constrainedAt (Plan.binding (record { name = x; slot = slot }))
+    unless (appendCounted (e .bindingCount) (e .bindings) (e .constrained) (Plan.binding (record { name = x; slot = slot }))
     (λ end. ends end (e .bindingCount + 1) (e .constrained) (e .selects) (e .selectCount) (e .diagnostics))) s
 
 unfoldable pub constrained : ℕ → State → State
 constrained x s =
     let e = s .ends in
-    unless (append (e .constrained) selectsAt (Plan.u16 x)
+    unless (appendDown (e .constrained) (e .bindings) (Plan.u16 x)
     (λ end. ends (e .bindings) (e .bindingCount) end (e .selects) (e .selectCount) (e .diagnostics))) s
 
 unfoldable pub select : ℕ → FieldPath → ℕ → State → State
 select address path disc s =
     let e = s .ends in
-    unless (appendCounted (e .selectCount) (e .selects) diagnosticsAt (Plan.select (record { address = address; path = path; disc = disc }))
+    unless (appendCounted (e .selectCount) (e .selects) (e .diagnostics) (Plan.select (record { address = address; path = path; disc = disc }))
     (λ end. ends (e .bindings) (e .bindingCount) (e .constrained) end (e .selectCount + 1) (e .diagnostics))) s
 
 unfoldable pub report : ℕ → Code → State → State
 report n code s =
     let e = s .ends in
-    unless (append (e .diagnostics) runsEnd (Plan.diagnostic (record { node = n; code = code }))
+    unless (appendDown (e .diagnostics) (e .selects) (Plan.diagnostic (record { node = n; code = code }))
     (λ end. ends (e .bindings) (e .bindingCount) (e .constrained) (e .selects) (e .selectCount) end)) s
 
 -- The level with other counts, or without building.
@@ -261,7 +268,7 @@ ops T =
     }
 
 unfoldable pub openOps : Unit {0}
-unfolding append appendCounted bind constrained select report recount fall relevel narrowed grow putMade partText isBytes withPart partAt
-    partForm nodeAt partPut putPart putResidual narrowPart withRange narrowPrefix attachable withGuide narrowFuzzy narrowOwn narrowing
-    narrow skip closed close closer withEdges boundLevel bound roomy checkedSlot
+unfolding placed append appendDown appendCounted bind constrained select report recount fall relevel narrowed grow putMade partText
+    isBytes withPart partAt partForm nodeAt partPut putPart putResidual narrowPart withRange narrowPrefix attachable withGuide
+    narrowFuzzy narrowOwn narrowing narrow skip closed close closer withEdges boundLevel bound roomy checkedSlot
 openOps = tt

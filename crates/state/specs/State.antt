@@ -1,7 +1,7 @@
 -- What the compiler keeps while it walks: the four lists as records in the work area, a level as counts and sizes, and where its bytes go
 -- in the plan.
 use mathlib.Core.Bool.{Bool, true, false}
-use mathlib.Core.List.{List, [], _∷_}
+use mathlib.Core.List.{List, [], _∷_, _++_}
 use mathlib.Core.Option.{Option, none}
 use Prim.Native.Nat.{ℕ, zero, suc, _+_, _-_, _*_}
 use lib.ListN.{length}
@@ -13,7 +13,9 @@ use Rattle.rules.specs.File.{Binding}
 use Rattle.rules.specs.Read as Read
 use Rattle.rules.specs.Placement.{Guide, Range, Edges}
 
--- The work area's four runs, each as long as a plan may be: a list that does not fit its run does not fit a plan.
+-- Where the four lists begin in the work area. Two runs hold them, each as long as a plan may be, and the two lists of a run grow towards
+-- each other: bindings up and constrained names down in the first, selects up and diagnostics down in the second. Where two lists would
+-- meet, they do not fit a plan. What lies past the second run is free.
 abbrev pub bindingsAt : ℕ
 bindingsAt = 0
 
@@ -21,15 +23,13 @@ abbrev pub constrainedAt : ℕ
 constrainedAt = 16384
 
 abbrev pub selectsAt : ℕ
-selectsAt = 32768
+selectsAt = 16384
 
 abbrev pub diagnosticsAt : ℕ
-diagnosticsAt = 49152
+diagnosticsAt = 32768
 
-abbrev pub runsEnd : ℕ
-runsEnd = 65536
-
--- Where each list ends in the work area; of the two lists whose records differ in length also how many there are.
+-- How far each list has come in the work area: where one that grows up ends, where the newest record of one that grows down begins; of the
+-- two lists whose records differ in length also how many there are.
 pub record Ends : Type 0 where
   pub bindings : ℕ
   pub bindingCount : ℕ
@@ -120,6 +120,11 @@ bindingsIn (suc n) bytes = elim (Read.binding bytes) [ Read.got b rest ↦ b ∷
 unfoldable pub made : State → List Binding
 made s = let bytes = slice bindingsAt (s .ends .bindings) (s .work) in bindingsIn (length bytes) bytes
 
+-- The first n records of a list that grew down from `top`, each of `width` bytes.
+unfoldable pub backwards : ℕ → ℕ → ℕ → List ℕ → List ℕ
+backwards width zero top work = []
+backwards width (suc n) top work = slice (top - width) top work ++ backwards width n (top - width) work
+
 -- how long parts are that are joined: their text, and a node of two bytes for each
 unfoldable pub joinedBytes : Counts → ℕ
 joinedBytes c = c .joined + 2 * c .parts
@@ -137,5 +142,5 @@ fits l =
     (both (leb (l .counts .parts) 65535) (leb (l .counts .residuals) 65535))))
 
 unfoldable pub openState : Unit {0}
-unfolding noEnds newLevel measuring stop unless bindingsIn made joinedBytes partBytes fits
+unfolding noEnds newLevel measuring stop unless bindingsIn made backwards joinedBytes partBytes fits
 openState = tt
