@@ -1,5 +1,6 @@
-// The four lists as runs of records in the work area, each record in the plan's form. A record that its run has no room for means
-// that the plan is too long: `over` is set, and nothing changes any more.
+// The four lists as records in the work area, each in the plan's form, two lists to a run: bindings and selects grow up, constrained names
+// and diagnostics down. A record that would meet the run's other list means that the plan is too long: `over` is set, and nothing changes
+// any more.
 ghost use mathlib.Core.Path.{_≡_};
 ghost use mathlib.Core.Bool.{true, false};
 ghost use mathlib.Core.List.{List, _∷_, _++_};
@@ -56,7 +57,8 @@ use views::SlotView;
 use views::count_of;
 use views::path_at;
 
-// Where each list ends in the work area, and how many records the two have whose records differ in length.
+// How far each list has come in the work area: where one that grows up ends, where the newest record of one that grows down begins; and how
+// many records the two have whose records differ in length.
 pub struct Ends {
     pub bindings: u32,
     pub binding_count: u32,
@@ -84,15 +86,6 @@ pub enum Code {
     RejectUnknownAlternative,
     RejectUnresolvedAccess,
 }
-
-// Where the runs end: a run has as many bytes as a plan may have.
-const BINDINGS_END: usize = 16384;
-
-const CONSTRAINED_END: usize = 32768;
-
-const SELECTS_END: usize = 49152;
-
-const DIAGNOSTICS_END: usize = 65536;
 
 // How many records a count's two bytes hold.
 const COUNT_LIMIT: u32 = 65535;
@@ -123,7 +116,7 @@ fn code_number(code: Code) -> u8
     }
 }
 
-// Appends a diagnostic.
+// Appends a diagnostic, below the others.
 pub fn report(work: &mut [u8], l: Lists, node: usize, code: Code) -> Lists
     ensures { λ r. ⌜ ((lv : Level) (tg : Target) (p : List ℕ) → (
         let before = stateWith l lv tg (now (work .entry)) p in
@@ -135,20 +128,20 @@ pub fn report(work: &mut [u8], l: Lists, node: usize, code: Code) -> Lists
         return l;
     }
     let mut ends = l.ends;
-    let at = wide32(ends.diagnostics);
-    let end = at + 3;
-    if end > DIAGNOSTICS_END {
+    let top = wide32(ends.diagnostics);
+    if wide32(ends.selects) + 3 > top {
         return stopped(l);
     }
+    let at = top - 3;
     put16(work, at, node);
     put8(work, at + 2, code_number(code));
-    ends.diagnostics = end as u32;
+    ends.diagnostics = at as u32;
     let mut r = l;
     r.ends = ends;
     r
 }
 
-// Appends a constrained name.
+// Appends a constrained name, below the others.
 pub fn constrained(work: &mut [u8], l: Lists, name: usize) -> Lists
     ensures { λ r. ⌜ ((lv : Level) (tg : Target) (p : List ℕ) → (
         let before = stateWith l lv tg (now (work .entry)) p in
@@ -160,13 +153,13 @@ pub fn constrained(work: &mut [u8], l: Lists, name: usize) -> Lists
         return l;
     }
     let mut ends = l.ends;
-    let at = wide32(ends.constrained);
-    let end = at + 2;
-    if end > CONSTRAINED_END {
+    let top = wide32(ends.constrained);
+    if wide32(ends.bindings) + 2 > top {
         return stopped(l);
     }
+    let at = top - 2;
     put16(work, at, name);
-    ends.constrained = end as u32;
+    ends.constrained = at as u32;
     let mut r = l;
     r.ends = ends;
     r
@@ -190,7 +183,7 @@ pub fn select(work: &mut [u8], l: Lists, address: Address, path: FieldPath, disc
     }
     let at = wide32(ends.selects);
     let end = at + path_size(path) + 6;
-    if end > SELECTS_END {
+    if end > wide32(ends.diagnostics) {
         return stopped(l);
     }
     put16(work, at, wide16(address.0));
@@ -286,7 +279,7 @@ pub fn bind(work: &mut [u8], l: Lists, name: usize, slot: Slot) -> Lists
     }
     let at = wide32(ends.bindings);
     let end = at + 2 + slot_size(slot);
-    if end > BINDINGS_END {
+    if end > wide32(ends.constrained) {
         return stopped(l);
     }
     put16(work, at, name);

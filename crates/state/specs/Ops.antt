@@ -51,7 +51,8 @@ constrained x s =
 unfoldable pub select : ℕ → FieldPath → ℕ → State → State
 select address path disc s =
     let e = s .ends in
-    unless (appendCounted (e .selectCount) (e .selects) (e .diagnostics) (Plan.select (record { address = address; path = path; disc = disc }))
+    let form = Plan.select (record { address = address; path = path; disc = disc }) in
+    unless (appendCounted (e .selectCount) (e .selects) (e .diagnostics) form
     (λ end. ends (e .bindings) (e .bindingCount) (e .constrained) end (e .selectCount + 1) (e .diagnostics))) s
 
 unfoldable pub report : ℕ → Code → State → State

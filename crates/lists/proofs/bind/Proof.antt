@@ -39,15 +39,18 @@ slot-size-requires c κs = search needs
 add-end-2 : tie.Need-add-end-2
 add-end-2 c = search needs
 
+wide32-requires-2 : tie.Need-wide32-requires-2
+wide32-requires-2 c κs = search needs
+
 stopped-requires-2 : tie.Need-stopped-requires-2
 stopped-requires-2 c κs = search needs
 
 returns-3 : tie.Need-returns-3
 unfolding Ops.bind
 returns-3 c = λ lv tg p.
-    stops _ _ _ _ _ _ _ (c .before .before .before .before .before .before .if1 .left) (c .stopped2 .ensures)
-    (counted _ _ _ _ _ _ _ (omega (arith, c .before .before .before .before .if2 .left))
-    (no-room _ _ _ _ _ _ _ (c .before .before .before .wide32 .ensures .0) (binding-end _ _ _ _ (c .before .before .slot-size .ensures .0)) (c .before .if3 .taken)))
+    stops _ _ _ _ _ _ _ (c .before .before .before .before .before .before .before .if1 .left) (c .stopped2 .ensures)
+    (counted _ _ _ _ _ _ _ (omega (arith, c .before .before .before .before .before .if2 .left))
+    (no-room _ _ _ _ _ _ _ _ (c .before .before .before .before .wide32 .ensures .0) (binding-end _ _ _ _ (c .before .before .before .slot-size .ensures .0)) (c .before .before .wide322 .ensures .0) (c .before .if3 .taken)))
 
 put16-requires : tie.Need-put16-requires
 put16-requires c κs = search needs
@@ -70,9 +73,9 @@ same-length c = search needs
 returns-4 : tie.Need-returns-4
 unfolding Ops.bind Plan.binding Plan.u16
 returns-4 c = λ lv tg p.
-    not-over _ _ _ (c .before .before .before .before .before .before .before .before .before .before .before .before .before .if1 .left)
-    (counted _ _ _ _ _ _ _ (omega (arith, c .before .before .before .before .before .before .before .before .before .before .before .if2 .left))
-    (appended _ _ _ _ _ _ _ (c .before .before .before .before .before .before .before .before .before .before .wide32 .ensures .0) (binding-end _ _ (c .before .before .before .before .before .before .before .before .before .before .before .before .before .before .before .args .name) _ (c .before .before .before .before .before .before .before .before .before .slot-size .ensures .0)) _ (c .before .before .before .before .before .before .before .before .if3 .left)
+    not-over _ _ _ (c .before .before .before .before .before .before .before .before .before .before .before .before .before .before .if1 .left)
+    (counted _ _ _ _ _ _ _ (omega (arith, c .before .before .before .before .before .before .before .before .before .before .before .before .if2 .left))
+    (appended _ _ _ _ _ _ _ _ (c .before .before .before .before .before .before .before .before .before .before .before .wide32 .ensures .0) (binding-end _ _ (c .before .before .before .before .before .before .before .before .before .before .before .before .before .before .before .before .args .name) _ (c .before .before .before .before .before .before .before .before .before .before .slot-size .ensures .0)) (c .before .before .before .before .before .before .before .before .before .wide322 .ensures .0) _ (c .before .before .before .before .before .before .before .before .if3 .left)
     (next _ _ _ _ _ _ _ (c .before .before .before .before .before .before .put16 .ensures) (c .before .before .put-slot .ensures) refl)))
 
 pub bind-spec : {M : Type 1} → statement M
@@ -86,6 +89,7 @@ bind-spec =
     add-end
     slot-size-requires
     add-end-2
+    wide32-requires-2
     stopped-requires-2
     returns-3
     put16-requires

@@ -41,15 +41,18 @@ add-end c = search needs
 add-end-2 : tie.Need-add-end-2
 add-end-2 c = search needs
 
+wide32-requires-2 : tie.Need-wide32-requires-2
+wide32-requires-2 c κs = search needs
+
 stopped-requires-2 : tie.Need-stopped-requires-2
 stopped-requires-2 c κs = search needs
 
 returns-3 : tie.Need-returns-3
 unfolding Ops.select
 returns-3 c = λ lv tg p.
-    stops _ _ _ _ _ _ _ (c .before .before .before .before .before .before .if1 .left) (c .stopped2 .ensures)
-    (counted _ _ _ _ _ _ _ (omega (arith, c .before .before .before .before .if2 .left))
-    (no-room _ _ _ _ _ _ _ (c .before .before .before .wide32 .ensures .0) (select-end _ _ _ _ _ (c .before .before .path-size .ensures .0)) (c .before .if3 .taken)))
+    stops _ _ _ _ _ _ _ (c .before .before .before .before .before .before .before .if1 .left) (c .stopped2 .ensures)
+    (counted _ _ _ _ _ _ _ (omega (arith, c .before .before .before .before .before .if2 .left))
+    (no-room _ _ _ _ _ _ _ _ (c .before .before .before .before .wide32 .ensures .0) (select-end _ _ _ _ _ (c .before .before .before .path-size .ensures .0)) (c .before .before .wide322 .ensures .0) (c .before .if3 .taken)))
 
 wide16-requires : tie.Need-wide16-requires
 wide16-requires c κs = search needs
@@ -78,9 +81,10 @@ same-length c = search needs
 returns-4 : tie.Need-returns-4
 unfolding Ops.select Plan.select Plan.u16
 returns-4 c = λ lv tg p.
-    not-over _ _ _ (c .before .before .before .before .before .before .before .before .before .before .before .before .before .before .before .before .before .before .if1 .left)
-    (counted _ _ _ _ _ _ _ (omega (arith, c .before .before .before .before .before .before .before .before .before .before .before .before .before .before .before .before .if2 .left))
-    (appended _ _ _ _ _ _ _ (c .before .before .before .before .before .before .before .before .before .before .before .before .before .before .before .wide32 .ensures .0) (select-end _ _ (c .before .before .before .before .before .before .before .before .before .before .before .before .before .before .before .before .before .before .before .before .args .address .0) (c .before .before .before .before .before .before .before .before .before .before .before .before .before .before .before .before .before .before .before .before .args .disc) _ (c .before .before .before .before .before .before .before .before .before .before .before .before .before .before .path-size .ensures .0)) _ (c .before .before .before .before .before .before .before .before .before .before .before .before .before .if3 .left)
+    let a = c .before .before .before .before .before .before .before .before .before .before .before .before .before .before .before .before .before .before .before .before .before .args in
+    not-over _ _ _ (c .before .before .before .before .before .before .before .before .before .before .before .before .before .before .before .before .before .before .before .if1 .left)
+    (counted _ _ _ _ _ _ _ (omega (arith, c .before .before .before .before .before .before .before .before .before .before .before .before .before .before .before .before .before .if2 .left))
+    (appended _ _ _ _ _ _ _ _ (c .before .before .before .before .before .before .before .before .before .before .before .before .before .before .before .before .wide32 .ensures .0) (select-end _ _ (a .address .0) (a .disc) _ (c .before .before .before .before .before .before .before .before .before .before .before .before .before .before .before .path-size .ensures .0)) (c .before .before .before .before .before .before .before .before .before .before .before .before .before .before .wide322 .ensures .0) _ (c .before .before .before .before .before .before .before .before .before .before .before .before .before .if3 .left)
     (next _ _ _ _ _ _ _ (next _ _ _ _ _ _ _ (word-is _ _ _ _ _ (c .before .before .before .before .before .before .before .before .before .before .put16 .ensures) (c .before .before .before .before .before .before .before .before .before .before .before .wide16 .ensures)) (c .before .before .before .before .before .before .put-path .ensures .2) refl) (c .before .before .put32 .ensures) (omega (arith, c .before .before .before .before .before .before .put-path .ensures .0)))))
 
 pub select-spec : {M : Type 1} → statement M
@@ -94,6 +98,7 @@ select-spec =
     path-size-requires
     add-end
     add-end-2
+    wide32-requires-2
     stopped-requires-2
     returns-3
     wide16-requires
