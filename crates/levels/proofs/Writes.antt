@@ -144,7 +144,7 @@ finished-between w = go (w .state .over) (leb (w .at + length (StateLevels.lists
 
 -- the whole plan, after the count of its levels
 abbrev begins : Written
-begins = record { at = 2; lists = record { over = false; ends = record { bindings = 0; «binding_count» = 0; constrained = 16384; selects = 32768; «select_count» = 0; diagnostics = 49152 } } }
+begins = record { at = 2; lists = record { over = false; ends = record { bindings = 0; «binding_count» = 0; constrained = 16384; selects = 16384; «select_count» = 0; diagnostics = 32768 } } }
 
 unpaged-between : (w : StateLevels.Written) → betweenLevels (StateLevels.unpaged w) ≡ StateLevels.unpaged (betweenLevels w)
 unfolding betweenLevels StateLevels.unpaged

@@ -286,9 +286,9 @@ pub fn write(file: &[u8], index: &[u16], work: &mut [u8], plan: &mut [u8]) -> Wr
         bindings: 0,
         binding_count: 0,
         constrained: 16384,
-        selects: 32768,
+        selects: 16384,
         select_count: 0,
-        diagnostics: 49152,
+        diagnostics: 32768,
     };
     let lists = Lists { over: false, ends };
     let start = Written { at: 2, lists };
