@@ -1,5 +1,5 @@
 -- A list that grew down, read back: its records one after another, what a change above or below it leaves, and how long it is.
-use mathlib.Core.List.{List, _++_, append-assoc, append-nil}
+use mathlib.Core.List.{List, [], _∷_, _++_, append-assoc, append-nil}
 use mathlib.Core.Path.{_≡_, refl, sym, ap, ap₂, _∙_}
 use Prim.Native.Nat.{ℕ, zero, suc, _+_, _-_, _*_, _≤_, min}
 use native.Mathlib.Nat.{zero-add, suc-add, mul-zero, mul-suc}
@@ -8,6 +8,11 @@ use lib.ListN.{length, take, length-append, length-take, length-drop}
 use lib.Seq.{sets, slice}
 use Rattle.state.specs.State.{backwards}
 use Rattle.state.proofs.Seqs.{slice-sets-past, slice-sets-before}
+
+-- Two records of two bytes that grew down from 6: the first, which stands at the top, comes first.
+first-first : backwards 2 2 6 (9 ∷ 9 ∷ 3 ∷ 4 ∷ 1 ∷ 2 ∷ []) ≡ 1 ∷ 2 ∷ 3 ∷ 4 ∷ []
+unfolding backwards
+first-first = refl
 
 -- two stretches side by side, as far as there are bytes
 side-by-side : (t s u n : ℕ) → s ≤ t → u ≤ s → min t n - s + (min s n - u) ≡ min t n - u
