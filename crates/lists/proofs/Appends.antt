@@ -9,7 +9,7 @@ use lib.ListN.{length}
 use lib.Dec.{leb}
 use Rattle.rules.proofs.Cases.{pick}
 use Rattle.state.specs.State.{Ends, Level, Target, State, state, stop, unless}
-use Rattle.state.specs.Ops.{placed, append, appendDown, appendCounted}
+use Rattle.state.specs.Ops.{stored, append, appendDown, appendCounted}
 use Rattle.records.specs.Records.{put}
 use Rattle.lists.specs.Lists.{stateWith, overrun}
 use Rattle.lists.specs.declared.Lists.{Lists}
@@ -32,12 +32,12 @@ stops f l r lv tg w p e g h = not-over f (stateWith l lv tg w p) (stateWith r lv
 
 -- as the test for room comes out
 module _ (room : Bool) (at : ℕ) (bytes : List ℕ) (moved : Ends) (s : State) where
-  fits : (w : List ℕ) → room ≡ true → w ≡ put (s .work) at bytes → state (s .over) moved (s .level) (s .target) w (s .plan) ≡ placed room at bytes moved s
-  unfolding placed put
+  fits : (w : List ℕ) → room ≡ true → w ≡ put (s .work) at bytes → state (s .over) moved (s .level) (s .target) w (s .plan) ≡ stored room at bytes moved s
+  unfolding stored put
   fits w h g = ap (λ (v : List ℕ). state (s .over) moved (s .level) (s .target) v (s .plan)) g ∙ sym (pick room true _ (stop s) h)
 
-  misses : room ≡ false → stop s ≡ placed room at bytes moved s
-  unfolding placed
+  misses : room ≡ false → stop s ≡ stored room at bytes moved s
+  unfolding stored
   misses h = sym (pick room false _ (stop s) h)
 
 -- A list that grows up: `from` is its end and `most` the other's as the code has them.

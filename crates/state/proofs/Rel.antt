@@ -19,7 +19,7 @@ use Rattle.rules.proofs.Cases.{by-test, true≢false, leb-le}
 use Rattle.rules.proofs.Choices.{by-test₂}
 use Rattle.state.specs.State.{Ends, Counts, counts, Level, Target, State, state, stop, unless, fits}
 use Rattle.state.specs.Ops as Ops
-use Rattle.state.specs.Ops.{placed, append, appendDown, appendCounted, recount, narrowed, grow, putMade, partAt, nodeAt, partPut, putPart, putResidual, narrowPart, narrowPrefix, narrowFuzzy, narrowOwn, relevel, closed, close, boundLevel}
+use Rattle.state.specs.Ops.{stored, append, appendDown, appendCounted, recount, narrowed, grow, putMade, partAt, nodeAt, partPut, putPart, putResidual, narrowPart, narrowPrefix, narrowFuzzy, narrowOwn, relevel, closed, close, boundLevel}
 use Rattle.state.proofs.Seqs.{sets-append, sets-before, concatMap-snoc, length-snoc}
 use Rattle.state.proofs.Stopped.{unless-over, unless-live}
 use Rattle.state.proofs.Mem.{Mem}
@@ -84,25 +84,25 @@ module _ (T : Tables) (t : Target) (base : List ℕ) where
       go false e = subst (Rel T t base w′) (sym (unless-live f c e)) (k e (r .live e) (g .sane (r .sane)))
 
   -- A record appended to a list, if it has room.
-  rel-placed : (l : Lists) (n : ℕ) (b : SeekBuilder) (c : State) (room : Bool) (at : ℕ) (bytes : List ℕ) (moved : Ends) → c .over ≡ false → Sane n b
+  rel-stored : (l : Lists) (n : ℕ) (b : SeekBuilder) (c : State) (room : Bool) (at : ℕ) (bytes : List ℕ) (moved : Ends) → c .over ≡ false → Sane n b
       → (room ≡ true → Good T t base l n b (state (c .over) moved (c .level) (c .target) (sets (c .work) at bytes) (c .plan)))
-      → (room ≡ false → planLimit < listSize T l + weight b) → RelAt T t base l n b (placed room at bytes moved c)
-  unfolding placed stop
-  rel-placed l n b c room at bytes moved e s g h = by-test (RelAt T t base l n b) room (λ q. of-good l n b _ e s (g q)) (λ q. of-long l n b _ refl s (h q))
+      → (room ≡ false → planLimit < listSize T l + weight b) → RelAt T t base l n b (stored room at bytes moved c)
+  unfolding stored stop
+  rel-stored l n b c room at bytes moved e s g h = by-test (RelAt T t base l n b) room (λ q. of-good l n b _ e s (g q)) (λ q. of-long l n b _ refl s (h q))
 
   pub rel-append : (l : Lists) (n : ℕ) (b : SeekBuilder) (c : State) (at limit : ℕ) (bytes : List ℕ) (move : ℕ → Ends) → c .over ≡ false → Sane n b
       → (at + length bytes ≤ limit → Good T t base l n b (state (c .over) (move (at + length bytes)) (c .level) (c .target) (sets (c .work) at bytes) (c .plan)))
       → (limit < at + length bytes → planLimit < listSize T l + weight b) → RelAt T t base l n b (append at limit bytes move c)
   unfolding append
   rel-append l n b c at limit bytes move e s g h =
-      rel-placed l n b c (leb (at + length bytes) limit) at bytes (move (at + length bytes)) e s (λ q. g (leb-le (at + length bytes) limit q)) (λ q. h (leb-false (at + length bytes) limit q))
+      rel-stored l n b c (leb (at + length bytes) limit) at bytes (move (at + length bytes)) e s (λ q. g (leb-le (at + length bytes) limit q)) (λ q. h (leb-false (at + length bytes) limit q))
 
   pub rel-down : (l : Lists) (n : ℕ) (b : SeekBuilder) (c : State) (at limit : ℕ) (bytes : List ℕ) (move : ℕ → Ends) → c .over ≡ false → Sane n b
       → (limit + length bytes ≤ at → Good T t base l n b (state (c .over) (move (at - length bytes)) (c .level) (c .target) (sets (c .work) (at - length bytes) bytes) (c .plan)))
       → (at < limit + length bytes → planLimit < listSize T l + weight b) → RelAt T t base l n b (appendDown at limit bytes move c)
   unfolding appendDown
   rel-down l n b c at limit bytes move e s g h =
-      rel-placed l n b c (leb (limit + length bytes) at) (at - length bytes) bytes (move (at - length bytes)) e s (λ q. g (leb-le (limit + length bytes) at q)) (λ q. h (leb-false (limit + length bytes) at q))
+      rel-stored l n b c (leb (limit + length bytes) at) (at - length bytes) bytes (move (at - length bytes)) e s (λ q. g (leb-le (limit + length bytes) at q)) (λ q. h (leb-false (limit + length bytes) at q))
 
   pub rel-counted : (l : Lists) (n : ℕ) (b : SeekBuilder) (c : State) (count at limit : ℕ) (bytes : List ℕ) (move : ℕ → Ends) → count ≤ planLimit → RelAt T t base l n b (append at limit bytes move c) → RelAt T t base l n b (appendCounted count at limit bytes move c)
   unfolding appendCounted

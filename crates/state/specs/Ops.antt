@@ -17,8 +17,8 @@ use Rattle.rules.specs.Plan as Plan
 use Rattle.state.specs.State.{Ends, ends, Counts, counts, Level, Target, State, state, stop, unless, made, fits}
 
 -- A record at a place of the work area, if there is room for it, and the ends with its list's moved.
-unfoldable pub placed : Bool → ℕ → List ℕ → Ends → State → State
-placed room at bytes moved s =
+unfoldable pub stored : Bool → ℕ → List ℕ → Ends → State → State
+stored room at bytes moved s =
     elim room [
       | true ↦ state (s .over) moved (s .level) (s .target) (sets (s .work) at bytes) (s .plan)
       | false ↦ stop s
@@ -26,11 +26,11 @@ placed room at bytes moved s =
 
 -- At the end of a list that grows up: where the list ends, how far the run's other list has come down, the record.
 unfoldable pub append : ℕ → ℕ → List ℕ → (ℕ → Ends) → State → State
-append at limit bytes move s = placed (leb (at + length bytes) limit) at bytes (move (at + length bytes)) s
+append at limit bytes move s = stored (leb (at + length bytes) limit) at bytes (move (at + length bytes)) s
 
 -- Before the newest record of a list that grows down: where that begins, where the run's other list ends, the record.
 unfoldable pub appendDown : ℕ → ℕ → List ℕ → (ℕ → Ends) → State → State
-appendDown at limit bytes move s = placed (leb (limit + length bytes) at) (at - length bytes) bytes (move (at - length bytes)) s
+appendDown at limit bytes move s = stored (leb (limit + length bytes) at) (at - length bytes) bytes (move (at - length bytes)) s
 
 -- a record of a list that is counted; its count stays below what its field holds, as it does in every run that has room
 unfoldable pub appendCounted : ℕ → ℕ → ℕ → List ℕ → (ℕ → Ends) → State → State
@@ -269,7 +269,7 @@ ops T =
     }
 
 unfoldable pub openOps : Unit {0}
-unfolding placed append appendDown appendCounted bind constrained select report recount fall relevel narrowed grow putMade partText
+unfolding stored append appendDown appendCounted bind constrained select report recount fall relevel narrowed grow putMade partText
     isBytes withPart partAt partForm nodeAt partPut putPart putResidual narrowPart withRange narrowPrefix attachable withGuide
     narrowFuzzy narrowOwn narrowing narrow skip closed close closer withEdges boundLevel bound roomy checkedSlot
 openOps = tt
