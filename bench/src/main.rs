@@ -8,18 +8,21 @@ mod stack;
 mod table;
 mod timing;
 
+use std::fs;
+use std::path::Path;
 use std::process::{Command, ExitCode, Stdio};
 
 use oracle::HAS_BODIES;
 
-use files::Case;
+use files::{Case, Part};
 use sides::Lent;
 use table::{number, ratio, row, time};
 
 const USAGE: &str = "usage:
   bench times   everyday files
   bench worst   files that keep the Rust busy for long; some minutes
-  bench stack   how much stack a call takes; needs no source of the bodies";
+  bench stack   how much stack a call takes; needs no source of the bodies
+  bench files DIR   writes what is timed: rule files as DIR/NAME.rules, plans as DIR/NAME.plan";
 
 fn main() -> ExitCode {
     let arguments: Vec<String> = std::env::args().skip(1).collect();
@@ -32,6 +35,7 @@ fn main() -> ExitCode {
         ["times"] => oracle::on_large_stack(|| time_all(files::everyday())),
         ["worst"] => oracle::on_large_stack(|| time_all(files::worst())),
         ["stack"] => measure_stacks(),
+        ["files", directory] => write_files(Path::new(directory)),
         // By `stack`, in a process of its own: a stack that is too small ends it.
         ["thread", name] => on_thread(name),
         _ => {
@@ -75,6 +79,38 @@ fn time_all(cases: Vec<Case>) -> ExitCode {
     ExitCode::SUCCESS
 }
 
+/// Writes every file that is timed under its case's name; where a case has several,
+/// with a number behind it.
+fn write_files(directory: &Path) -> ExitCode {
+    let written = [files::everyday(), files::worst()]
+        .iter()
+        .flatten()
+        .try_for_each(|case| write_case(directory, case));
+    if let Err(error) = written {
+        eprintln!("{}: {error}", directory.display());
+        return ExitCode::FAILURE;
+    }
+    ExitCode::SUCCESS
+}
+
+fn write_case(directory: &Path, case: &Case) -> std::io::Result<()> {
+    let kind = if case.part == Part::Plan {
+        "plan"
+    } else {
+        "rules"
+    };
+    let name = table::kebab(case.name);
+    fs::create_dir_all(directory)?;
+    case.files.iter().enumerate().try_for_each(|(at, file)| {
+        let number = if case.files.len() == 1 {
+            String::new()
+        } else {
+            format!("-{at}")
+        };
+        fs::write(directory.join(format!("{name}{number}.{kind}")), file)
+    })
+}
+
 /// What both sides answer to the files.
 fn told(answers: &[Result<Vec<u8>, u8>]) -> String {
     match answers {
@@ -107,7 +143,7 @@ fn measure_stacks() -> ExitCode {
         let mut lent = Lent::new();
         let exported = stack::depth(|| sides::exported(&case, &mut lent));
         let rust = HAS_BODIES
-            .then(|| stack::depth(|| sides::rust(&case)))
+            .then(|| stack::depth(|| sides::rust(&case, &mut lent)))
             .flatten();
         let enough = is_enough(case.name);
         all_enough &= enough;

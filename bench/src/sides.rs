@@ -25,9 +25,9 @@ impl Lent {
         }
     }
 
-    /// What every call does at least, by its contract.
-    pub fn zero(&mut self) {
-        black_box(&mut self.plan).fill(0);
+    /// What every call owes by its contract, where its plan has this length.
+    pub fn zero_behind(&mut self, plan: usize) {
+        black_box(&mut self.plan)[plan..].fill(0);
         black_box(&mut self.work).fill(0);
     }
 }
@@ -44,12 +44,17 @@ pub fn exported(case: &Case, lent: &mut Lent) {
     }
 }
 
-/// Each file once, by the oracle: its whole path, or its front half.
-pub fn rust(case: &Case) {
+/// Each file once, by the oracle: its whole path, or its front half. It needs no lent
+/// memory, and writes to it only where it zeroes what a call owes.
+pub fn rust(case: &Case, lent: &mut Lent) {
     for file in &case.files {
         let file = black_box(file);
         match case.part {
             Part::Whole => drop(black_box(oracle::compile_base(file, MAX_PLAN, MIN_WORK))),
+            Part::Zeroed => {
+                let answer = black_box(oracle::compile_base(file, MAX_PLAN, MIN_WORK));
+                lent.zero_behind(answer.map_or(0, |plan| plan.len()));
+            }
             Part::Front => drop(black_box(oracle::front(file, MIN_WORK))),
             Part::Plan => drop(black_box(read_back(file))),
         }

@@ -70,6 +70,12 @@ pub fn number(value: usize) -> String {
     text
 }
 
+/// A name for a file: words in small letters, with a hyphen between them.
+pub fn kebab(name: &str) -> String {
+    let letters = name.replace(',', "").to_lowercase();
+    letters.split_whitespace().collect::<Vec<_>>().join("-")
+}
+
 #[cfg(test)]
 mod tests {
     use super::*;
@@ -86,5 +92,12 @@ mod tests {
             ratio(Duration::from_secs(3), Duration::from_secs(2)),
             "1.50"
         );
+    }
+
+    #[test]
+    fn names_of_files() {
+        assert_eq!(kebab("D1"), "d1");
+        assert_eq!(kebab("chain of 2,046 reads"), "chain-of-2046-reads");
+        assert_eq!(kebab("D1, zeroes on both sides"), "d1-zeroes-on-both-sides");
     }
 }

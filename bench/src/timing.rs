@@ -66,7 +66,7 @@ impl<'a> Side<'a> {
 
 /// The time of zeroing the lent memory, and nothing else.
 pub fn zeroing(lent: &mut Lent) -> Duration {
-    let mut side = Side::new(Duration::ZERO, || lent.zero());
+    let mut side = Side::new(Duration::ZERO, || lent.zero_behind(0));
     (0..ROUNDS).for_each(|_| side.round());
     side.median()
 }
@@ -74,7 +74,8 @@ pub fn zeroing(lent: &mut Lent) -> Duration {
 /// The times, where a first pass took `first`.
 pub fn times(case: &Case, lent: &mut Lent, first: Times) -> Times {
     let mut exported = Side::new(first.exported, || exported(case, lent));
-    let mut rust = Side::new(first.rust, || rust(case));
+    let mut own = Lent::new();
+    let mut rust = Side::new(first.rust, || rust(case, &mut own));
     for _ in 0..ROUNDS {
         exported.round();
         rust.round();

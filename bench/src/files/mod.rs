@@ -1,6 +1,7 @@
 //! The files and plans that are timed, and those whose stack is measured.
 
 mod deep;
+mod fields;
 mod large;
 mod typical;
 mod worst;
@@ -17,12 +18,15 @@ use oracle::{draw, on_large_stack};
 use sinalvento::Buffers;
 
 use deep::{MOST_READS, READS, Read};
+use fields::Given;
 
 /// What the two sides do on a case's files. But for plans, the exported function
 /// always compiles.
 #[derive(Clone, Copy, PartialEq, Eq)]
 pub enum Part {
     Whole,
+    /// The Rust's side also zeroes what the contract has a call zero.
+    Zeroed,
     /// Reading and checking. The exported function does no more either where
     /// there is no level, or where 14 refuses.
     Front,
@@ -42,6 +46,13 @@ fn case(name: &'static str, file: &RuleFile) -> Case {
         name,
         files: vec![write(file)],
         part: Part::Whole,
+    }
+}
+
+fn zeroed(name: &'static str, file: &RuleFile) -> Case {
+    Case {
+        part: Part::Zeroed,
+        ..case(name, file)
     }
 }
 
@@ -109,8 +120,9 @@ pub fn everyday() -> Vec<Case> {
         files: drawn(MIX),
         part: Part::Whole,
     };
-    vec![
+    let mut cases = vec![
         case("D1", &d1()),
+        zeroed("D1, zeroes on both sides", &d1()),
         case("typical", &typical::typical()),
         case("largest file", &large::largest()),
         case("longest plan", &longest_plan()),
@@ -123,8 +135,26 @@ pub fn everyday() -> Vec<Case> {
         read("read a typical plan", &typical::typical()),
         read("read a plan of 64 levels", &large::largest()),
         read("read the longest plan", &longest_plan()),
-    ]
+    ];
+    cases.extend(EACH_FIELD.map(|(name, given)| case(name, &fields::levels(given))));
+    cases
 }
+
+/// 64 levels of 8 fields, all given in one way.
+const EACH_FIELD: [(&str, Given); 12] = [
+    ("each field an Int", Given::Int),
+    ("each field a text", Given::Text),
+    ("each field a new Var", Given::NewVar),
+    ("each field a Var of the first level", Given::FoundVar),
+    ("each field a register field", Given::RegisterField),
+    ("each field a row", Given::Row),
+    ("each field a Var for a Const", Given::Constant),
+    ("each field a Prefix", Given::Prefix),
+    ("each field a Fuzzy", Given::Fuzzy),
+    ("each field a read", Given::Read),
+    ("each field a Wildcard", Given::Wildcard),
+    ("each field missing", Given::Missing),
+];
 
 pub fn worst() -> Vec<Case> {
     vec![
