@@ -1,6 +1,7 @@
 //! Time and stack of the exported function and of the Rust oracle; see
 //! docs/BENCH.md.
 
+mod apart;
 mod clock;
 mod files;
 mod sides;
@@ -11,31 +12,42 @@ mod timing;
 use std::fs;
 use std::path::Path;
 use std::process::{Command, ExitCode, Stdio};
+use std::time::Duration;
 
 use oracle::HAS_BODIES;
 
 use files::{Case, Part};
-use sides::Lent;
-use table::{number, ratio, row, time};
+use sides::{Answer, Lent};
+use table::{number, or_none, ratio, row, time};
+use timing::Times;
 
 const USAGE: &str = "usage:
-  bench times   everyday files
-  bench worst   files that keep the Rust busy for long; some minutes
-  bench stack   how much stack a call takes; needs no source of the bodies
-  bench files DIR   writes what is timed: rule files as DIR/NAME.rules, plans as DIR/NAME.plan";
+  bench times             everyday files
+  bench worst [SECONDS]   files that keep a side busy for long; some minutes. A side that takes
+                          longer than so many seconds (60) for a call has no time
+  bench stack             how much stack a call takes; needs no source of the bodies
+  bench files DIR         writes what is timed: rule files as DIR/NAME.rules, plans as DIR/NAME.plan";
 
 fn main() -> ExitCode {
     let arguments: Vec<String> = std::env::args().skip(1).collect();
     let words: Vec<&str> = arguments.iter().map(String::as_str).collect();
     match words.as_slice() {
-        ["times" | "worst"] if !HAS_BODIES => {
+        ["times" | "worst", ..] if !HAS_BODIES => {
             eprintln!("built without the bodies: set FJORD_SRC to the source and build again");
             ExitCode::from(2)
         }
-        ["times"] => oracle::on_large_stack(|| time_all(files::everyday())),
-        ["worst"] => oracle::on_large_stack(|| time_all(files::worst())),
+        ["times"] => oracle::on_large_stack(|| time_all(files::everyday(), None)),
+        ["worst"] => time_worst(LIMIT),
+        ["worst", seconds] if seconds.parse::<u64>().is_ok() => {
+            time_worst(seconds.parse().expect("it is a number"))
+        }
         ["stack"] => measure_stacks(),
         ["files", directory] => write_files(Path::new(directory)),
+        // By `worst`, in a process of its own: a call that takes too long ends it.
+        ["answer", name, side] => {
+            let (name, side) = (name.to_string(), side.to_string());
+            oracle::on_large_stack(move || apart::tell(&name, &side))
+        }
         // By `stack`, in a process of its own: a stack that is too small ends it.
         ["thread", name] => on_thread(name),
         _ => {
@@ -45,7 +57,16 @@ fn main() -> ExitCode {
     }
 }
 
-fn time_all(cases: Vec<Case>) -> ExitCode {
+/// Seconds that a call of a side may take, where nothing else is said.
+const LIMIT: u64 = 60;
+
+fn time_worst(seconds: u64) -> ExitCode {
+    let limit = Duration::from_secs(seconds);
+    oracle::on_large_stack(move || time_all(files::worst(), Some(limit)))
+}
+
+/// Times the cases; with a limit, a side that takes longer for one call has no time.
+fn time_all(cases: Vec<Case>, limit: Option<Duration>) -> ExitCode {
     let mut lent = Lent::new();
     let head = [
         "file",
@@ -57,26 +78,36 @@ fn time_all(cases: Vec<Case>) -> ExitCode {
     ];
     let mut rows = vec![row(&head)];
     for case in cases {
-        let Some((answers, first)) = sides::agreed(&case, &mut lent) else {
+        let agreed = match limit {
+            None => sides::agreed(&case, &mut lent),
+            Some(limit) => sides::agreed_within(&case, limit),
+        };
+        let Some((answers, first)) = agreed else {
             println!("{}: the answers differ", case.name);
             return ExitCode::FAILURE;
         };
         let times = timing::times(&case, &mut lent, first);
-        let count = case.files.len();
-        let bytes: usize = case.files.iter().map(Vec::len).sum();
-        rows.push(vec![
-            String::from(case.name),
-            number(bytes / count),
-            told(&answers),
-            time(times.exported / count as u32),
-            time(times.rust / count as u32),
-            ratio(times.rust, times.exported),
-        ]);
+        rows.push(timed_row(&case, &answers, times));
     }
     table::print(&rows);
     let zeroing = timing::zeroing(&mut lent);
     println!("zeroing plan buffer and work area alone: {}", time(zeroing));
     ExitCode::SUCCESS
+}
+
+fn timed_row(case: &Case, answers: &[Answer], times: Times) -> Vec<String> {
+    let count = case.files.len();
+    let bytes: usize = case.files.iter().map(Vec::len).sum();
+    let each = |pass: Duration| time(pass / count as u32);
+    let both = times.rust.zip(times.exported);
+    vec![
+        String::from(case.name),
+        number(bytes / count),
+        told(answers),
+        or_none(times.exported.map(each)),
+        or_none(times.rust.map(each)),
+        or_none(both.map(|(rust, exported)| ratio(rust, exported))),
+    ]
 }
 
 /// Writes every file that is timed under its case's name; where a case has several,
@@ -112,8 +143,9 @@ fn write_case(directory: &Path, case: &Case) -> std::io::Result<()> {
 }
 
 /// What both sides answer to the files.
-fn told(answers: &[Result<Vec<u8>, u8>]) -> String {
+fn told(answers: &[Answer]) -> String {
     match answers {
+        [] => String::from("–"),
         [Ok(plan)] => format!("plan of {}", number(plan.len())),
         [Err(number)] => format!("refused {number}"),
         _ => {

@@ -1,12 +1,14 @@
 //! The two that are measured: the exported functions, and the oracle.
 
 use std::hint::black_box;
+use std::time::Duration;
 
 use oracle::nodes::dropped;
 use oracle::plan::write_plan;
 use oracle::reread::reread;
 use sinalvento::{MAX_PLAN, MIN_WORK};
 
+use crate::apart::{self, Side};
 use crate::clock::timed;
 use crate::files::{Case, Part};
 use crate::timing::Times;
@@ -62,10 +64,10 @@ pub fn rust(case: &Case, lent: &mut Lent) {
 }
 
 /// A plan, or a refusal's number.
-type Answer = Result<Vec<u8>, u8>;
+pub type Answer = Result<Vec<u8>, u8>;
 
 /// The exported function's answer.
-fn given(file: &[u8], part: Part, lent: &mut Lent) -> Answer {
+pub fn given(file: &[u8], part: Part, lent: &mut Lent) -> Answer {
     let answer = match part {
         Part::Plan => sinalvento::read_into(file, &mut lent.plan, &mut []),
         _ => sinalvento::compile_into(file, &mut lent.plan, &mut lent.work),
@@ -76,7 +78,7 @@ fn given(file: &[u8], part: Part, lent: &mut Lent) -> Answer {
 }
 
 /// The oracle's answer; of a compile it is the original bodies', which have no nodes.
-fn expected(file: &[u8], part: Part) -> Answer {
+pub fn expected(file: &[u8], part: Part) -> Answer {
     match part {
         Part::Plan => read_back(file),
         _ => oracle::compile_base(file, MAX_PLAN, MIN_WORK),
@@ -100,7 +102,7 @@ fn read_back(plan: &[u8]) -> Answer {
 /// sides differ.
 pub fn agreed(case: &Case, lent: &mut Lent) -> Option<(Vec<Answer>, Times)> {
     let mut answers = vec![];
-    let mut times = Times::default();
+    let (mut by_exported, mut by_rust) = (Duration::ZERO, Duration::ZERO);
     for file in &case.files {
         let (given, exported) = timed(|| given(file, case.part, lent));
         let (expected, rust) = timed(|| expected(file, case.part));
@@ -108,8 +110,46 @@ pub fn agreed(case: &Case, lent: &mut Lent) -> Option<(Vec<Answer>, Times)> {
             return None;
         }
         answers.push(given);
-        times.exported += exported;
-        times.rust += rust;
+        by_exported += exported;
+        by_rust += rust;
     }
+    let times = Times {
+        exported: Some(by_exported),
+        rust: Some(by_rust),
+    };
     Some((answers, times))
+}
+
+/// The same where a side may take longer than `limit`: then it has no time, and where both
+/// do no answer is known. Each side is asked in a process of its own.
+pub fn agreed_within(case: &Case, limit: Duration) -> Option<(Vec<Answer>, Times)> {
+    let exported = apart::answer(case, Side::Exported, limit);
+    let rust = apart::answer(case, Side::Rust, limit);
+    if let (Some((given, _)), Some((expected, _))) = (&exported, &rust)
+        && !agree(given, expected, case.part)
+    {
+        return None;
+    }
+    let times = Times {
+        exported: exported.as_ref().map(|(_, time)| *time),
+        rust: rust.as_ref().map(|(_, time)| *time),
+    };
+    let known = exported.or(rust).into_iter();
+    Some((known.map(|(answer, _)| answer).collect(), times))
+}
+
+#[cfg(test)]
+mod tests {
+    use super::*;
+
+    #[test]
+    fn what_a_call_owes_is_zeroed() {
+        let mut lent = Lent {
+            plan: vec![1; 5],
+            work: vec![1; 3],
+        };
+        lent.zero_behind(2);
+        assert_eq!(lent.plan, [1, 1, 0, 0, 0]);
+        assert_eq!(lent.work, [0; 3]);
+    }
 }

@@ -49,6 +49,11 @@ pub fn ratio(of: Duration, by: Duration) -> String {
     three_digits(of.as_secs_f64() / by.as_secs_f64())
 }
 
+/// A cell for what may be unknown.
+pub fn or_none(cell: Option<String>) -> String {
+    cell.unwrap_or_else(|| String::from("–"))
+}
+
 fn three_digits(value: f64) -> String {
     match value {
         v if v >= 99.95 => format!("{v:.0}"),

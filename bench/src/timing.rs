@@ -13,11 +13,11 @@ const ROUNDS: usize = 7;
 /// A pass that takes longer than this is measured once.
 const LONG: Duration = Duration::from_secs(1);
 
-/// Times of one pass over a case's files.
-#[derive(Clone, Copy, Default)]
+/// Times of one pass over a case's files; none of a side that takes too long.
+#[derive(Clone, Copy)]
 pub struct Times {
-    pub exported: Duration,
-    pub rust: Duration,
+    pub exported: Option<Duration>,
+    pub rust: Option<Duration>,
 }
 
 /// A side's passes, timed.
@@ -73,15 +73,19 @@ pub fn zeroing(lent: &mut Lent) -> Duration {
 
 /// The times, where a first pass took `first`.
 pub fn times(case: &Case, lent: &mut Lent, first: Times) -> Times {
-    let mut exported = Side::new(first.exported, || exported(case, lent));
     let mut own = Lent::new();
-    let mut rust = Side::new(first.rust, || rust(case, &mut own));
+    let mut exported = first
+        .exported
+        .map(|first| Side::new(first, || exported(case, lent)));
+    let mut rust = first
+        .rust
+        .map(|first| Side::new(first, || rust(case, &mut own)));
     for _ in 0..ROUNDS {
-        exported.round();
-        rust.round();
+        exported.iter_mut().for_each(Side::round);
+        rust.iter_mut().for_each(Side::round);
     }
     Times {
-        exported: exported.median(),
-        rust: rust.median(),
+        exported: exported.map(Side::median),
+        rust: rust.map(Side::median),
     }
 }

@@ -3,6 +3,7 @@
 mod deep;
 mod fields;
 mod large;
+mod stalls;
 mod typical;
 mod worst;
 
@@ -162,6 +163,20 @@ pub fn worst() -> Vec<Case> {
         case("opened, harsher", &worst::opened()),
         case("unions", &draw::worst::unions()),
         case("unions, harsher", &worst::unions()),
+        case(
+            "constraints and comparisons",
+            &stalls::constraints_and_comparisons(),
+        ),
+        case(
+            "lacking their last leaf",
+            &stalls::lacking_their_last_leaf(),
+        ),
+        case("union values", &stalls::union_values()),
+        case("no name in common", &stalls::no_name_in_common()),
+        case("made bindings", &stalls::made_bindings()),
+        case("chains of reads", &stalls::chains()),
+        case("whole key", &stalls::whole_key()),
+        case("falling discs", &stalls::falling_discs()),
     ]
 }
 

@@ -38,11 +38,11 @@ fn wide_constant(types: Vec<Type>, leaf: &Node) -> RuleFile {
     file
 }
 
-fn last_type(file: &RuleFile) -> u16 {
+pub fn last_type(file: &RuleFile) -> u16 {
     file.types.len() as u16 - 1
 }
 
-fn last_node(file: &RuleFile) -> u16 {
+pub fn last_node(file: &RuleFile) -> u16 {
     file.nodes.len() as u16 - 1
 }
 
@@ -61,7 +61,7 @@ fn vars(file: &mut RuleFile, count: u16) -> u16 {
 }
 
 /// Every level there can be has the last node for its key.
-fn all_levels(mut file: RuleFile) -> RuleFile {
+pub fn all_levels(mut file: RuleFile) -> RuleFile {
     file.predicates.push(predicate(last_type(&file) as usize));
     let root = last_node(&file) as usize;
     file.levels = (0..LIMITS[9] as u16)
