@@ -5,7 +5,7 @@ use std::io::Read;
 use std::process::{Child, Command, ExitCode, Stdio};
 use std::time::{Duration, Instant};
 
-use crate::clock::timed;
+use crate::clock::{process, timed};
 use crate::files::{self, Case};
 use crate::sides::{self, Answer, Lent};
 
@@ -43,11 +43,12 @@ pub fn answer(case: &Case, side: Side, limit: Duration) -> Option<(Answer, Durat
     Some(read(&told).expect("the child tells its answer"))
 }
 
-/// Whether the process ends by itself in that time; it is over then in any case. What it
-/// tells fits into a pipe, so that it need not be read before.
+/// Whether the process ends by itself in that time on a processor, or as it passes where the
+/// other is not told; it is over then in any case. What it tells fits into a pipe, so that it
+/// need not be read before.
 fn ends(child: &mut Child, limit: Duration) -> bool {
     let start = Instant::now();
-    while start.elapsed() < limit {
+    while process(child.id()).unwrap_or_else(|| start.elapsed()) < limit {
         if child.try_wait().expect("it can be waited for").is_some() {
             return true;
         }
@@ -117,15 +118,12 @@ mod tests {
 
     #[test]
     fn what_takes_too_long_is_ended() {
-        let sleep = |seconds: &str| {
-            Command::new("sleep")
-                .arg(seconds)
-                .spawn()
-                .expect("it starts")
+        let run = |command: &str| {
+            let mut shell = Command::new("sh");
+            shell.args(["-c", command]).spawn().expect("it starts")
         };
-        assert!(ends(&mut sleep("0"), Duration::from_secs(20)));
-        let start = Instant::now();
-        assert!(!ends(&mut sleep("20"), Duration::from_millis(50)));
-        assert!(start.elapsed() < Duration::from_secs(10));
+        assert!(ends(&mut run("true"), Duration::from_secs(20)));
+        let mut forever = run("while :; do :; done");
+        assert!(!ends(&mut forever, Duration::from_millis(50)));
     }
 }

@@ -1,5 +1,7 @@
 //! Time on a processor.
 
+use std::fs;
+use std::path::Path;
 use std::sync::LazyLock;
 use std::time::{Duration, Instant};
 
@@ -13,9 +15,20 @@ pub fn clock() -> Duration {
 }
 
 fn ran() -> Option<Duration> {
-    let told = std::fs::read_to_string("/proc/thread-self/schedstat").ok()?;
+    told(Path::new("/proc/thread-self"))
+}
+
+/// How long a thread has run.
+fn told(thread: &Path) -> Option<Duration> {
+    let told = fs::read_to_string(thread.join("schedstat")).ok()?;
     let nanoseconds = told.split_whitespace().next()?;
     Some(Duration::from_nanos(nanoseconds.parse().ok()?))
+}
+
+/// How long the threads of another process have run, where the system tells it.
+pub fn process(number: u32) -> Option<Duration> {
+    let threads = fs::read_dir(format!("/proc/{number}/task")).ok()?;
+    threads.map(|thread| told(&thread.ok()?.path())).sum()
 }
 
 /// How long `work` takes.
@@ -28,6 +41,14 @@ pub fn timed<T>(work: impl FnOnce() -> T) -> (T, Duration) {
 #[cfg(test)]
 mod tests {
     use super::*;
+
+    #[test]
+    fn a_process_is_no_younger_than_its_thread() {
+        let Some(thread) = ran() else {
+            return;
+        };
+        assert!(process(std::process::id()).is_some_and(|process| process >= thread));
+    }
 
     #[test]
     fn the_clock_goes_on() {
