@@ -32,7 +32,7 @@ fn main() -> ExitCode {
     let arguments: Vec<String> = std::env::args().skip(1).collect();
     let words: Vec<&str> = arguments.iter().map(String::as_str).collect();
     match words.as_slice() {
-        ["times" | "worst", ..] if !HAS_BODIES => {
+        ["times" | "worst" | "files", ..] if !HAS_BODIES => {
             eprintln!("built without the bodies: set FJORD_SRC to the source and build again");
             ExitCode::from(2)
         }

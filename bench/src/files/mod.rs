@@ -287,6 +287,7 @@ fn one_level(mut file: RuleFile) -> RuleFile {
 #[cfg(test)]
 mod tests {
     use super::*;
+    use crate::table::kebab;
     use deep::deep_constant;
     use oracle::file::{LIMITS, MAX_FILE, MIN_WORK};
     use oracle::{HAS_BODIES, front as read_and_check};
@@ -361,6 +362,20 @@ mod tests {
         let many = form(&plans(&large::largest())[0]).expect("a plan");
         assert_eq!(many.levels.len(), LIMITS[9]);
         assert!(drawn_plans().len() > 5_000);
+    }
+
+    #[test]
+    fn cases_have_files_of_their_own() {
+        if !HAS_BODIES {
+            return;
+        }
+        let cases = [everyday(), worst()].concat();
+        let names: Vec<String> = cases.iter().map(|case| kebab(case.name)).collect();
+        for (at, name) in names.iter().enumerate() {
+            let found = names.iter().position(|other| other == name);
+            assert_eq!(found, Some(at), "{name}");
+        }
+        assert!(worst().iter().all(|case| case.files.len() == 1));
     }
 
     #[test]
