@@ -82,12 +82,12 @@ impl Leaf {
         }
     }
 
-    /// The text's length: the longest, or the shortest, with which the Rust can be waited
-    /// for.
-    fn text(self) -> usize {
+    /// A long text with a byte 00, which is dearest; or an empty one, with which the Rust can
+    /// be waited for.
+    fn text(self) -> Vec<u8> {
         match self {
-            Self::Text => 255,
-            Self::LastAlternative => 0,
+            Self::Text => [vec![b'x'; 254], vec![0]].concat(),
+            Self::LastAlternative => vec![],
         }
     }
 
@@ -108,30 +108,38 @@ const ASKING: u16 = WIDE + 2;
 /// Fields of a record that all have bytes, in front of the one that has none.
 const ASKED: u16 = WIDE - 1;
 
-/// A name is bound to so many records of such leaves. What is asked for is a record of Vars
-/// for it, which has no bytes for its type: `last` is what its last field gives. Its type
-/// and node.
-fn asked(file: &mut RuleFile, records: u16, leaf: Leaf, last: Option<Node>) -> (u16, u16) {
-    file.names[TEXT as usize] = vec![b'x'; leaf.text()];
+/// A name is bound to so many records of such leaves. What is asked for is a record of
+/// records of Vars for it, which has no bytes for its type: `last` is what its last field
+/// gives. Its type and node.
+fn asked(file: &mut RuleFile, counts: Counts, leaf: Leaf, last: Option<Node>) -> (u16, u16) {
+    file.names[TEXT as usize] = leaf.text();
     let of_leaf = leaf.ty(file);
     let wide = record_ty(file, ASKED, of_leaf);
-    let constant = record_ty(file, records, wide);
-    let mut fields: Vec<(u16, u16)> = (0..ASKED).map(|name| (name, constant)).collect();
+    let constant = record_ty(file, counts.of_leaves, wide);
+    let vars = record_ty(file, ASKED, constant);
+    let mut fields: Vec<(u16, u16)> = (0..counts.of_vars).map(|name| (name, vars)).collect();
     fields.push((ASKED, INT));
     let of_vars = ty(file, Type::Record(fields));
 
-    let bound = record(file, 0..records, |file| {
+    let bound = record(file, 0..counts.of_leaves, |file| {
         record(file, 0..ASKED, |file| leaf.node(file))
     });
     bind(file, CONSTANT, Slot::Const(bound));
-    let first = file.nodes.len() as u16;
-    file.nodes.extend((0..ASKED).map(|_| Node::Var(CONSTANT)));
-    let mut given: Vec<(u16, u16)> = (0..ASKED).map(|name| (name, first + name)).collect();
+    let mut given = vec![];
+    for name in 0..counts.of_vars {
+        let vars = record(file, 0..ASKED, |file| node(file, Node::Var(CONSTANT)));
+        given.push((name, vars));
+    }
     if let Some(last) = last {
         given.push((ASKED, node(file, last)));
     }
-    given.reverse();
     (of_vars, node(file, Node::Record(given)))
+}
+
+/// Records of 254 Vars, and of 254 leaves.
+struct Counts {
+    of_vars: u16,
+    of_leaves: u16,
 }
 
 /// A level in which one new Var has so many comparisons, and then another one so many
@@ -160,10 +168,14 @@ fn asking(file: &mut RuleFile, address: u16, times: usize, asked: u16, part: Opt
 }
 
 /// One Var with 256 constraints and one with 256 comparisons: all of them are one record of
-/// Vars that stand for a constant of texts, which lacks its last field.
+/// a thousand Vars that stand for a constant of a thousand texts. It lacks its last field.
 pub fn constraints_and_comparisons() -> RuleFile {
     let mut file = start(ASKING + 2);
-    let (of_vars, vars) = asked(&mut file, 7, Leaf::Text, None);
+    let counts = Counts {
+        of_vars: 4,
+        of_leaves: 4,
+    };
+    let (of_vars, vars) = asked(&mut file, counts, Leaf::Text, None);
     let key = ty(&mut file, Type::Record(vec![(1, of_vars), (2, of_vars)]));
     file.predicates.push(predicate(key as usize));
     asking(&mut file, 0, LIMITS[7], vars, None);
@@ -175,7 +187,16 @@ pub fn constraints_and_comparisons() -> RuleFile {
 /// the last of 255 alternatives.
 pub fn union_values() -> RuleFile {
     let mut file = start(ASKING + 2 * LEVELS);
-    let (of_vars, vars) = asked(&mut file, 3, Leaf::LastAlternative, Some(Node::Str(TEXT)));
+    let counts = Counts {
+        of_vars: 1,
+        of_leaves: 3,
+    };
+    let (of_vars, vars) = asked(
+        &mut file,
+        counts,
+        Leaf::LastAlternative,
+        Some(Node::Str(TEXT)),
+    );
     let fields = vec![(0, INT), (1, of_vars), (2, of_vars)];
     let key = ty(&mut file, Type::Record(fields));
     file.predicates.push(predicate(key as usize));
@@ -421,9 +442,9 @@ mod tests {
 
     #[test]
     fn constraints_and_comparisons_ask_one_record_of_vars() {
-        for (file, lacks) in [
-            (constraints_and_comparisons(), true),
-            (union_values(), false),
+        for (file, records, given) in [
+            (constraints_and_comparisons(), 4, 4),
+            (union_values(), 1, 2),
         ] {
             let asked = file.constraints[0].node;
             assert_eq!(file.constraints.len(), LIMITS[7]);
@@ -433,8 +454,8 @@ mod tests {
             let Node::Record(fields) = &file.nodes[asked as usize] else {
                 panic!("a record");
             };
-            let vars = usize::from(ASKED);
-            assert_eq!(fields.len(), if lacks { vars } else { vars + 1 });
+            assert_eq!(fields.len(), given);
+            let vars = records * usize::from(ASKED);
             assert_eq!(constants_below(&file, asked), vars);
         }
     }
