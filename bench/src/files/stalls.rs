@@ -380,10 +380,11 @@ pub fn falling_discs() -> RuleFile {
 #[cfg(test)]
 mod tests {
     use super::*;
-    use oracle::front;
+    use oracle::nodes::dropped;
     use oracle::plan::{Part, Plan, Seek};
     use oracle::reread::form;
     use oracle::write::write;
+    use oracle::{HAS_BODIES, compile_base, front, on_large_stack};
     use sinalvento::Buffers;
 
     fn plan(file: &RuleFile) -> Plan {
@@ -486,6 +487,30 @@ mod tests {
                 (parts, parts)
             );
             assert!(plan.bindings.is_empty() && plan.diagnostics.is_empty());
+        }
+    }
+
+    /// On what `bench worst` compares in full, if it can wait for the Rust.
+    #[test]
+    fn the_original_bodies_agree() {
+        if !HAS_BODIES {
+            return;
+        }
+        for file in [
+            cut(constraints_and_comparisons(), 1, 1),
+            cut(lacking_their_last_leaf(), 1, 0),
+            cut(union_values(), 1, 1),
+            cut(no_name_in_common(), 1, 0),
+            made_bindings(),
+            cut(chains(), 1, 0),
+            whole_key(),
+            falling_discs(),
+        ] {
+            let bytes = write(&file);
+            let mut buffers = Buffers::new();
+            let plan = sinalvento::compile(&bytes, &mut buffers).expect("it is accepted");
+            let base = on_large_stack(move || compile_base(&bytes, MAX_PLAN, MIN_WORK));
+            assert_eq!(dropped(plan), base);
         }
     }
 
