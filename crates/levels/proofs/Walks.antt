@@ -12,7 +12,7 @@ use Rattle.rules.specs.Walk as WalkRules
 use Rattle.rules.proofs.Cases.{by-test, true≢false}
 use Rattle.rules.proofs.Each.{each-at}
 use Rattle.rules.proofs.Sound.{Sound}
-use Rattle.state.specs.State.{State, Level, state, newLevel, measuring}
+use Rattle.state.specs.State.{State, Level, state, newLevel, noTarget}
 use Rattle.state.specs.State as Memory
 use Rattle.state.specs.Ops.{ops}
 use Rattle.state.specs.Levels as StateLevels
@@ -38,7 +38,7 @@ use Rattle.level_frame.proofs.Places.{parts-is, nodes-is, rest-is}
 use Rattle.levels.specs.Written.{unleveled}
 
 abbrev place : Bool → ℕ → ℕ → ℕ → Memory.Target
-place j p n r = record { writing = true; joining = j; partsAt = p; nodesAt = n; restAt = r }
+place j p n r = record { joining = j; partsAt = p; nodesAt = n; restAt = r }
 
 -- the key type of a level's predicate is the file's
 key-sound : (T : Tables) → Sound T → (k : ℕ) → k < length (T .levels) → predicateAt T (levelEntryAt T k .predicate) .key < length (T .types)
@@ -71,9 +71,9 @@ target-is T l s parts nodes rest e =
     ap (λ (j : Bool). place j parts nodes rest) (ap (λ (n : ℕ). eqb n 0) e ∙ sym (joining-is l T))
 
 -- no level is kept of a walk that is done
-pub lists-left : (T : Tables) (r : Walk) (l : Lists) (work plan : List ℕ) → l ≡ listsOf r → stateWith l newLevel measuring work plan ≡ unleveled (walkState T r work plan)
+pub lists-left : (T : Tables) (r : Walk) (l : Lists) (work plan : List ℕ) → l ≡ listsOf r → stateWith l newLevel noTarget work plan ≡ unleveled (walkState T r work plan)
 unfolding unleveled walkState stateOf
-lists-left T r l work plan e = ap (λ (x : Lists). stateWith x newLevel measuring work plan) e
+lists-left T r l work plan e = ap (λ (x : Lists). stateWith x newLevel noTarget work plan) e
 
 -- The level in the plan: its frame, then what its walk wrote to the page.
 module _ (T : Tables) (at : ℕ) (m : Walk) (f : Frame) (ef : f ≡ frameOf at (levelOf T (m .level))) (h : f .end ≤ planLimit) where
@@ -88,11 +88,11 @@ module _ (T : Tables) (at : ℕ) (m : Walk) (f : Frame) (ef : f ≡ frameOf at (
     abbrev seen : State
     seen = walkState T m work page
 
-    pub paged-is : (x : Lists) (plan₂ : List ℕ) → x ≡ listsOf m → StateLevels.paged (l .counts) ≡ true → plan₂ ≡ StateLevels.fromPage t (l .counts) page plan₁ → stateWith x newLevel measuring work plan₂ ≡ unleveled (StateLevels.placed T v e at plan seen)
+    pub paged-is : (x : Lists) (plan₂ : List ℕ) → x ≡ listsOf m → StateLevels.paged (l .counts) ≡ true → plan₂ ≡ StateLevels.fromPage t (l .counts) page plan₁ → stateWith x newLevel noTarget work plan₂ ≡ unleveled (StateLevels.placed T v e at plan seen)
     unfolding StateLevels.placed StateLevels.withPlan walkState stateOf unleveled
     paged-is x plan₂ ex q e₂ =
-        (λ i. stateWith (ex i) newLevel measuring work ((e₂ ∙ (λ j. StateLevels.fromPage (target-at t et j) (l .counts) page (ep j))) i))
-        ∙ by-test (λ (r : State). stateWith (listsOf m) newLevel measuring work (StateLevels.fromPage (StateLevels.writingAt at l) (l .counts) page (StateLevels.frame at l plan)) ≡ unleveled r) (StateLevels.paged (l .counts)) (λ _. refl) (λ p. absurd (true≢false (sym q ∙ p)))
+        (λ i. stateWith (ex i) newLevel noTarget work ((e₂ ∙ (λ j. StateLevels.fromPage (target-at t et j) (l .counts) page (ep j))) i))
+        ∙ by-test (λ (r : State). stateWith (listsOf m) newLevel noTarget work (StateLevels.fromPage (StateLevels.writingAt at l) (l .counts) page (StateLevels.frame at l plan)) ≡ unleveled r) (StateLevels.paged (l .counts)) (λ _. refl) (λ p. absurd (true≢false (sym q ∙ p)))
 
     -- walked once more
     pub again-is : StateLevels.paged (l .counts) ≡ false → (b r : State) → b ≡ state (m .level .over) e newLevel t work plan₁ → r ≡ StateLevels.walked T v b → unleveled r ≡ unleveled (StateLevels.placed T v e at plan seen)

@@ -12,7 +12,7 @@ use Rattle.rules.specs.Limits.{planLimit}
 use Rattle.rules.specs.File.{Tables, LevelEntry}
 use Rattle.rules.specs.Plan.{u16}
 use Rattle.rules.proofs.Cases.{by-test, true≢false}
-use Rattle.state.specs.State.{State, Level, state, stop, noEnds, newLevel, measuring}
+use Rattle.state.specs.State.{State, Level, state, stop, noEnds, newLevel, noTarget}
 use Rattle.state.specs.State as Memory
 use Rattle.state.specs.Levels as StateLevels
 use Rattle.state.specs.Levels.{writtenTo}
@@ -72,7 +72,7 @@ module _ (T : Tables) (v : LevelEntry) (e : Memory.Ends) (at : ℕ) (plan : List
 
       pub over-left : l .over ≡ true → writtenOf (record { at = at; lists = l }) work plan page ≡ betweenLevels (StateLevels.ended T v e at plan seen)
       unfolding walkState stateOf writtenOf betweenLevels unleveled StateLevels.withPlan
-      over-left o = ap (λ (x : Lists). writtenTo at (stateWith x newLevel measuring work plan) page) el ∙ ap betweenLevels (sym (ended-over seen (over-of true o)))
+      over-left o = ap (λ (x : Lists). writtenTo at (stateWith x newLevel noTarget work plan) page) el ∙ ap betweenLevels (sym (ended-over seen (over-of true o)))
 
       pub long-left : (r : Written) → l .over ≡ false → room ≡ false → r ≡ record { at = at; lists = overrun l } → writtenOf r work plan page ≡ betweenLevels (StateLevels.ended T v e at plan seen)
       unfolding walkState stateOf StateLevels.withPlan
@@ -82,7 +82,7 @@ module _ (T : Tables) (v : LevelEntry) (e : Memory.Ends) (at : ℕ) (plan : List
           ∙ ap betweenLevels (sym (ended-long seen (over-of false o) b))
 
       pub fits-left : (r : Written) (work₁ plan₁ : List ℕ) → l .over ≡ false → room ≡ true → r .at ≡ StateLevels.levelEnd at (levelOf T (m .level))
-          → stateWith (r .lists) newLevel measuring work₁ plan₁ ≡ unleveled (StateLevels.placed T v e at plan seen)
+          → stateWith (r .lists) newLevel noTarget work₁ plan₁ ≡ unleveled (StateLevels.placed T v e at plan seen)
           → writtenOf r work₁ plan₁ page ≡ betweenLevels (StateLevels.ended T v e at plan seen)
       unfolding walkState stateOf writtenOf betweenLevels
       fits-left r work₁ plan₁ o b ea s = (λ i. writtenTo (ea i) (s i) page) ∙ ap betweenLevels (sym (ended-fits seen (over-of false o) b))
@@ -101,12 +101,12 @@ module _ (w : Written) (work plan page : List ℕ) where
   bytes = listsIn (endsOf (w .lists .ends)) work
 
   abbrev before : State
-  before = stateWith (w .lists) newLevel measuring work plan
+  before = stateWith (w .lists) newLevel noTarget work plan
 
-  finished-live : w .lists .over ≡ false → StateLevels.finished (writtenOf w work plan page) ≡ elim (leb (w .at + length bytes) (min planLimit (length plan))) [ true ↦ writtenTo (w .at + length bytes) (state false (endsOf (w .lists .ends)) newLevel measuring work (sets plan (w .at) bytes)) page | false ↦ writtenTo (w .at) (stop before) page ]
+  finished-live : w .lists .over ≡ false → StateLevels.finished (writtenOf w work plan page) ≡ elim (leb (w .at + length bytes) (min planLimit (length plan))) [ true ↦ writtenTo (w .at + length bytes) (state false (endsOf (w .lists .ends)) newLevel noTarget work (sets plan (w .at) bytes)) page | false ↦ writtenTo (w .at) (stop before) page ]
   unfolding StateLevels.finished StateLevels.lists writtenOf
   finished-live o =
-      by-test (λ (r : StateLevels.Written). r ≡ elim (leb (w .at + length bytes) (min planLimit (length plan))) [ true ↦ writtenTo (w .at + length bytes) (state false (endsOf (w .lists .ends)) newLevel measuring work (sets plan (w .at) bytes)) page | false ↦ writtenTo (w .at) (stop before) page ]) (w .lists .over)
+      by-test (λ (r : StateLevels.Written). r ≡ elim (leb (w .at + length bytes) (min planLimit (length plan))) [ true ↦ writtenTo (w .at + length bytes) (state false (endsOf (w .lists .ends)) newLevel noTarget work (sets plan (w .at) bytes)) page | false ↦ writtenTo (w .at) (stop before) page ]) (w .lists .over)
       (λ q. absurd (true≢false (sym q ∙ o))) (λ q. refl)
 
   pub finished-over : w .lists .over ≡ true → writtenOf w work plan page ≡ betweenLevels (StateLevels.finished (writtenOf w work plan page))
@@ -117,17 +117,17 @@ module _ (w : Written) (work plan page : List ℕ) where
 
   pub finished-long : (r : Written) (n : ℕ) → n ≡ length bytes → w .lists .over ≡ false → min planLimit (length plan) < w .at + n → r ≡ record { at = w .at; lists = overrun (w .lists) } → writtenOf r work plan page ≡ betweenLevels (StateLevels.finished (writtenOf w work plan page))
   finished-long r n en o h s =
-      stopped-is r (w .lists) (w .at) work plan page newLevel measuring s
+      stopped-is r (w .lists) (w .at) work plan page newLevel noTarget s
       ∙ ap betweenLevels (sym (finished-live o ∙ by-test (λ (r : StateLevels.Written). r ≡ writtenTo (w .at) (stop before) page) (leb (w .at + length bytes) (min planLimit (length plan)))
       (λ q. absurd (true≢false (sym q ∙ lt-leb (w .at + length bytes) (min planLimit (length plan)) (omega (arith, h, en))))) (λ q. refl)))
 
   pub finished-fits : (n : ℕ) (plan₁ : List ℕ) → n ≡ length bytes → w .lists .over ≡ false → w .at + n ≤ min planLimit (length plan) → plan₁ ≡ put plan (w .at) bytes → writtenOf (record { at = w .at + n; lists = w .lists }) work plan₁ page ≡ betweenLevels (StateLevels.finished (writtenOf w work plan page))
   unfolding writtenOf betweenLevels unleveled
   finished-fits n plan₁ en o h ep =
-      ap (λ (x : Bool). writtenTo (w .at + n) (state x (endsOf (w .lists .ends)) newLevel measuring work plan₁) page) o
-      ∙ ap (λ (k : ℕ). writtenTo (w .at + k) (state false (endsOf (w .lists .ends)) newLevel measuring work plan₁) page) en
-      ∙ ap (λ (p : List ℕ). writtenTo (w .at + length bytes) (state false (endsOf (w .lists .ends)) newLevel measuring work p) page) (ep ∙ put-sets plan (w .at) bytes)
-      ∙ ap betweenLevels (sym (finished-live o ∙ by-test (λ (r : StateLevels.Written). r ≡ writtenTo (w .at + length bytes) (state false (endsOf (w .lists .ends)) newLevel measuring work (sets plan (w .at) bytes)) page) (leb (w .at + length bytes) (min planLimit (length plan)))
+      ap (λ (x : Bool). writtenTo (w .at + n) (state x (endsOf (w .lists .ends)) newLevel noTarget work plan₁) page) o
+      ∙ ap (λ (k : ℕ). writtenTo (w .at + k) (state false (endsOf (w .lists .ends)) newLevel noTarget work plan₁) page) en
+      ∙ ap (λ (p : List ℕ). writtenTo (w .at + length bytes) (state false (endsOf (w .lists .ends)) newLevel noTarget work p) page) (ep ∙ put-sets plan (w .at) bytes)
+      ∙ ap betweenLevels (sym (finished-live o ∙ by-test (λ (r : StateLevels.Written). r ≡ writtenTo (w .at + length bytes) (state false (endsOf (w .lists .ends)) newLevel noTarget work (sets plan (w .at) bytes)) page) (leb (w .at + length bytes) (min planLimit (length plan)))
       (λ q. refl) (λ q. absurd (true≢false (sym (le-leb (w .at + length bytes) (min planLimit (length plan)) (omega (arith, h, en))) ∙ q)))))
 
 finished-between : (w : StateLevels.Written) → betweenLevels (StateLevels.finished (betweenLevels w)) ≡ betweenLevels (StateLevels.finished w)
@@ -137,7 +137,7 @@ finished-between w = go (w .state .over) (leb (w .at + length (StateLevels.lists
     s : State
     s = w .state
 
-    go : (o b : Bool) → betweenLevels (elim o [ true ↦ betweenLevels w | false ↦ elim b [ true ↦ writtenTo (w .at + length (StateLevels.lists s)) (state false (s .ends) newLevel measuring (s .work) (sets (s .plan) (w .at) (StateLevels.lists s))) (w .page) | false ↦ writtenTo (w .at) (stop (unleveled s)) (w .page) ] ]) ≡ betweenLevels (elim o [ true ↦ w | false ↦ elim b [ true ↦ writtenTo (w .at + length (StateLevels.lists s)) (state false (s .ends) (s .level) (s .target) (s .work) (sets (s .plan) (w .at) (StateLevels.lists s))) (w .page) | false ↦ writtenTo (w .at) (stop s) (w .page) ] ])
+    go : (o b : Bool) → betweenLevels (elim o [ true ↦ betweenLevels w | false ↦ elim b [ true ↦ writtenTo (w .at + length (StateLevels.lists s)) (state false (s .ends) newLevel noTarget (s .work) (sets (s .plan) (w .at) (StateLevels.lists s))) (w .page) | false ↦ writtenTo (w .at) (stop (unleveled s)) (w .page) ] ]) ≡ betweenLevels (elim o [ true ↦ w | false ↦ elim b [ true ↦ writtenTo (w .at + length (StateLevels.lists s)) (state false (s .ends) (s .level) (s .target) (s .work) (sets (s .plan) (w .at) (StateLevels.lists s))) (w .page) | false ↦ writtenTo (w .at) (stop s) (w .page) ] ])
     go true b = refl
     go false true = refl
     go false false = refl
@@ -157,5 +157,5 @@ write-is T n w r work plan plan₁ work₂ plan₂ page page₂ plan₃ en ep eq
     ap StateLevels.unpaged
     (er ∙ ap (λ (x : StateLevels.Written). betweenLevels (StateLevels.finished x)) ew
     ∙ finished-between (StateLevels.levels T (T .levels) (writtenOf begins work plan₁ page))
-    ∙ (λ i. betweenLevels (StateLevels.finished (StateLevels.levels T (T .levels) (writtenTo 2 (state false noEnds newLevel measuring work ((ep ∙ put-sets plan 0 (u16 n) ∙ ap (λ (k : ℕ). sets plan 0 (u16 k)) en) i)) (eq i))))))
+    ∙ (λ i. betweenLevels (StateLevels.finished (StateLevels.levels T (T .levels) (writtenTo 2 (state false noEnds newLevel noTarget work ((ep ∙ put-sets plan 0 (u16 n) ∙ ap (λ (k : ℕ). sets plan 0 (u16 k)) en) i)) (eq i))))))
     ∙ sym (unpaged-between _)

@@ -7,7 +7,7 @@ ghost use Prim.Native.Nat.{ℕ, _≤_, _<_};
 ghost use lib.ListN.{length};
 ghost use Rattle.rules.specs.Limits.{planLimit};
 ghost use Rattle.rules.specs.File.{Tables};
-ghost use Rattle.state.specs.State.{newLevel, measuring, state};
+ghost use Rattle.state.specs.State.{newLevel, noTarget, state};
 ghost use Rattle.state.specs.Levels as StateLevels;
 ghost use Rattle.file.specs.Tables.{tablesOf};
 ghost use Rattle.views.specs.Views.{levelEntryAt};
@@ -80,11 +80,10 @@ fn writing(f: Frame, l: SeekBuilder) -> Target
     ensures { λ r. ⌜ (
         (T : Tables) →
         let joining = StateLevels.joining (levelOf T l) in
-        targetOf r ≡ record { writing = true; joining = joining; partsAt = f .parts; nodesAt = f .nodes; restAt = f .rest }
+        targetOf r ≡ record { joining = joining; partsAt = f .parts; nodesAt = f .nodes; restAt = f .rest }
         ) ⌝ }
 {
     Target {
-        writing: true,
         joining: seek_number(l) == 0,
         parts: f.parts as u32,
         nodes: f.nodes as u32,
@@ -112,7 +111,7 @@ fn placed(
     ensures { λ r. ⌜ (
         let T = tablesOf (now (file .entry)) in
         let walked = walkState T m (now (work .entry)) (now (page .entry)) in
-        let after = stateWith r newLevel measuring (now (work .exit)) (now (plan .exit)) in
+        let after = stateWith r newLevel noTarget (now (work .exit)) (now (plan .exit)) in
         after ≡ unleveled (StateLevels.placed T (levelEntryAt T k) (endsOf ends) at (now (plan .entry)) walked)
         ) ⌝ }
 {

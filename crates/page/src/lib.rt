@@ -23,7 +23,6 @@ pub fn paging() -> Target
     ensures { λ r. ⌜ targetOf r ≡ StateLevels.paging ⌝ }
 {
     Target {
-        writing: true,
         joining: false,
         parts: 0,
         nodes: 0,

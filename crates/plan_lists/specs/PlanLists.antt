@@ -2,8 +2,8 @@
 use mathlib.Core.Bool.{false}
 use mathlib.Core.List.{List, []}
 use Prim.Native.Nat.{ℕ}
-use Rattle.state.specs.State.{Ends, newLevel, measuring, state}
+use Rattle.state.specs.State.{Ends, newLevel, noTarget, state}
 use Rattle.state.specs.Levels.{lists}
 
 abbrev pub listsIn : Ends → List ℕ → List ℕ
-listsIn e work = lists (state false e newLevel measuring work [])
+listsIn e work = lists (state false e newLevel noTarget work [])

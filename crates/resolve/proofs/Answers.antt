@@ -20,7 +20,7 @@ use Rattle.rules.specs.Lookup.{fieldOf, slotAt, rowField, fetchedRegister, hois
 use Rattle.rules.specs.Events.{Code}
 use Rattle.rules.specs.Resolve as ResolveRules
 use Rattle.rules.specs.Resolve.{Resolver, follow, _whenFound_, give, declined, fetchedRow, dereference, fieldOfRow, fieldSlot, valueSlot, selected, selectSlot, resolveNode, resolve}
-use Rattle.state.specs.State.{Level, Target, State, newLevel, measuring}
+use Rattle.state.specs.State.{Level, Target, State, newLevel, noTarget}
 use Rattle.state.specs.Ops as Ops
 use Rattle.state.specs.Ops.{ops}
 use Rattle.slots.specs.Slots.{maybe, slotWith, slotOf, cleared, fieldSlot as slotOfField, justSlot, noSlot, tidied, IsSlot, SlotRoom}
@@ -215,7 +215,7 @@ pub leaf-is : {l : Lists} {w : List ℕ} {r : Answer} (T : Tables) (n : ℕ) (no
     → Answers (λ s. record { slot = leafSlot T (ops T .lookup s) n node; walk = s }) l w r w
 unfolding give
 leaf-is {l} {w} {r} T n node e h =
-    record { is = λ level target plan. gives-is {w = w} h (e level target plan) .is level target plan; tidy = gives-is {w = w} h (e newLevel measuring []) .tidy }
+    record { is = λ level target plan. gives-is {w = w} h (e level target plan) .is level target plan; tidy = gives-is {w = w} h (e newLevel noTarget []) .tidy }
 
 -- a read that goes on from an answer
 module _ {g : File.Slot → Resolver State} {a : Answer} {w : List ℕ} where
@@ -360,7 +360,7 @@ module _ (T : Tables) (n x : ℕ) (s : State) where
 
 -- what is shown of every slot that the rules give is shown of an answer's
 pub rooms-from : (T : Tables) {g : Resolver State} {l : Lists} {w : List ℕ} {r : Answer} {w′ : List ℕ} → Answers g l w r w′ → ((s : State) → GivenSlotRoom T (g s .slot)) → GivenSlotRoom T (given r)
-rooms-from T {g} {l} {w} {r} {w′} h k s e = k (stateWith l newLevel measuring w []) s (sym (ap (λ (a : ResolveRules.Answer State). a .slot) (h .is newLevel measuring [])) ∙ e)
+rooms-from T {g} {l} {w} {r} {w′} h k s e = k (stateWith l newLevel noTarget w []) s (sym (ap (λ (a : ResolveRules.Answer State). a .slot) (h .is newLevel noTarget [])) ∙ e)
 
 pub no-base : {read : Read} {b : ℕ} → Bs.Just read b ≡ Bs.Nothing → ⊥
 no-base e = let z : _≡_ {A = ℕ} 0 1 = cc in omega arith

@@ -14,7 +14,7 @@ use Rattle.rules.specs.Resolve.{_whenFound_, give, resolve}
 use Rattle.rules.proofs.Cases.{by-test, some≢none}
 use Rattle.rules.proofs.Sound.{Sound}
 use Rattle.file.proofs.Readers.{lt-or-le}
-use Rattle.state.specs.State.{Level, Target, State, newLevel, measuring}
+use Rattle.state.specs.State.{Level, Target, State, newLevel, noTarget}
 use Rattle.state.specs.Ops.{ops}
 use Rattle.lists.specs.Lists.{stateWith}
 use Rattle.lists.specs.declared.Lists.{Lists}
@@ -201,7 +201,7 @@ module _ (T : Tables) where
           is = λ level target plan.
               u .is level target plan ∙ climb-more trail k j _ e h ∙ ap (λ (n : ℕ). climb T (take j trail) (readUp T n (answerOf below level target w′ plan))) (sym g)
               ∙ ap (climb T (take j trail)) (sym (c .is level target plan));
-          rooms = subst (GivenSlotRoom T) (sym (ap (λ (a : ResolveRules.Answer State). a .slot) (c .is newLevel measuring []))) (up-rooms S n _ (u .rooms));
+          rooms = subst (GivenSlotRoom T) (sym (ap (λ (a : ResolveRules.Answer State). a .slot) (c .is newLevel noTarget []))) (up-rooms S n _ (u .rooms));
           tidy = c .tidy;
           within = omega (arith, u .within);
         }

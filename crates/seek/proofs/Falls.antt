@@ -28,11 +28,7 @@ use Rattle.seek.proofs.Narrows.{goes}
 
 -- a level that grows by nothing written
 grow-bare : (l : Level) (s : State) → countsFit (l .plain) (l .counts) ≡ true → state (s .over) (s .ends) l (s .target) (s .work) (s .plan) ≡ grow l (λ plan. plan) s
-grow-bare l s h = sym (grow-yes l (λ plan. plan) s h ∙ ap (state (s .over) (s .ends) l (s .target) (s .work)) (nothing (s .target .writing)))
-  where
-    nothing : (t : Bool) → (elim t [ true ↦ s .plan | false ↦ s .plan ]) ≡ s .plan
-    nothing true = refl
-    nothing false = refl
+grow-bare l s h = sym (grow-yes l (λ plan. plan) s h)
 
 module _ {A : Type 0} where
   set-kept : (building set : Bool) (x : A) → setIn false (kept building set) x ≡ setIn building set x

@@ -43,7 +43,7 @@ counting false c = narrowed c
 
 module _ (l : Level) (write : List ℕ → List ℕ) (s : State) where
   pub grow-yes : countsFit (l .plain) (l .counts) ≡ true
-      → grow l write s ≡ state (s .over) (s .ends) l (s .target) (s .work) (elim (s .target .writing) [ true ↦ write (s .plan) | false ↦ s .plan ])
+      → grow l write s ≡ state (s .over) (s .ends) l (s .target) (s .work) (write (s .plan))
   unfolding grow
   grow-yes e = pick (fits l) true _ _ (fits-counts l ∙ e)
 
@@ -70,7 +70,7 @@ overruns b T e w p = refl
 
 module _ (b : SeekBuilder) (plain : Bool) (s : Sums) (at : ℕ) where
   abbrev yes : Placed
-  yes = record { level = recounted plain (counted s) b; place = record { write = b .target .writing; joined = b .target .joining; at = at } }
+  yes = record { level = recounted plain (counted s) b; place = record { write = true; joined = b .target .joining; at = at } }
 
   abbrev no : Placed
   no = record { level = overrun b; place = record { write = false; joined = b .target .joining; at = at } }
@@ -84,7 +84,7 @@ module _ (b : SeekBuilder) (plain : Bool) (s : Sums) (at : ℕ) where
   grown-no h = pick (countsFit plain (sumsOf s)) false yes no h
 
   pub grown-fit : (k : Counts) → k ≡ counted s → countsFit plain (sumsOf s) ≡ true
-      → record { level = recounted plain k b; place = record { write = b .target .writing; joined = b .target .joining; at = at } } ≡ grownBy plain s at b
+      → record { level = recounted plain k b; place = record { write = true; joined = b .target .joining; at = at } } ≡ grownBy plain s at b
   grown-fit k e h = ap (λ (x : Counts). record { level = recounted plain x b; place = yes .place }) e ∙ sym (grown-yes h)
 
   pub grown-over : (l : SeekBuilder) → l ≡ overrun b → countsFit plain (sumsOf s) ≡ false

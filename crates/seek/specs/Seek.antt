@@ -124,7 +124,7 @@ levelOf T b =
     }
 
 abbrev pub targetOf : Target → InState.Target
-targetOf t = record { writing = t .writing; joining = t .joining; partsAt = t .parts; nodesAt = t .nodes; restAt = t .rest }
+targetOf t = record { joining = t .joining; partsAt = t .parts; nodesAt = t .nodes; restAt = t .rest }
 
 unfoldable pub stateOf : Tables → SeekBuilder → Ends → List ℕ → List ℕ → State
 stateOf T b e work plan = state (b .over) e (levelOf T b) (targetOf (b .target)) work plan
@@ -274,7 +274,7 @@ unfoldable pub grownBy : Bool → Sums → ℕ → SeekBuilder → Placed
 grownBy plain s at b =
     let t = b .target in
     elim (countsFit plain (sumsOf s)) [
-      | true ↦ record { level = recounted plain (counted s) b; place = record { write = t .writing; joined = t .joining; at = at } }
+      | true ↦ record { level = recounted plain (counted s) b; place = record { write = true; joined = t .joining; at = at } }
       | false ↦ record { level = overrun b; place = record { write = false; joined = t .joining; at = at } }
     ]
 

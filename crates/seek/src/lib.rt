@@ -72,7 +72,6 @@ pub struct Folded {
 
 // Where the parts, their nodes if the parts are joined, and the residuals begin in the plan.
 pub struct Target {
-    pub writing: bool,
     pub joining: bool,
     pub parts: u32,
     pub nodes: u32,

@@ -44,7 +44,7 @@ impl SeekBuilder {
             l.plain = plain;
             l.counts = c;
             let place = Place {
-                write: t.writing,
+                write: true,
                 joined: t.joining,
                 at,
             };

@@ -54,7 +54,7 @@ level-new = refl
 
 plan-new : (t : Target) (base : List ℕ) → base ≡ planAs t base new
 unfolding planAs partsPut new concatMap
-plan-new t base = by-test (λ (p : List ℕ). base ≡ p) (t .writing) (λ e. refl) (λ e. refl)
+plan-new t base = refl
 
 rel-begin : (T : Tables) (t : Target) (plan : List ℕ) (l : Lists) (e : Ends) (s : State) → s .over ≡ false → Mem T l e (s .work) → Rel T t plan (freshWalk l) (begin e t plan s)
 unfolding begin placeAll LevelsRules.narrowings

@@ -37,15 +37,7 @@ partsPut t before (p ∷ parts) plan = partsPut t (before ++ (p ∷ [])) parts (
 
 -- the plan while a level is written: its parts and its residuals so far, at their places
 unfoldable pub planAs : Target → List ℕ → SeekBuilder → List ℕ
-planAs t base b =
-    elim (t .writing) [
-      | true ↦ sets (partsPut t [] (b .parts) base) (t .restAt) (concatMap Plan.residual (b .residuals))
-      | false ↦ base
-    ]
-
--- what `grow` makes of a plan
-abbrev written : Bool → (List ℕ → List ℕ) → List ℕ → List ℕ
-written writing write plan = elim writing [ true ↦ write plan | false ↦ plan ]
+planAs t base b = sets (partsPut t [] (b .parts) base) (t .restAt) (concatMap Plan.residual (b .residuals))
 
 -- While there is room: the lists in their runs, the level's summary, the bytes written. t and base are the walk's target and the plan that it began with.
 pub record Good (T : Tables) (t : Target) (base : List ℕ) (l : Lists) (n : ℕ) (b : SeekBuilder) (c : State) : Type 0 where
@@ -110,17 +102,12 @@ module _ (T : Tables) (t : Target) (base : List ℕ) where
       by-test (RelAt T t base l n b) (leb count 65534) (λ q. r) (λ q. absurd (true≢false (sym (le-leb count 65534 (omega arith)) ∙ q)))
 
   -- The level changed, and the plan with it.
-  rel-grow : (l : Lists) (n m : ℕ) (b b′ : SeekBuilder) (c : State) (level : Level) (write : List ℕ → List ℕ) → c .over ≡ false → Good T t base l n b c → Sane m b′ → level ≡ summary m b′ → written (c .target .writing) write (c .plan) ≡ planAs t base b′ → RelAt T t base l m b′ (grow level write c)
+  rel-grow : (l : Lists) (n m : ℕ) (b b′ : SeekBuilder) (c : State) (level : Level) (write : List ℕ → List ℕ) → c .over ≡ false → Good T t base l n b c → Sane m b′ → level ≡ summary m b′ → write (c .plan) ≡ planAs t base b′ → RelAt T t base l m b′ (grow level write c)
   unfolding grow stop
   rel-grow l n m b b′ c level write e g s el ep =
       by-test (RelAt T t base l m b′) (fits level)
       (λ q. of-good l m b′ _ e s (record { mem = g .mem; level = el; target = g .target; plan = ep }))
       (λ q. of-long l m b′ _ refl s (omega (arith, summary-long m b′ s (ap fits (sym el) ∙ q))))
-
--- nothing written
-unwritten : (writing : Bool) (plan : List ℕ) → written writing (λ p. p) plan ≡ plan
-unwritten true plan = refl
-unwritten false plan = refl
 
 -- A part: the level and the plan with it.
 more-level : (p : Part) (n : ℕ) (b : SeekBuilder) → Ops.withPart (p .key) (summary n b .counts) (summary n b) ≡ summary n (withPart p b)
@@ -157,19 +144,13 @@ parts-snoc t before (q ∷ parts) p plan =
     parts-snoc t (before ++ (q ∷ [])) parts p (partPut t (countsOf before) q plan)
     ∙ ap (λ (ps : List Part). partPut t (countsOf ps) p (partsPut t before (q ∷ parts) plan)) (append-assoc before (q ∷ []) parts)
 
--- a change of what is written, while writing
-by-writing : (writing : Bool) (base x y : List ℕ) (f : List ℕ → List ℕ) → f x ≡ y → written writing f (elim writing [ true ↦ x | false ↦ base ]) ≡ (elim writing [ true ↦ y | false ↦ base ])
-by-writing true base x y f e = e
-by-writing false base x y f e = refl
-
 -- parts are made before residuals
-part-plan : (t : Target) (base : List ℕ) (n : ℕ) (b : SeekBuilder) (p : Part) → b .residuals ≡ [] → written (t .writing) (partPut t (summary n b .counts) p) (planAs t base b) ≡ planAs t base (withPart p b)
+part-plan : (t : Target) (base : List ℕ) (n : ℕ) (b : SeekBuilder) (p : Part) → b .residuals ≡ [] → partPut t (summary n b .counts) p (planAs t base b) ≡ planAs t base (withPart p b)
 unfolding partPut partAt nodeAt planAs summary withPart concatMap
 part-plan t base n b p clean =
-    by-writing (t .writing) base _ _ (partPut t (countsOf (b .parts)) p)
-    (ap (λ (rs : List Residual). partPut t (countsOf (b .parts)) p (sets (partsPut t [] (b .parts) base) (t .restAt) (concatMap Plan.residual rs))) clean
+    ap (λ (rs : List Residual). partPut t (countsOf (b .parts)) p (sets (partsPut t [] (b .parts) base) (t .restAt) (concatMap Plan.residual rs))) clean
     ∙ sym (parts-snoc t [] (b .parts) p base)
-    ∙ ap (λ (rs : List Residual). sets (partsPut t [] (b .parts ++ (p ∷ [])) base) (t .restAt) (concatMap Plan.residual rs)) (sym clean))
+    ∙ ap (λ (rs : List Residual). sets (partsPut t [] (b .parts ++ (p ∷ [])) base) (t .restAt) (concatMap Plan.residual rs)) (sym clean)
 
 -- A residual: the counts, the level and the plan with it.
 abbrev restCounts : Residual → Counts → Counts
@@ -194,15 +175,14 @@ residual-level r n b =
 abbrev restPut : Target → Counts → Residual → List ℕ → List ℕ
 restPut t c r plan = putMade (t .restAt + c .rest) (restForm r) (t .restAt + c .rest + length (restForm r)) (r .node) plan
 
-residual-plan : (t : Target) (base : List ℕ) (n : ℕ) (b : SeekBuilder) (r : Residual) → written (t .writing) (restPut t (summary n b .counts) r) (planAs t base b) ≡ planAs t base (withResidual r b)
+residual-plan : (t : Target) (base : List ℕ) (n : ℕ) (b : SeekBuilder) (r : Residual) → restPut t (summary n b .counts) r (planAs t base b) ≡ planAs t base (withResidual r b)
 unfolding putMade planAs summary withResidual Plan.residual
 residual-plan t base n b r =
     let parts = partsPut t [] (b .parts) base in
     let rest = concatMap Plan.residual (b .residuals) in
-    by-writing (t .writing) base _ _ (λ (plan : List ℕ). putMade (t .restAt + length rest) (restForm r) (t .restAt + length rest + length (restForm r)) (r .node) plan)
-    (sets-before (sets parts (t .restAt) rest) (t .restAt + length rest) (restForm r) (Plan.u16 (r .node))
+    sets-before (sets parts (t .restAt) rest) (t .restAt + length rest) (restForm r) (Plan.u16 (r .node))
     ∙ sym (sets-append parts (t .restAt) rest (Plan.residual r))
-    ∙ ap (sets parts (t .restAt)) (sym (concatMap-snoc Plan.residual (b .residuals) r)))
+    ∙ ap (sets parts (t .restAt)) (sym (concatMap-snoc Plan.residual (b .residuals) r))
 
 module _ (T : Tables) (t : Target) (base : List ℕ) (l : Lists) (n : ℕ) (b : SeekBuilder) (c : State) (e : c .over ≡ false) (g : Good T t base l n b c) where
   building-is : c .level .building ≡ b .building
@@ -210,8 +190,8 @@ module _ (T : Tables) (t : Target) (base : List ℕ) (l : Lists) (n : ℕ) (b : 
   building-is = ap (λ (x : Level). x .building) (g .level)
 
   -- the plan with a part more
-  part-written : (p : Part) → b .residuals ≡ [] → written (c .target .writing) (partPut (c .target) (c .level .counts) p) (c .plan) ≡ planAs t base (withPart p b)
-  part-written p clean = (λ i. written (g .target i .writing) (partPut (g .target i) (g .level i .counts) p) (g .plan i)) ∙ part-plan t base n b p clean
+  part-written : (p : Part) → b .residuals ≡ [] → partPut (c .target) (c .level .counts) p (c .plan) ≡ planAs t base (withPart p b)
+  part-written p clean = (λ i. partPut (g .target i) (g .level i .counts) p (g .plan i)) ∙ part-plan t base n b p clean
 
   rel-part : (p : Part) → b .residuals ≡ [] → Sane (n + 1) (withPart p b) → RelAt T t base l (n + 1) (withPart p b) (putPart (p .node) (p .key) (narrowed (c .level .counts)) c)
   unfolding putPart
@@ -225,11 +205,11 @@ module _ (T : Tables) (t : Target) (base : List ℕ) (l : Lists) (n : ℕ) (b : 
   rel-residual r s =
       rel-grow T t base l n (n + 1) b (withResidual r b) c (recount (restCounts r (c .level .counts)) (c .level)) (restPut (c .target) (c .level .counts) r) e g s
       (ap (λ (x : Level). recount (restCounts r (x .counts)) x) (g .level) ∙ residual-level r n b)
-      ((λ i. written (g .target i .writing) (restPut (g .target i) (g .level i .counts) r) (g .plan i)) ∙ residual-plan t base n b r)
+      ((λ i. restPut (g .target i) (g .level i .counts) r (g .plan i)) ∙ residual-plan t base n b r)
 
   -- the level another, parts and residuals as before
   rel-relevel : (m : ℕ) (b′ : SeekBuilder) (level : Level) → Sane m b′ → level ≡ summary m b′ → planAs t base b ≡ planAs t base b′ → RelAt T t base l m b′ (grow level (λ plan. plan) c)
-  rel-relevel m b′ level s el ep = rel-grow T t base l n m b b′ c level (λ plan. plan) e g s el (unwritten (c .target .writing) (c .plan) ∙ g .plan ∙ ep)
+  rel-relevel m b′ level s el ep = rel-grow T t base l n m b b′ c level (λ plan. plan) e g s el (g .plan ∙ ep)
 
   -- "a part while building .., else a residual"
   rel-place-part : (node : ℕ) (key : SeekKeyPart) (path : FieldPath) (op : Narrowing) → (b .building ≡ true → b .residuals ≡ []) → Sane (n + 1) (placePart node key path op b) → RelAt T t base l (n + 1) (placePart node key path op b) (narrowPart node key path op c)

@@ -13,7 +13,7 @@ use Rattle.rules.specs.Walk.{key}
 use Rattle.rules.specs.Placement.{Range, RangeEdge}
 use Rattle.rules.specs.Plan as Plan
 use Rattle.rules.specs.Compile.{Outcome}
-use Rattle.state.specs.State.{Ends, Counts, Level, newLevel, Target, measuring, State, state, noEnds, stop, bindingsAt, constrainedAt}
+use Rattle.state.specs.State.{Ends, Counts, Level, newLevel, Target, noTarget, State, state, noEnds, stop, bindingsAt, constrainedAt}
 use Rattle.state.specs.State.{selectsAt, diagnosticsAt, backwards, joinedBytes}
 use Rattle.state.specs.Ops.{ops}
 
@@ -86,7 +86,7 @@ abbrev pub pageLength : ℕ
 pageLength = 4096
 
 unfoldable pub paging : Target
-paging = record { writing = true; joining = false; partsAt = 0; nodesAt = 0; restAt = pageRest }
+paging = record { joining = false; partsAt = 0; nodesAt = 0; restAt = pageRest }
 
 -- whether the page has room for the parts and for the residuals that a level counts
 unfoldable pub paged : Counts → Bool
@@ -143,7 +143,7 @@ withPlan plan s = state (s .over) (s .ends) (s .level) (s .target) (s .work) pla
 -- where a level is written
 unfoldable pub writingAt : ℕ → Level → Target
 writingAt at l =
-    record { writing = true; joining = joining l; partsAt = partsAt at l; nodesAt = nodesAt at l; restAt = restAt at l }
+    record { joining = joining l; partsAt = partsAt at l; nodesAt = nodesAt at l; restAt = restAt at l }
 
 -- The level's frame goes to the plan, and what its walk m wrote to the page. A level that is too long for the page is walked once more, from
 -- the lists as they were, and written at its place.
@@ -209,7 +209,7 @@ finished w =
 unfoldable pub started : Tables → List ℕ → List ℕ → Written
 started T work plan =
     let counted = sets plan 0 (Plan.u16 (length (T .levels))) in
-    writtenTo 2 (state false noEnds newLevel measuring work counted) (replicate pageLength 0)
+    writtenTo 2 (state false noEnds newLevel noTarget work counted) (replicate pageLength 0)
 
 -- the page is gone when the plan is written
 unfoldable pub unpaged : Written → Written

@@ -76,11 +76,11 @@ relevel f s = state (s .over) (s .ends) (f (s .level)) (s .target) (s .work) (s 
 unfoldable pub narrowed : Counts → Counts
 narrowed c = counts (c .narrowings + 1) (c .closers) (c .parts) (c .residuals) (c .joined) (c .parted) (c .rest)
 
--- the level changed, and the plan while writing; unless the level has grown too long
+-- the level changed, and the plan with it; unless the level has grown too long
 unfoldable pub grow : Level → (List ℕ → List ℕ) → State → State
 grow l write s =
     elim (fits l) [
-      | true ↦ state (s .over) (s .ends) l (s .target) (s .work) (elim (s .target .writing) [ true ↦ write (s .plan) | false ↦ s .plan ])
+      | true ↦ state (s .over) (s .ends) l (s .target) (s .work) (write (s .plan))
       | false ↦ stop s
     ]
 

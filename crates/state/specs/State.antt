@@ -80,17 +80,16 @@ newLevel =
       edges = record { lo = none; hi = none; folded = [] };
     }
 
--- Whether a level is written or only measured; whether its parts are joined; where its parts, their nodes if the parts are joined, and its
--- residuals begin in the plan.
+-- Whether a level's parts are joined; where its parts, their nodes if the parts are joined, and its residuals begin in what its walk writes to.
 pub record Target : Type 0 where
-  pub writing : Bool
   pub joining : Bool
   pub partsAt : ℕ
   pub nodesAt : ℕ
   pub restAt : ℕ
 
-unfoldable pub measuring : Target
-measuring = record { writing = false; joining = false; partsAt = 0; nodesAt = 0; restAt = 0 }
+-- between levels
+unfoldable pub noTarget : Target
+noTarget = record { joining = false; partsAt = 0; nodesAt = 0; restAt = 0 }
 
 -- over: the plan is too long, and nothing changes any more
 pub record State : Type 0 where
@@ -142,5 +141,5 @@ fits l =
     (both (leb (l .counts .parts) 65535) (leb (l .counts .residuals) 65535))))
 
 unfoldable pub openState : Unit {0}
-unfolding noEnds newLevel measuring stop unless bindingsIn made backwards joinedBytes partBytes fits
+unfolding noEnds newLevel noTarget stop unless bindingsIn made backwards joinedBytes partBytes fits
 openState = tt
