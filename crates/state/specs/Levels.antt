@@ -145,8 +145,8 @@ unfoldable pub writingAt : ℕ → Level → Target
 writingAt at l =
     record { joining = joining l; partsAt = partsAt at l; nodesAt = nodesAt at l; restAt = restAt at l }
 
--- The level's frame goes to the plan, and what its walk m wrote to the page. A level that is too long for the page is walked once more, from
--- the lists as they were, and written at its place.
+-- The level's frame goes to the plan, and what its walk m wrote to the page. A level that is too long for the page is walked once more,
+-- from the lists as they were, and written at its place.
 unfoldable pub placed : Tables → LevelEntry → Ends → ℕ → List ℕ → State → State
 placed T l e at plan m =
     let framed = frame at (m .level) plan in

@@ -80,7 +80,8 @@ newLevel =
       edges = record { lo = none; hi = none; folded = [] };
     }
 
--- Whether a level's parts are joined; where its parts, their nodes if the parts are joined, and its residuals begin in what its walk writes to.
+-- Whether a level's parts are joined; where in what its walk writes to its parts, their nodes if the parts are joined, and its residuals
+-- begin.
 pub record Target : Type 0 where
   pub joining : Bool
   pub partsAt : ℕ

@@ -18,11 +18,9 @@ use Rattle.levels.proofs.placed.Reads as placed-reads
 use Rattle.levels.proofs.stopped.Reads as stopped-reads
 use Rattle.walk.proofs.Walk.lists.Reads as lists-reads
 
--- src/lib.rt:162:9
 lists-requires : tie.Need-lists-requires
 lists-requires c κs = search needs
 
--- src/lib.rt:164:9
 returns : tie.Need-returns
 returns c =
     let s = c .before .before .before .before .before .before .before in
@@ -30,15 +28,12 @@ returns c =
     let T = tablesOf (now (a .file)) in
     (over-left T (levelEntryAt T (a .k)) (endsOf (a .ends)) (a .at) (now (a .plan)) (a .m) (now (a .work)) (now (a .page)) _ (c .before .lists .ensures) (c .if1 .taken), s .pre .1 .1)
 
--- src/lib.rt:167:9
 measure-requires : tie.Need-measure-requires
 measure-requires c κs = search needs
 
--- src/lib.rt:170:9
 stopped-requires : tie.Need-stopped-requires
 stopped-requires c κs = search needs
 
--- src/lib.rt:170:9
 returns-2 : tie.Need-returns-2
 returns-2 c =
     let s = c .before .before .before .before .before .before .before .before .before .before .before in
@@ -48,11 +43,9 @@ returns-2 c =
       omega (arith, ap (λ (x : Written). x .at) (c .stopped .ensures), s .pre .1 .1),
     )
 
--- src/lib.rt:173:9
 stopped-requires-2 : tie.Need-stopped-requires-2
 stopped-requires-2 c κs = search needs
 
--- src/lib.rt:173:9
 returns-3 : tie.Need-returns-3
 returns-3 c =
     let s = c .before .before .before .before .before .before .before .before .before .before .before .before in
@@ -62,19 +55,15 @@ returns-3 c =
       omega (arith, ap (λ (x : Written). x .at) (c .stopped2 .ensures), s .pre .1 .1),
     )
 
--- src/lib.rt:175:9
 placed-requires : tie.Need-placed-requires
 placed-requires c κs = let s = c .before .before .before .before .before .before .before .before .before .before .before .before .before in (s .pre .0, (s .pre .1 .0, (c .before .before .before .before .measure .ensures, c .before .before .before .if2 .left)))
 
--- src/lib.rt:141:1
 same-length : tie.Need-same-length
 same-length c = search needs
 
--- src/lib.rt:141:1
 same-length-2 : tie.Need-same-length-2
 same-length-2 c = search needs
 
--- src/lib.rt:141:1
 returns-4 : tie.Need-returns-4
 returns-4 c =
     let s = c .before .before .before .before .before .before .before .before .before .before .before .before .before .before .before .before .before .before in

@@ -12,35 +12,27 @@ use Rattle.levels.proofs.ended.Reads as ended-reads
 use Rattle.levels.proofs.walked.Reads as walked-reads
 use Rattle.page.proofs.paging.Reads as paging-reads
 
--- src/lib.rt:210:33
 paging-requires : tie.Need-paging-requires
 paging-requires c κs = search needs
 
--- src/lib.rt:210:9
 begun-requires : tie.Need-begun-requires
 begun-requires c κs = search needs
 
--- src/lib.rt:204:9
 walked-requires : tie.Need-walked-requires
 walked-requires c κs = search needs
 
--- src/lib.rt:212:5
 ended-requires : tie.Need-ended-requires
 ended-requires c κs = let s = c .before .before .before .before .before .before .before .before .before .before .before .before .before .before .before .before .before .before .before in (s .pre .0, s .pre .1)
 
--- src/lib.rt:183:1
 same-length : tie.Need-same-length
 same-length c = search needs
 
--- src/lib.rt:183:1
 same-length-2 : tie.Need-same-length-2
 same-length-2 c = search needs
 
--- src/lib.rt:183:1
 same-length-3 : tie.Need-same-length-3
 same-length-3 c = search needs
 
--- src/lib.rt:183:1
 returns : tie.Need-returns
 returns c =
     let a = c .before .before .before .before .before .before .before .before .before .before .before .before .before .before .before .before .before .before .before .before .before .before .before .before .args in

@@ -16,59 +16,45 @@ Inv-loop file index work₀ plan₀ page₀ n w₀ k₀ work plan page w k = Goi
 abbrev μ-loop : tie.MeasureT-loop
 μ-loop file index work₀ plan₀ page₀ n w₀ k₀ work plan page w k = n - k
 
--- src/lib.rt:234:9
 count-of-requires : tie.Need-count-of-requires Inv-loop μ-loop
 count-of-requires c κs = (c .before .before .before .before .before .pre .0 .indexed, omega arith)
 
--- src/lib.rt:237:5
 loop-holds : tie.Need-loop-holds Inv-loop μ-loop
 loop-holds c = going-start _ _ _ _ _ (c .before .before .before .before .before .before .pre .1)
 
--- src/lib.rt:240:13
 same-length : tie.Need-same-length Inv-loop μ-loop
 same-length c = c .before .before .before .loop .inv .work-size
 
--- src/lib.rt:240:13
 same-length-2 : tie.Need-same-length-2 Inv-loop μ-loop
 same-length-2 c = c .before .before .before .loop .inv .plan-size
 
--- src/lib.rt:240:13
 same-length-3 : tie.Need-same-length-3 Inv-loop μ-loop
 same-length-3 c = c .before .before .before .loop .inv .page-size
 
--- src/lib.rt:240:13
 returns : tie.Need-returns Inv-loop μ-loop
 returns c = going-over _ _ _ _ _ _ _ _ _ _ (c .before .before .before .loop .inv) (c .if1 .taken)
 
--- src/lib.rt:242:9
 level-requires : tie.Need-level-requires Inv-loop μ-loop
 level-requires c κs = (c .before .before .before .before .before .before .before .before .before .before .before .before .before .pre .0, (omega (arith, c .before .before .before .before .before .loop-test .taken, c .before .before .before .before .before .before .before .count-of .ensures), c .before .before .before .before .before .before .loop .inv .near))
 
--- src/lib.rt:243:9
 add-k : tie.Need-add-k Inv-loop μ-loop
 add-k c = search needs
 
--- src/lib.rt:237:5
 loop-less : tie.Need-loop-less Inv-loop μ-loop
 loop-less c = search needs
 
--- src/lib.rt:237:5
 loop-again : tie.Need-loop-again Inv-loop μ-loop
 loop-again c = going-more _ _ _ _ _ _ _ _ _ _ (c .before .before .before .before .before .before .before .before .before .before .before .before .before .loop .inv) _ _ _ _ (omega (arith, c .before .before .before .before .before .before .before .before .before .before .before .before .loop-test .taken, c .before .before .before .before .before .before .before .before .before .before .before .before .before .before .count-of .ensures)) (c .before .before .before .before .before .before .before .before .before .before .if1 .left) (c .before .before .before .before .before .before .level .ensures) (c .before .before .before .before .before .before .level .kept .1 .1 .0) (c .before .before .before .before .before .before .level .kept .1 .1 .1 .0) (c .before .before .before .before .before .before .level .kept .1 .1 .1 .1 .0)
 
--- src/lib.rt:216:1
 same-length-4 : tie.Need-same-length-4 Inv-loop μ-loop
 same-length-4 c = c .before .loop .inv .work-size
 
--- src/lib.rt:216:1
 same-length-5 : tie.Need-same-length-5 Inv-loop μ-loop
 same-length-5 c = c .before .loop .inv .plan-size
 
--- src/lib.rt:216:1
 same-length-6 : tie.Need-same-length-6 Inv-loop μ-loop
 same-length-6 c = c .before .loop .inv .page-size
 
--- src/lib.rt:216:1
 returns-2 : tie.Need-returns-2 Inv-loop μ-loop
 returns-2 c = going-end _ _ _ _ _ _ _ _ _ _ (c .before .loop .inv) (omega (arith, c .loop-test .left, c .before .before .count-of .ensures))
 

@@ -21,34 +21,27 @@ use Rattle.page.proofs.is_paged.Reads as is-paged-reads
 use Rattle.page.proofs.put_page.Reads as put-page-reads
 use Rattle.walk.proofs.Walk.lists.Reads as lists-reads
 
--- src/lib.rt:121:9
 writing-requires : tie.Need-writing-requires
 writing-requires c κs =
     let s = c .before .before .before .before .before .before .before in
     let L = levelOf (tablesOf (now (s .args .file))) (s .args .m .level) in
     (omega (arith, parts-near (s .args .at) L (s .args .f) (s .pre .1 .1 .0) (s .pre .1 .1 .1)), omega (arith, nodes-near (tablesOf (now (s .args .file))) (s .args .m .level) (s .args .at) (s .args .f) (s .pre .1 .1 .0) (s .pre .1 .1 .1)), omega (arith, rest-near (s .args .at) L (s .args .f) (s .pre .1 .1 .0) (s .pre .1 .1 .1)))
 
--- src/lib.rt:122:5
 put-frame-requires : tie.Need-put-frame-requires
 put-frame-requires c κs = search needs
 
--- src/lib.rt:123:8
 is-paged-requires : tie.Need-is-paged-requires
 is-paged-requires c κs = search needs
 
--- src/lib.rt:124:9
 put-page-requires : tie.Need-put-page-requires
 put-page-requires c κs = search needs
 
--- src/lib.rt:125:9
 lists-requires : tie.Need-lists-requires
 lists-requires c κs = search needs
 
--- src/lib.rt:125:9
 same-length : tie.Need-same-length
 same-length c = search needs
 
--- src/lib.rt:125:9
 returns : tie.Need-returns
 unfolding levelOf
 returns c =
@@ -57,27 +50,21 @@ returns c =
     let T = tablesOf (now (a .file)) in
     paged-is T (a .at) (a .m) (a .f) (s .pre .1 .1 .0) (s .pre .1 .1 .1) (levelEntryAt T (a .k)) (endsOf (a .ends)) (now (a .work)) (now (a .plan)) (now (a .page)) _ (c .before .before .before .before .before .before .before .before .before .put-frame .ensures) _ (c .before .before .before .before .before .before .before .before .before .before .before .writing .ensures T) _ _ (c .lists .ensures) (sym (c .before .before .before .before .before .before .is-paged .ensures) ∙ c .before .before .before .before .before .if1 .taken) (c .before .before .before .put-page .ensures)
 
--- src/lib.rt:127:48
 begun-requires : tie.Need-begun-requires
 begun-requires c κs = search needs
 
--- src/lib.rt:127:9
 walked-requires : tie.Need-walked-requires
 walked-requires c κs = let s = c .before .before .before .before .before .before .before .before .before .before .before .before .before .before .before .before .before in (s .pre .0, s .pre .1 .0)
 
--- src/lib.rt:128:5
 lists-requires-2 : tie.Need-lists-requires-2
 lists-requires-2 c κs = search needs
 
--- src/lib.rt:97:1
 same-length-2 : tie.Need-same-length-2
 same-length-2 c = search needs
 
--- src/lib.rt:97:1
 same-length-3 : tie.Need-same-length-3
 same-length-3 c = search needs
 
--- src/lib.rt:97:1
 returns-2 : tie.Need-returns-2
 unfolding levelOf
 returns-2 c =

@@ -12,35 +12,27 @@ use Rattle.levels.proofs.levels.Reads as levels-reads
 use Rattle.records.proofs.put16.Reads as put16-reads
 use Rattle.views.proofs.count_of.Reads as count-of-reads
 
--- src/lib.rt:284:20
 count-of-requires : tie.Need-count-of-requires
 count-of-requires c κs = search needs
 
--- src/lib.rt:284:5
 put16-requires : tie.Need-put16-requires
 put16-requires c κs = search needs
 
--- src/lib.rt:296:45
 slice-aggregate-levels : tie.Need-slice-aggregate-levels
 slice-aggregate-levels c = search needs
 
--- src/lib.rt:296:9
 levels-requires : tie.Need-levels-requires
 levels-requires c κs = search needs
 
--- src/lib.rt:297:5
 finished-requires : tie.Need-finished-requires
 finished-requires c κs = search needs
 
--- src/lib.rt:276:1
 same-length : tie.Need-same-length
 same-length c = search needs
 
--- src/lib.rt:276:1
 same-length-2 : tie.Need-same-length-2
 same-length-2 c = search needs
 
--- src/lib.rt:276:1
 returns : tie.Need-returns
 returns c = write-is (tablesOf (now (c .before .before .before .before .before .before .before .before .before .before .before .before .before .before .before .before .before .before .before .before .before .before .before .args .file))) _ _ _ _ _ _ _ _ _ _ _ (c .before .before .before .before .before .before .before .before .before .before .before .before .before .before .before .before .before .count-of .ensures) (c .before .before .before .before .before .before .before .before .before .before .before .before .before .before .before .before .put16 .ensures) refl (c .before .before .before .before .before .before .before .before .before .before .levels .ensures .0) (c .before .before .finished .ensures _)
 

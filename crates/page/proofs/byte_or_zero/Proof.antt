@@ -9,19 +9,15 @@ use Rattle.page.proofs.byte_or_zero.Reads as reads
 use Rattle.page.proofs.byte_or_zero.Lts as lts
 use Rattle.file.proofs.wide.Reads as wide-reads
 
--- src/lib.rt:33:30
 shared-slice-read-wide : tie.Need-shared-slice-read-wide
 shared-slice-read-wide c = search needs
 
--- src/lib.rt:33:25
 wide-requires : tie.Need-wide-requires
 wide-requires c κs = search needs
 
--- src/lib.rt:30:1
 returns : tie.Need-returns
 returns c = search needs
 
--- src/lib.rt:30:1
 returns-2 : tie.Need-returns-2
 returns-2 c = (sym (List·getD-eq-default (now (c .before .before .args .page)) 0 (c .if1 .left)), omega arith)
 

@@ -10,32 +10,25 @@ use Rattle.page.proofs.is_paged.Reads as reads
 use Rattle.page.proofs.is_paged.Lts as lts
 use Rattle.records.proofs.wide32.Reads as wide32-reads
 
--- src/lib.rt:24:8
 wide32-requires : tie.Need-wide32-requires
 wide32-requires c κs = search needs
 
--- src/lib.rt:24:27
 wide32-requires-2 : tie.Need-wide32-requires-2
 wide32-requires-2 c κs = search needs
 
--- src/lib.rt:24:8
 add-if1 : tie.Need-add-if1
 add-if1 c = search needs
 
--- src/lib.rt:25:9
 returns : tie.Need-returns
 unfolding countsOf sumsOf
 returns c = no-room (countsOf (c .before .before .before .args .c)) (omega arith)
 
--- src/lib.rt:27:5
 wide32-requires-3 : tie.Need-wide32-requires-3
 wide32-requires-3 c κs = search needs
 
--- src/lib.rt:27:23
 sub-result : tie.Need-sub-result
 sub-result c = search needs
 
--- src/lib.rt:21:1
 returns-2 : tie.Need-returns-2
 unfolding countsOf sumsOf
 returns-2 c = ap (λ k. leb k 2048) (c .wide323 .ensures .0) ∙ room (countsOf (c .before .before .before .before .args .c)) (omega arith)

@@ -15,63 +15,48 @@ Inv-loop page n plan₀ text node p₀ t₀ m₀ i₀ plan p t m i = Joining pag
 abbrev μ-loop : tie.MeasureT-loop
 μ-loop page n plan₀ text node p₀ t₀ m₀ i₀ plan p t m i = n - i
 
--- src/lib.rt:53:5
 loop-holds : tie.Need-loop-holds Inv-loop μ-loop
 loop-holds c = joining-start _ _ _ _ _
 
--- src/lib.rt:54:34
 add-word-in : tie.Need-add-word-in Inv-loop μ-loop
 add-word-in c = omega (arith, c .before .loop .inv .near)
 
--- src/lib.rt:54:13
 word-in-requires : tie.Need-word-in-requires Inv-loop μ-loop
 word-in-requires c κs = omega (arith, c .before .loop .inv .near)
 
--- src/lib.rt:55:18
 add-to : tie.Need-add-to Inv-loop μ-loop
 add-to c = omega (arith, c .before .before .loop .inv .near)
 
--- src/lib.rt:55:18
 add-to-2 : tie.Need-add-to-2 Inv-loop μ-loop
 add-to-2 c = omega (arith, c .before .before .loop .inv .near, c .word-in .ensures .1)
 
--- src/lib.rt:56:28
 add-copy-run : tie.Need-add-copy-run Inv-loop μ-loop
 add-copy-run c = omega (arith, c .before .before .loop .inv .near, c .word-in .ensures .1)
 
--- src/lib.rt:56:9
 copy-run-requires : tie.Need-copy-run-requires Inv-loop μ-loop
 copy-run-requires c κs = omega (arith, c .before .before .before .loop .inv .nodes)
 
--- src/lib.rt:57:24
 add-copy-run-2 : tie.Need-add-copy-run-2 Inv-loop μ-loop
 add-copy-run-2 c = omega (arith, c .before .before .before .before .before .before .loop .inv .near)
 
--- src/lib.rt:57:9
 copy-run-requires-2 : tie.Need-copy-run-requires-2 Inv-loop μ-loop
 copy-run-requires-2 c κs = omega (arith, c .before .before .before .before .before .before .before .loop .inv .texts)
 
--- src/lib.rt:58:13
 add-p : tie.Need-add-p Inv-loop μ-loop
 add-p c = omega (arith, c .before .before .before .before .before .before .before .before .before .before .loop .inv .near, c .before .before .before .before .before .before .before .before .word-in .ensures .1)
 
--- src/lib.rt:59:9
 add-t : tie.Need-add-t Inv-loop μ-loop
 add-t c = omega (arith, c .before .before .before .before .before .before .before .before .before .before .loop .inv .texts, c .before .before .before .before .before .before .before .before .word-in .ensures .1)
 
--- src/lib.rt:60:9
 add-m : tie.Need-add-m Inv-loop μ-loop
 add-m c = omega (arith, c .before .before .before .before .before .before .before .before .before .before .loop .inv .nodes)
 
--- src/lib.rt:61:9
 add-i : tie.Need-add-i Inv-loop μ-loop
 add-i c = omega arith
 
--- src/lib.rt:53:5
 loop-less : tie.Need-loop-less Inv-loop μ-loop
 loop-less c = omega (arith, c .before .before .before .before .before .before .before .before .before .loop-test .taken)
 
--- src/lib.rt:53:5
 loop-again : tie.Need-loop-again Inv-loop μ-loop
 loop-again c =
     joining-more _ _ _ _ _ _ _ _ _ _ (c .before .before .before .before .before .before .before .before .before .before .loop .inv) (c .before .before .before .before .before .before .before .before .before .loop-test .taken) _ _ _ _
@@ -79,11 +64,9 @@ loop-again c =
     (c .before .before .before .before .before .before .copy-run .ensures .is) (c .before .before .copy-run2 .ensures .is)
     (c .before .before .copy-run2 .kept .1 .1 .1 .0 ∙ c .before .before .before .before .before .before .copy-run .kept .1 .1 .1 .0)
 
--- src/lib.rt:45:1
 same-length : tie.Need-same-length Inv-loop μ-loop
 same-length c = c .before .loop .inv .size
 
--- src/lib.rt:45:1
 returns : tie.Need-returns Inv-loop μ-loop
 returns c = joining-end _ _ _ _ _ _ _ _ _ _ (c .before .loop .inv) (c .loop-test .left)
 

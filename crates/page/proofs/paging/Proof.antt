@@ -5,7 +5,6 @@ use Rattle.page.proofs.paging.Tie as tie
 use Rattle.page.proofs.paging.Reads as reads
 use Rattle.page.proofs.paging.Lts as lts
 
--- src/lib.rt:22:1
 returns : tie.Need-returns
 unfolding paging
 returns c = refl

@@ -10,31 +10,24 @@ use Rattle.page.proofs.put_parts.Reads as put-parts-reads
 use Rattle.plan_lists.proofs.copy_run.Reads as copy-run-reads
 use Rattle.records.proofs.wide32.Reads as wide32-reads
 
--- src/lib.rt:82:5
 put-parts-requires : tie.Need-put-parts-requires
 put-parts-requires c κs = search needs
 
--- src/lib.rt:86:21
 wide32-requires : tie.Need-wide32-requires
 wide32-requires c κs = search needs
 
--- src/lib.rt:86:9
 add-copy-run : tie.Need-add-copy-run
 add-copy-run c = search needs
 
--- src/lib.rt:88:9
 wide32-requires-2 : tie.Need-wide32-requires-2
 wide32-requires-2 c κs = search needs
 
--- src/lib.rt:83:5
 copy-run-requires : tie.Need-copy-run-requires
 copy-run-requires c κs = search needs
 
--- src/lib.rt:79:1
 same-length : tie.Need-same-length
 same-length c = search needs
 
--- src/lib.rt:79:1
 returns : tie.Need-returns
 unfolding countsOf sumsOf
 returns c =

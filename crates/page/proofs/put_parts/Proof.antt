@@ -12,62 +12,48 @@ use Rattle.page.proofs.join_parts.Reads as join-parts-reads
 use Rattle.plan_lists.proofs.copy_run.Reads as copy-run-reads
 use Rattle.records.proofs.wide32.Reads as wide32-reads
 
--- src/lib.rt:69:9
 wide32-requires : tie.Need-wide32-requires
 wide32-requires c κs = search needs
 
--- src/lib.rt:71:17
 wide32-requires-2 : tie.Need-wide32-requires-2
 wide32-requires-2 c κs = search needs
 
--- src/lib.rt:71:37
 wide32-requires-3 : tie.Need-wide32-requires-3
 wide32-requires-3 c κs = search needs
 
--- src/lib.rt:71:17
 add-n : tie.Need-add-n
 add-n c = search needs
 
--- src/lib.rt:72:42
 wide32-requires-4 : tie.Need-wide32-requires-4
 wide32-requires-4 c κs = search needs
 
--- src/lib.rt:72:9
 join-parts-requires : tie.Need-join-parts-requires
 join-parts-requires c κs = search needs
 
--- src/lib.rt:73:9
 same-length : tie.Need-same-length
 same-length c = search needs
 
--- src/lib.rt:73:9
 returns : tie.Need-returns
 unfolding countsOf sumsOf
 returns c =
     let a = c .before .before .before .before .before .before .before .before .before .before .before .args in
     parts-joined (targetOf (a .t)) (countsOf (a .c)) (now (a .page)) (now (a .plan)) _ _ _ _ (omega (arith, c .before .before .before .before .before .wide323 .ensures .0, c .before .before .before .before .before .before .wide322 .ensures .0)) (c .before .before .before .before .before .before .before .before .wide32 .ensures .0) (c .before .before .before .wide324 .ensures .0) (c .before .before .before .before .before .before .before .if1 .taken) (c .before .before .join-parts .ensures)
 
--- src/lib.rt:75:23
 wide32-requires-5 : tie.Need-wide32-requires-5
 wide32-requires-5 c κs = search needs
 
--- src/lib.rt:75:42
 wide32-requires-6 : tie.Need-wide32-requires-6
 wide32-requires-6 c κs = search needs
 
--- src/lib.rt:75:23
 add-copy-run : tie.Need-add-copy-run
 add-copy-run c = search needs
 
--- src/lib.rt:75:5
 copy-run-requires : tie.Need-copy-run-requires
 copy-run-requires c κs = search needs
 
--- src/lib.rt:66:1
 same-length-2 : tie.Need-same-length-2
 same-length-2 c = search needs
 
--- src/lib.rt:66:1
 returns-2 : tie.Need-returns-2
 unfolding countsOf sumsOf
 returns-2 c =

@@ -7,27 +7,21 @@ use Rattle.page.proofs.word_in.Reads as reads
 use Rattle.page.proofs.word_in.Lts as lts
 use Rattle.page.proofs.byte_or_zero.Reads as byte-or-zero-reads
 
--- src/lib.rt:41:5
 byte-or-zero-requires : tie.Need-byte-or-zero-requires
 byte-or-zero-requires c κs = search needs
 
--- src/lib.rt:41:54
 add-byte-or-zero : tie.Need-add-byte-or-zero
 add-byte-or-zero c = search needs
 
--- src/lib.rt:41:35
 byte-or-zero-requires-2 : tie.Need-byte-or-zero-requires-2
 byte-or-zero-requires-2 c κs = search needs
 
--- src/lib.rt:41:29
 mul-result : tie.Need-mul-result
 mul-result c = search needs
 
--- src/lib.rt:41:5
 add-result : tie.Need-add-result
 add-result c = search needs
 
--- src/lib.rt:37:1
 returns : tie.Need-returns
 unfolding pageWord
 returns c = (omega (arith, c .before .byte-or-zero .ensures .0, c .byte-or-zero2 .ensures .0), omega (arith, c .before .byte-or-zero .ensures .1, c .byte-or-zero2 .ensures .1))
