@@ -19,10 +19,9 @@ use Rattle.rules.proofs.Constants.{constant-is}
 use Rattle.constant.specs.Sizes.{viewOf, constView}
 use Rattle.constant.specs.declared.Const.{Const}
 use Rattle.constant.specs.declared.Const.the-variants as Co
-use Rattle.constant.proofs.Known.{known-nothing}
-use Rattle.seek.specs.Narrow.{narrowedBy}
+use Rattle.seek.specs.Narrow.{constOf, narrowedBy}
 use Rattle.walk.specs.Walk.{diagnosed}
-use Rattle.constrain.specs.Constrain.{isNothing, isSome, narrowOr}
+use Rattle.constrain.specs.Constrain.{isNothing, isSome, Known, narrowOr}
 
 -- a number past the nodes is no constant
 error-at : (T : Tables) (n : ℕ) → length (T .nodes) ≤ n → nodeAt T n ≡ Node.Error
@@ -49,57 +48,52 @@ view-none : (T : Tables) (n t : ℕ) → constant T n t ≡ none → constView T
 unfolding constView
 view-none T n t e = ap (viewOf T n t) e
 
--- there is none
 module _ (T : Tables) (n t : ℕ) where
-  pub none-past : Sound T → t < length (T .types) → length (T .nodes) ≤ n → constant T n t ≡ none
-  none-past S h g = past-nodes T S n t h g
-
-  pub none-known : (r : Const) → r ≡ constView T n t → isNothing r ≡ true → constant T n t ≡ none
-  none-known r e q = known-nothing T n t (sym e ∙ nothing-is r q)
-
-  pub none-told : constant T n t ≡ none → false ≡ isSome (constant T n t)
-  none-told e = ap isSome (sym e)
-
-  pub none-narrows : (m : ℕ) (path : File.FieldPath) (s : State) → constant T n t ≡ none → s ≡ narrowedBy T m (constant T n t) path s
-  unfolding narrowedBy
-  none-narrows m path s e = ap (λ (o : Option ConstantRules.Const). narrowedBy T m o path s) (sym e)
-
-  -- there is one
-  pub some-told : (r : Const) → r ≡ constView T n t → isNothing r ≡ false → true ≡ isSome (constant T n t)
+  some-told : (r : Const) → r ≡ constView T n t → isNothing r ≡ false → true ≡ isSome (constant T n t)
   some-told r v h = go (constant T n t) refl
     where
       go : (o : Option ConstantRules.Const) → constant T n t ≡ o → true ≡ isSome o
       go none g = absurd (true≢false (sym (something r (v ∙ view-none T n t g)) ∙ h))
       go (some c) g = refl
 
--- what follows a narrowing that m made: f where there was a constant, k where there was none
-module _ {A : Type 0} (T : Tables) (m n t : ℕ) (path : File.FieldPath) (s₀ : State) (b : Bool) (s : State) (told : b ≡ isSome (constant T n t)) (is : s ≡ narrowedBy T m (constant T n t) path s₀) (f k : State → A) where
-  abbrev told-by : Bool → A
-  told-by x = elim x [ true ↦ f s | false ↦ k s ]
+  pub known-past : Sound T → t < length (T .types) → length (T .nodes) ≤ n → Known T n t Co.Nothing
+  unfolding constOf
+  known-past S h g = record { is = sym (past-nodes T S n t h g); some = λ e. absurd (true≢false e); made = λ e. absurd (true≢false e) }
 
+  pub known-here : n < length (T .nodes) → t < length (T .types) → (r : Const) → r ≡ constView T n t → constOf T r ≡ constant T n t → Known T n t r
+  known-here i h r v e =
+      record {
+        is = e;
+        some = some-told r v;
+        made = λ _. record { node = n; type = t; in-nodes = i; in-types = h; is = v };
+      }
+
+-- what goes on from a constant of node n that node m brought: f where there is one, k where there is none
+module _ {A : Type 0} (T : Tables) (m n t : ℕ) (path : File.FieldPath) (s₀ : State) (c : Const) (v : Known T n t c) (f k : State → A) where
   abbrev by : Option ConstantRules.Const → A
-  by o = elim o [ some c ↦ f (narrowBy (ops T) T m c path s₀) | none ↦ k s₀ ]
+  by o = elim o [ some x ↦ f (narrowBy (ops T) T m x path s₀) | none ↦ k s₀ ]
 
-  follows : (o : Option ConstantRules.Const) → b ≡ isSome o → s ≡ narrowedBy T m o path s₀ → told-by b ≡ by o
+  pub after-constant : isNothing c ≡ false → (s : State) → s ≡ narrowedBy T m (constOf T c) path s₀ → f s ≡ by (constant T n t)
   unfolding narrowedBy
-  follows none eb es = ap told-by eb ∙ ap k es
-  follows (some c) eb es = ap told-by eb ∙ ap f es
+  after-constant e s q = go (constant T n t) (v .some e) (q ∙ ap (λ (o : Option ConstantRules.Const). narrowedBy T m o path s₀) (v .is))
+    where
+      go : (o : Option ConstantRules.Const) → true ≡ isSome o → s ≡ narrowedBy T m o path s₀ → f s ≡ by o
+      go none b g = absurd (true≢false b)
+      go (some x) b g = ap f g
 
-  pub after-constant : b ≡ true → f s ≡ elim (constant T n t) [ some c ↦ f (narrowBy (ops T) T m c path s₀) | none ↦ k s₀ ]
-  after-constant e = ap told-by (sym e) ∙ follows (constant T n t) told is
-
-  pub after-none : b ≡ false → k s ≡ elim (constant T n t) [ some c ↦ f (narrowBy (ops T) T m c path s₀) | none ↦ k s₀ ]
-  after-none e = ap told-by (sym e) ∙ follows (constant T n t) told is
+  pub after-none : isNothing c ≡ true → k s₀ ≡ by (constant T n t)
+  unfolding constOf
+  after-none e = ap by (sym (ap (constOf T) (nothing-is c e)) ∙ v .is)
 
 module _ (T : Tables) (n t : ℕ) (path : File.FieldPath) (s₀ : State) where
-  module _ (b : Bool) (s : State) (told : b ≡ isSome (constant T n t)) (is : s ≡ narrowedBy T n (constant T n t) path s₀) (falls : Bool) where
-    pub or-yes : b ≡ true → s ≡ narrowOr T n t path falls s₀
+  module _ (c : Const) (v : Known T n t c) (falls : Bool) (s : State) where
+    pub or-yes : isNothing c ≡ false → s ≡ narrowedBy T n (constOf T c) path s₀ → s ≡ narrowOr T n t path falls s₀
     unfolding narrowOr
-    or-yes e = after-constant T n n t path s₀ b s told is (λ x. x) (diagnosed n Code.RejectTypeMismatch falls) e
+    or-yes e q = after-constant T n n t path s₀ c v (λ x. x) (diagnosed n Code.RejectTypeMismatch falls) e s q
 
-    pub or-no : b ≡ false → (s′ : State) → s′ ≡ diagnosed n Code.RejectTypeMismatch falls s → s′ ≡ narrowOr T n t path falls s₀
+    pub or-no : isNothing c ≡ true → s ≡ diagnosed n Code.RejectTypeMismatch falls s₀ → s ≡ narrowOr T n t path falls s₀
     unfolding narrowOr
-    or-no e s′ q = q ∙ after-none T n n t path s₀ b s told is (λ x. x) (diagnosed n Code.RejectTypeMismatch falls) e
+    or-no e q = q ∙ after-none T n n t path s₀ c v (λ x. x) (diagnosed n Code.RejectTypeMismatch falls) e
 
   pub ranged-is : (s : State) → s ≡ narrowOr T n t path false s₀ → (a : ℕ) (below : FieldWalk State) → s ≡ ranged (ops T) T a below n t path s₀
   unfolding ranged narrowOr

@@ -2,6 +2,7 @@
 use Prim.Native.Nat.{ℕ}
 use mathlib.Core.Bool.{Bool, true, false}
 use mathlib.Core.Option.{Option, none, some}
+use mathlib.Core.Path.{_≡_}
 use lib.Dec.{eqb}
 use Rattle.rules.specs.Base.{first}
 use Rattle.rules.specs.File as File
@@ -11,6 +12,7 @@ use Rattle.rules.specs.Events.{Code}
 use Rattle.rules.specs.Walk.{narrowBy, rank}
 use Rattle.state.specs.State.{State}
 use Rattle.state.specs.Ops.{ops}
+use Rattle.seek.specs.Narrow.{IsConstant, constOf}
 use Rattle.walk.specs.Walk.{diagnosed}
 use Rattle.constant.specs.declared.Const.{Const}
 use Rattle.constant.specs.declared.Const.the-variants as Co
@@ -25,6 +27,12 @@ isNothing (Co.Fuzzy x d a) = false
 abbrev pub isSome : {A : Type 0} → Option A → Bool
 isSome none = false
 isSome (some c) = true
+
+-- c is the constant of node n at type t, if it has one
+pub record Known (T : Tables) (n t : ℕ) (c : Const) : Type 0 where
+  pub is : constOf T c ≡ constant T n t
+  pub some : isNothing c ≡ false → true ≡ isSome (constant T n t)
+  pub made : isNothing c ≡ false → IsConstant T c
 
 -- a pattern that is no constant at the type of its field is reported; the flag says whether building falls there
 unfoldable pub narrowOr : Tables → ℕ → ℕ → File.FieldPath → Bool → State → State

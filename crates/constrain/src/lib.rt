@@ -4,7 +4,6 @@ ghost use mathlib.Core.List.{List};
 ghost use Prim.Native.Nat.{ℕ, _<_};
 ghost use lib.ListN.{length};
 ghost use Rattle.rules.specs.File.{nodeAt};
-ghost use Rattle.rules.specs.Constant as Constants;
 ghost use Rattle.rules.specs.Walk as WalkRules;
 ghost use Rattle.rules.specs.Walk.{FieldWalk};
 ghost use Rattle.state.specs.State.{State};
@@ -14,9 +13,9 @@ ghost use Rattle.paths.specs.Paths.{pathOf};
 ghost use Rattle.views.specs.Views.{anchorOf, constraintAt};
 ghost use Rattle.accepted_file.specs.AcceptedFile.{AcceptedFile};
 ghost use Rattle.tables.specs.Tables.{foundOption};
-ghost use Rattle.seek.specs.Narrow.{narrowedBy};
+ghost use Rattle.seek.specs.Narrow.{IsConstant, constOf, narrowedBy};
 ghost use Rattle.walk.specs.Walk.{walkState};
-ghost use Rattle.constrain.specs.Constrain.{isNothing, isSome, narrowOr, patternFor, isConstrained};
+ghost use Rattle.constrain.specs.Constrain.{isNothing, Known, narrowOr, patternFor, isConstrained};
 use constant::Const;
 use constant::constant;
 use file::CONSTRAINTS;
@@ -32,13 +31,8 @@ use views::count_of;
 use views::node_of;
 use walk::Walk;
 
-// Whether there was a constant that narrowed the walk.
-pub struct Narrowed {
-    pub some: bool,
-    pub walk: Walk,
-}
-
-fn is_nothing(c: Const) -> bool
+// Whether there is no constant.
+pub fn is_nothing(c: Const) -> bool
     ensures { λ r. ⌜ r ≡ isNothing c ⌝ }
 {
     match c {
@@ -49,44 +43,39 @@ fn is_nothing(c: Const) -> bool
     }
 }
 
-// The walk narrowed by the constant that `folded` is at a type, if it is one; `node` is what made the narrowing.
+// The constant that a node is at a type.
+pub fn known(file: &[u8], index: &[u16], node: usize, ty: usize) -> Const
+    requires { ⌜ AcceptedFile (now file) (now index) ⌝ }
+    requires { ⌜ ty < length (tablesOf (now file) .types) ⌝ }
+    ensures { λ r. ⌜ Known (tablesOf (now (file .entry))) node ty r ⌝ }
+{
+    if node >= count_of(file, index, NODES) {
+        return Const::Nothing;
+    }
+    constant(file, index, node, ty)
+}
+
+// The walk narrowed by a constant; `node` is what made the narrowing.
 pub fn narrow(
     file: &[u8],
     index: &[u16],
     plan: &mut [u8],
     node: usize,
-    folded: usize,
-    ty: usize,
+    c: Const,
     path: FieldPath,
     w: Walk,
-) -> Narrowed
-    requires { ⌜ AcceptedFile (now file) (now index) ⌝ }
-    requires { ⌜ ty < length (tablesOf (now file) .types) ⌝ }
-    ensures tells { λ r. ⌜ r .some ≡ isSome (Constants.constant (tablesOf (now (file .entry))) folded ty) ⌝ }
-    ensures narrows { λ r. ⌜ (
+) -> Walk
+    requires { ⌜ AcceptedFile (now file) (now index) × IsConstant (tablesOf (now file)) c ⌝ }
+    ensures { λ r. ⌜ (
         (work : List ℕ) →
         let T = tablesOf (now (file .entry)) in
         let before = walkState T w work (now (plan .entry)) in
-        let after = walkState T (r .walk) work (now (plan .exit)) in
-        after ≡ narrowedBy T node (Constants.constant T folded ty) (pathOf path) before
+        let after = walkState T r work (now (plan .exit)) in
+        after ≡ narrowedBy T node (constOf T c) (pathOf path) before
         ) ⌝ }
 {
-    if folded >= count_of(file, index, NODES) {
-        return Narrowed {
-            some: false,
-            walk: w,
-        };
-    }
-    let c = constant(file, index, folded, ty);
-    if is_nothing(c) {
-        return Narrowed {
-            some: false,
-            walk: w,
-        };
-    }
     let l = narrowed(file, index, c, path, node, w.level, plan);
-    let walk = w.placed(l);
-    Narrowed { some: true, walk }
+    w.placed(l)
 }
 
 // Narrowed by a node's constant. Without one the node is mistyped; `falls` says whether building falls there.
@@ -110,12 +99,11 @@ fn narrow_or_report(
         after ≡ narrowOr T node ty (pathOf path) falls before
         ) ⌝ }
 {
-    let n = narrow(file, index, plan, node, node, ty, path, w);
-    let walk = n.walk;
-    if n.some {
-        return walk;
+    let c = known(file, index, node, ty);
+    if is_nothing(c) {
+        return w.diagnose(work, node, Code::RejectTypeMismatch, falls);
     }
-    walk.diagnose(work, node, Code::RejectTypeMismatch, falls)
+    narrow(file, index, plan, node, c, path, w)
 }
 
 // A Prefix or a Fuzzy at a field. One that is mistyped is reported and leaves building as it is.

@@ -1,13 +1,13 @@
 -- What `inject` goes on with: the whole constant, a diagnostic, or the alternative that is named.
 use Prim.Native.Nat.{ℕ, zero, suc, _+_, _*_}
 use mathlib.Core.Path.{_≡_, refl, sym, ap, _∙_, subst}
-use mathlib.Core.Bool.{Bool, true, false}
+use mathlib.Core.Bool.{true, false}
 use mathlib.Core.List.{List}
 use mathlib.Core.Option.{Option, none, some}
 use native.Mathlib.Omega.{arith}
 use Rattle.rules.specs.File as File
 use Rattle.rules.specs.File.{Tables, FieldPattern, typeAt, nodeAt, recordFields, unionTy}
-use Rattle.rules.specs.Constant.{constant, onlyField, alternativeOf}
+use Rattle.rules.specs.Constant.{onlyField, alternativeOf}
 use Rattle.rules.specs.Events.{Code}
 use Rattle.state.specs.State.{State}
 use Rattle.state.specs.Ops.{report, skip}
@@ -21,8 +21,9 @@ use Rattle.tables.specs.declared.Run.{Run}
 use Rattle.tables.specs.declared.Run.the-variants as Ru
 use Rattle.walk.specs.Walk.{walkState}
 use Rattle.walk.specs.declared.Walk.{Walk}
-use Rattle.seek.specs.Narrow.{narrowedBy}
-use Rattle.constrain.specs.Constrain.{isSome}
+use Rattle.constant.specs.declared.Const.{Const}
+use Rattle.seek.specs.Narrow.{constOf, narrowedBy}
+use Rattle.constrain.specs.Constrain.{isNothing, Known}
 use Rattle.constrain.proofs.Narrowings.{after-constant, after-none}
 use Rattle.field_cases.specs.FieldCases.{Choosing, unchosen, choosingOf, namedChoice, onlyChoice, alternativeChoice, choosing}
 use Rattle.field_cases.specs.declared.Choice.the-variants as Ch
@@ -37,14 +38,14 @@ module _ (T : Tables) (n t : ℕ) where
   alternative s = alternativeChoice (recordFields (nodeAt T n)) (unionTy (typeAt T t)) n s
 
   -- the whole union's constant, or its alternative
-  module _ (path : File.FieldPath) (s₀ : State) (b : Bool) (s : State) (told : b ≡ isSome (constant T n t)) (is : s ≡ narrowedBy T n (constant T n t) path s₀) where
-    pub whole-constant : b ≡ true → unchosen s ≡ choosing T n t path s₀
+  module _ (path : File.FieldPath) (s₀ : State) (c : Const) (v : Known T n t c) where
+    pub whole-constant : isNothing c ≡ false → (s : State) → s ≡ narrowedBy T n (constOf T c) path s₀ → unchosen s ≡ choosing T n t path s₀
     unfolding choosing
-    whole-constant e = after-constant T n n t path s₀ b s told is unchosen alternative e
+    whole-constant e s q = after-constant T n n t path s₀ c v unchosen alternative e s q
 
-    pub whole-other : b ≡ false → (x : Choosing) → x ≡ alternativeChoice (recordFields (nodeAt T n)) (unionTy (typeAt T t)) n s → x ≡ choosing T n t path s₀
+    pub whole-other : isNothing c ≡ true → (x : Choosing) → x ≡ alternativeChoice (recordFields (nodeAt T n)) (unionTy (typeAt T t)) n s₀ → x ≡ choosing T n t path s₀
     unfolding choosing
-    whole-other e x q = q ∙ after-none T n n t path s₀ b s told is unchosen alternative e
+    whole-other e x q = q ∙ after-none T n n t path s₀ c v unchosen alternative e
 
   module _ (s : State) (f : List ℕ) (pr : Run) (pairs : SeenRun f (patternAt f) 4 (recordFields (nodeAt T n)) pr) where
     pub no-record : pr ≡ Ru.Nothing → unchosen s ≡ alternative s

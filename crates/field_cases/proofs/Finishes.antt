@@ -14,18 +14,23 @@ use Rattle.rules.specs.File.{Tables, Node, FieldPattern, Alternative, typeAt, n
 use Rattle.rules.specs.Constant.{Const, constant, onlyField, alternativeOf}
 use Rattle.rules.specs.Events.{Narrowing}
 use Rattle.rules.specs.Resolve.{Answer, Resolver, give, resolveNode, resolveBelow, resolve}
-use Rattle.rules.specs.Walk.{FieldWalk, narrowBy, constrain, unresolved, partial, matched, injectAlternative, injectOnly, inject, readAnswer, read, ranged, variable, fieldNode}
+use Rattle.rules.specs.Walk.{FieldWalk, narrowBy, constrain, matched, injectAlternative, injectOnly, inject, readAnswer, read, ranged, variable, fieldNode}
 use Rattle.rules.proofs.Cases.{some≢none}
 use Rattle.rules.proofs.BottomUp.{at-place}
 use Rattle.rules.proofs.Each.{each-first}
 use Rattle.rules.proofs.Keeps.{union-children}
 use Rattle.rules.proofs.Sound.{Sound, Child}
 use Rattle.state.specs.State.{State}
-use Rattle.state.specs.Ops.{ops, bind, narrow, closer}
+use Rattle.state.specs.Ops.{ops, bind, report, skip, narrow, closer}
+use Rattle.lists.specs.Lists.{codeOf}
+use Rattle.resolve.proofs.Steps as Resolved
+use Rattle.resolve.proofs.Answers.{resolve-constant}
 use Rattle.file.proofs.Readers.{lt-or-le}
 use Rattle.field_cases.specs.Pieces.{Lower}
 use Rattle.field_cases.specs.FieldCases as Begin
-use Rattle.field_cases.specs.FieldCases.{isInjection, Start, piecesStart, readStart, variableStart, nodeStart, start, Meeting, meeting, Payload, Choosing, namedChoice, onlyChoice, alternativeChoice, choosing, injectFields, injectAt}
+use Rattle.field_cases.specs.declared.Way.{Way}
+use Rattle.field_cases.specs.declared.Way.the-variants as Wy
+use Rattle.field_cases.specs.FieldCases.{isInjection, literalWay, nodeWay, wayAt, meeting, Payload, Choosing, namedChoice, onlyChoice, alternativeChoice, choosing, injectFields, injectAt}
 
 -- a Var is resolved by its name
 module _ (T : Tables) (n x : ℕ) (v : nodeAt T n ≡ Node.Var x) where
@@ -51,42 +56,51 @@ module _ (T : Tables) (n x : ℕ) (v : nodeAt T n ≡ Node.Var x) where
   unfolding resolve
   var-resolved s = var-below (length (T .nodes)) var-inside s
 
+-- the node of a constant
+abbrev pub constNode : File.Slot → Option ℕ
+constNode (File.Slot.Row from p) = none
+constNode (File.Slot.Key from u) = none
+constNode (File.Slot.Derived from) = none
+constNode (File.Slot.Field from at u) = none
+constNode (File.Slot.Value from u) = none
+constNode (File.Slot.Const folded) = some folded
+
 module _ (T : Tables) (a : ℕ) (below : FieldWalk State) where
-  -- `field` of a pattern that is no union value, past its match on the pattern
-  unfoldable pub finish : Start → ℕ → ℕ → File.FieldPath → State
-  finish (Start.Done s) n t path = s
-  finish (Start.Matched slot s) n t path = matched (ops T) T a below n slot t path s
-  finish (Start.Partial s) n t path = partial (ops T) T a below n t path s
+  -- `field` by its way
+  unfoldable pub byWay : Way → ℕ → ℕ → File.FieldPath → State → State
+  byWay Wy.Union n t path s = injectAt T a below n t path s
+  byWay Wy.Skip n t path s = skip s
+  byWay (Wy.Report code) n t path s = report n (codeOf code) (skip s)
+  byWay Wy.Range n t path s = ranged (ops T) T a below n t path s
+  byWay Wy.Constant n t path s = matched (ops T) T a below n (File.Slot.Const n) t path s
+  byWay (Wy.Variable x) n t path s =
+      elim (ops T .lookup s x) [
+        | none ↦ constrain (ops T) T x t path (bind x (File.Slot.Field a path t) s)
+        | some slot ↦ matched (ops T) T a below n slot t path s
+      ]
+  byWay Wy.Read n t path s = read (ops T) T a below n t path s
 
-  module _ (n t : ℕ) (path : File.FieldPath) (s : State) where
-    abbrev done : Start → State
-    done x = finish x n t path
+  module _ (low : Resolved.Lower T) (n t : ℕ) (path : File.FieldPath) (s : State) where
+    abbrev done : Way → State
+    done x = byWay x n t path s
 
-    read-finished : done (readStart T n s) ≡ read (ops T) T a below n t path s
-    unfolding readStart read finish readAnswer piecesStart
-    read-finished = go (resolve (ops T) T n s .slot) (resolve (ops T) T n s .walk)
-      where
-        pieces : (o : Option (List FieldPattern)) (x : State) → done (elim o [ some fields ↦ Start.Partial x | none ↦ Start.Done (unresolved (ops T) T n s x) ]) ≡ elim o [ some fields ↦ partial (ops T) T a below n t path x | none ↦ unresolved (ops T) T n s x ]
-        pieces none x = refl
-        pieces (some fields) x = refl
+    abbrev answered : Answer State → State
+    answered r = readAnswer (ops T) T a below n (r .slot) t path s (r .walk)
 
-        go : (o : Option File.Slot) (x : State) → done (elim o [ some slot ↦ Start.Matched slot x | none ↦ piecesStart T n s x ]) ≡ readAnswer (ops T) T a below n o t path s x
-        go none x = pieces (recordFields (nodeAt T n)) x
-        go (some slot) x = refl
+    -- a constant is its own location
+    literal-finished : (b : Bool) → isConstant T n ≡ b → done (literalWay b) ≡ read (ops T) T a below n t path s
+    unfolding byWay literalWay read readAnswer give
+    literal-finished false e = refl
+    literal-finished true e = ap answered (sym (resolve-constant T low n s e))
 
-    variable-finished : (x : ℕ) → nodeAt T n ≡ Node.Var x → done (variableStart T a x t path s) ≡ variable (ops T) T a below x n t path s
-    unfolding variableStart variable finish read readAnswer
+    variable-finished : (x : ℕ) → nodeAt T n ≡ Node.Var x → done (Wy.Variable x) ≡ variable (ops T) T a below x n t path s
+    unfolding byWay variable read readAnswer
     variable-finished x v = go (ops T .lookup s x) refl
       where
-        go : (o : Option File.Slot) → ops T .lookup s x ≡ o → done (elim o [ none ↦ Start.Done (constrain (ops T) T x t path (bind x (File.Slot.Field a path t) s)) | some slot ↦ Start.Matched slot s ]) ≡ elim o [ none ↦ constrain (ops T) T x t path (bind x (File.Slot.Field a path t) s) | some slot ↦ read (ops T) T a below n t path s ]
+        go : (o : Option File.Slot) → ops T .lookup s x ≡ o → _≡_ {A = State} (elim o [ none ↦ constrain (ops T) T x t path (bind x (File.Slot.Field a path t) s) | some slot ↦ matched (ops T) T a below n slot t path s ]) (elim o [ none ↦ constrain (ops T) T x t path (bind x (File.Slot.Field a path t) s) | some slot ↦ read (ops T) T a below n t path s ])
         go none e = refl
         go (some slot) e =
-            ap (λ (o : Option File.Slot). readAnswer (ops T) T a below n o t path s s) (sym e)
-            ∙ ap (λ (r : Answer State). readAnswer (ops T) T a below n (r .slot) t path s (r .walk)) (sym (var-resolved T n x v s))
-
-    -- `field`, past its test for a union value
-    abbrev either : Bool → Start → State
-    either b x = elim b [ true ↦ injectAt T a below n t path s | false ↦ done x ]
+            ap (λ (o : Option File.Slot). readAnswer (ops T) T a below n o t path s s) (sym e) ∙ ap answered (sym (var-resolved T n x v s))
 
     -- `injectAt` is `inject` of a record against a union
     module _ (fs : List FieldPattern) (e : recordFields (nodeAt T n) ≡ some fs) where
@@ -99,57 +113,44 @@ module _ (T : Tables) (a : ℕ) (below : FieldWalk State) where
       abbrev opens-as : Option (List Alternative) → State
       opens-as o = elim o [ some alts ↦ inject (ops T) T a below fs alts n t path s | none ↦ read (ops T) T a below n t path s ]
 
-      record-finished : (o : Option (List Alternative)) → unionTy (typeAt T t) ≡ o → either (isInjection (some fs) o) (readStart T n s) ≡ opens-as o
-      unfolding isInjection
-      record-finished none g = read-finished
+      record-finished : (o : Option (List Alternative)) → unionTy (typeAt T t) ≡ o → done (elim (isInjection (some fs) o) [ true ↦ Wy.Union | false ↦ literalWay (isConstant T n) ]) ≡ opens-as o
+      unfolding isInjection byWay
+      record-finished none g = literal-finished (isConstant T n) refl
       record-finished (some alts) g = inject-is alts g
 
-    node-finished : (node : Node) → nodeAt T n ≡ node → either (isInjection (recordFields node) (unionTy (typeAt T t))) (nodeStart T a node n t path s) ≡ fieldNode (ops T) T a below node n t path s
-    unfolding nodeStart fieldNode finish ranged recordFields isInjection
-    node-finished (Node.Int bytes) e = read-finished
-    node-finished (Node.Str x) e = read-finished
-    node-finished (Node.Bytes bytes) e = read-finished
+    node-finished : (node : Node) → nodeAt T n ≡ node → done (elim (isInjection (recordFields node) (unionTy (typeAt T t))) [ true ↦ Wy.Union | false ↦ nodeWay (isConstant T n) node ]) ≡ fieldNode (ops T) T a below node n t path s
+    unfolding nodeWay fieldNode byWay recordFields isInjection
+    node-finished (Node.Int bytes) e = literal-finished (isConstant T n) refl
+    node-finished (Node.Str x) e = literal-finished (isConstant T n) refl
+    node-finished (Node.Bytes bytes) e = literal-finished (isConstant T n) refl
     node-finished (Node.Var x) e = variable-finished x e
     node-finished Node.Wildcard e = refl
     node-finished Node.Never e = refl
     node-finished (Node.Prefix x) e = refl
     node-finished (Node.Fuzzy x d y) e = refl
     node-finished (Node.Record fs) e = record-finished fs (ap recordFields e) (unionTy (typeAt T t)) refl
-    node-finished (Node.Access x i) e = read-finished
-    node-finished (Node.Value i) e = read-finished
-    node-finished (Node.Select x i) e = read-finished
+    node-finished (Node.Access x i) e = literal-finished (isConstant T n) refl
+    node-finished (Node.Value i) e = literal-finished (isConstant T n) refl
+    node-finished (Node.Select x i) e = literal-finished (isConstant T n) refl
     node-finished Node.Disjunction e = refl
-    node-finished Node.Subquery e = read-finished
-    node-finished (Node.Fact p i) e = read-finished
-    node-finished Node.Arith e = read-finished
-    node-finished Node.Error e = read-finished
+    node-finished Node.Subquery e = literal-finished (isConstant T n) refl
+    node-finished (Node.Fact p i) e = literal-finished (isConstant T n) refl
+    node-finished Node.Arith e = literal-finished (isConstant T n) refl
+    node-finished Node.Error e = literal-finished (isConstant T n) refl
 
-    told : (b : Bool) → isInjection (recordFields (nodeAt T n)) (unionTy (typeAt T t)) ≡ b → either b (start T a n t path s) ≡ fieldNode (ops T) T a below (nodeAt T n) n t path s
-    unfolding start
-    told b e = ap (λ (x : Bool). either x (nodeStart T a (nodeAt T n) n t path s)) (sym e) ∙ node-finished (nodeAt T n) refl
+    pub way-finished : done (wayAt T n t) ≡ fieldNode (ops T) T a below (nodeAt T n) n t path s
+    unfolding wayAt
+    way-finished = node-finished (nodeAt T n) refl
 
-    pub injection-finished : isInjection (recordFields (nodeAt T n)) (unionTy (typeAt T t)) ≡ true → injectAt T a below n t path s ≡ fieldNode (ops T) T a below (nodeAt T n) n t path s
-    injection-finished e = told true e
-
-    pub start-finished : isInjection (recordFields (nodeAt T n)) (unionTy (typeAt T t)) ≡ false → finish (start T a n t path s) n t path ≡ fieldNode (ops T) T a below (nodeAt T n) n t path s
-    start-finished e = told false e
-
-  -- `matched`, past its match on the slot: a Const without bytes is opened
-  unfoldable pub opened : Meeting → ℕ → File.FieldPath → State
-  opened m t path = elim (m .opens) [ none ↦ m .state | some n ↦ partial (ops T) T a below n t path (m .state) ]
-
-  pub meeting-finished : (n : ℕ) (slot : File.Slot) (t : ℕ) (path : File.FieldPath) (s : State) → opened (meeting T a n slot t path s) t path ≡ matched (ops T) T a below n slot t path s
-  unfolding opened meeting matched
-  meeting-finished n (File.Slot.Row from p) t path s = refl
-  meeting-finished n (File.Slot.Key from u) t path s = refl
-  meeting-finished n (File.Slot.Derived from) t path s = refl
-  meeting-finished n (File.Slot.Field from at u) t path s = refl
-  meeting-finished n (File.Slot.Value from u) t path s = refl
-  meeting-finished n (File.Slot.Const folded) t path s = go (constant T folded t)
-    where
-      go : (o : Option Const) → opened (elim o [ some c ↦ Begin.settled (narrowBy (ops T) T n c path s) | none ↦ record { opens = some folded; state = s } ]) t path ≡ elim o [ some c ↦ narrowBy (ops T) T n c path s | none ↦ partial (ops T) T a below folded t path s ]
-      go none = refl
-      go (some c) = refl
+  -- `matched` of a slot that is no constant
+  pub meeting-finished : (n : ℕ) (slot : File.Slot) (t : ℕ) (path : File.FieldPath) (s : State) → constNode slot ≡ none → meeting T a n slot t path s ≡ matched (ops T) T a below n slot t path s
+  unfolding meeting matched
+  meeting-finished n (File.Slot.Row from p) t path s e = refl
+  meeting-finished n (File.Slot.Key from u) t path s e = refl
+  meeting-finished n (File.Slot.Derived from) t path s e = refl
+  meeting-finished n (File.Slot.Field from at u) t path s e = refl
+  meeting-finished n (File.Slot.Value from u) t path s e = refl
+  meeting-finished n (File.Slot.Const folded) t path s e = absurd (some≢none folded e)
 
   -- `inject`, with an alternative: tag, payload, closer
   unfoldable pub injected : ℕ → Choosing → File.FieldPath → State

@@ -1,15 +1,13 @@
--- What `matched` goes on with, by the slot's kind.
+-- `matched` of a slot that is no constant, by the slot's kind.
 use Prim.Native.Nat.{ℕ}
 use mathlib.Core.Path.{_≡_, sym, ap, _∙_}
 use mathlib.Core.Bool.{Bool, true, false}
-use mathlib.Core.List.{List}
 use mathlib.Core.Option.{Option, some}
 use lib.Dec.{eqb}
 use borrow.Author.Tests.{eq-eqb, ne-eqb}
 use Rattle.rules.specs.File as File
 use Rattle.rules.specs.File.{Tables, typeAt, factTy}
 use Rattle.rules.specs.Events.{Code, Narrowing}
-use Rattle.rules.specs.Constant.{constant}
 use Rattle.rules.specs.Walk.{FieldWalk, refersTo, matched}
 use Rattle.state.specs.State.{State}
 use Rattle.state.specs.Ops.{ops, narrow, report, skip}
@@ -23,14 +21,7 @@ use Rattle.slots.specs.Slots.{slotOf, slotWith}
 use Rattle.slots.specs.declared.Slot.{Slot}
 use Rattle.slots.specs.declared.SlotKind.{SlotKind}
 use Rattle.slots.specs.declared.SlotKind.the-variants as Sk
-use Rattle.walk.specs.Walk.{walkState}
-use Rattle.walk.specs.declared.Walk.{Walk}
-use Rattle.tables.specs.declared.Found.the-variants as Fo
-use Rattle.seek.specs.Narrow.{narrowedBy}
-use Rattle.constrain.specs.Constrain.{isSome}
-use Rattle.constrain.proofs.Narrowings.{after-constant, after-none}
-use Rattle.field_cases.specs.FieldCases.{still, Meeting, settled, meetingOf, meeting}
-use Rattle.field_cases.specs.declared.Met.{Met}
+use Rattle.field_cases.specs.FieldCases.{still, meeting}
 
 -- a row's predicate
 pub refers-none : (p : MaybePredicate) (q : Option ℕ) → p ≡ Mp.Nothing → false ≡ refersTo (predicateOption p) q
@@ -73,51 +64,35 @@ module _ (T : Tables) (a : ℕ) (below : FieldWalk State) (n from t : ℕ) (path
     unfolding matched
     field-other e s g = g ∙ ap own (sym (ne-eqb _ _ e))
 
--- a walk that goes on with nothing
-pub settled-is : (T : Tables) (r : Met) (w : Walk) (work plan : List ℕ) → r ≡ record { opens = Fo.Nothing; walk = w } → meetingOf r (walkState T (r .walk) work plan) ≡ settled (walkState T w work plan)
-settled-is T r w work plan e = ap (λ (x : Met). meetingOf x (walkState T (x .walk) work plan)) e
-
 module _ (T : Tables) (a n t : ℕ) (path : File.FieldPath) (s₀ : State) where
-  -- a constant: its bytes, or its pieces
-  module _ (folded : ℕ) (b : Bool) (s : State) (told : b ≡ isSome (constant T folded t)) (is : s ≡ narrowedBy T n (constant T folded t) path s₀) where
-    abbrev pieces : State → Meeting
-    pieces x = record { opens = some folded; state = x }
-
-    pub const-bytes : b ≡ true → settled s ≡ meeting T a n (File.Slot.Const folded) t path s₀
-    unfolding meeting
-    const-bytes e = after-constant T n folded t path s₀ b s told is settled pieces e
-
-    pub const-pieces : b ≡ false → record { opens = some folded; state = s } ≡ meeting T a n (File.Slot.Const folded) t path s₀
-    unfolding meeting
-    const-pieces e = after-none T n folded t path s₀ b s told is settled pieces e
-
   -- the slot by its kind
   module _ (slot : Slot) where
-    abbrev whole : Meeting
+    abbrev whole : State
     whole = meeting T a n (slotOf slot) t path s₀
 
     by-kind : (kind : SlotKind) → slot .kind ≡ kind → meeting T a n (slotWith kind (slot .path)) t path s₀ ≡ whole
     by-kind kind e = ap (λ (x : SlotKind). meeting T a n (slotWith x (slot .path)) t path s₀) (sym e)
 
-    pub of-row : (from : Address) (p : MaybePredicate) → slot .kind ≡ Sk.Row from p → (s : State) → ((b : ℕ) (below : FieldWalk State) → s ≡ matched (ops T) T b below n (File.Slot.Row (from .0) (predicateOption p)) t path s₀) → settled s ≡ whole
+    pub of-row : (from : Address) (p : MaybePredicate) → slot .kind ≡ Sk.Row from p → (s : State) → ((b : ℕ) (below : FieldWalk State) → s ≡ matched (ops T) T b below n (File.Slot.Row (from .0) (predicateOption p)) t path s₀) → s ≡ whole
     unfolding meeting
-    of-row from p e s g = ap settled (g a still) ∙ by-kind (Sk.Row from p) e
+    of-row from p e s g = g a still ∙ by-kind (Sk.Row from p) e
 
-    pub of-key : (from : Address) (u : ℕ) → slot .kind ≡ Sk.Key from u → (s : State) → s ≡ report n Code.NyiWholeKey (skip s₀) → settled s ≡ whole
+    pub of-key : (from : Address) (u : ℕ) → slot .kind ≡ Sk.Key from u → (s : State) → s ≡ report n Code.NyiWholeKey (skip s₀) → s ≡ whole
     unfolding meeting matched
-    of-key from u e s g = ap settled g ∙ by-kind (Sk.Key from u) e
+    of-key from u e s g = g ∙ by-kind (Sk.Key from u) e
 
-    pub of-derived : (from : Address) → slot .kind ≡ Sk.Derived from → (s : State) → s ≡ report n Code.NyiValueMatch (skip s₀) → settled s ≡ whole
+    pub of-derived : (from : Address) → slot .kind ≡ Sk.Derived from → (s : State) → s ≡ report n Code.NyiValueMatch (skip s₀) → s ≡ whole
     unfolding meeting matched
-    of-derived from e s g = ap settled g ∙ by-kind (Sk.Derived from) e
+    of-derived from e s g = g ∙ by-kind (Sk.Derived from) e
 
-    pub of-field : (from : Address) (u : ℕ) → slot .kind ≡ Sk.Field from u → (s : State) → ((below : FieldWalk State) (i j : ℕ) → s ≡ matched (ops T) T a below n (File.Slot.Field (from .0) (pathOf (slot .path)) i) j path s₀) → settled s ≡ whole
+    pub of-field : (from : Address) (u : ℕ) → slot .kind ≡ Sk.Field from u → (s : State) → ((below : FieldWalk State) (i j : ℕ) → s ≡ matched (ops T) T a below n (File.Slot.Field (from .0) (pathOf (slot .path)) i) j path s₀) → s ≡ whole
     unfolding meeting
-    of-field from u e s g = ap settled (g still u t) ∙ by-kind (Sk.Field from u) e
+    of-field from u e s g = g still u t ∙ by-kind (Sk.Field from u) e
 
-    pub of-value : (from : Address) (u : ℕ) → slot .kind ≡ Sk.Value from u → (s : State) → s ≡ report n Code.NyiValueMatch s₀ → settled s ≡ whole
+    pub of-value : (from : Address) (u : ℕ) → slot .kind ≡ Sk.Value from u → (s : State) → s ≡ report n Code.NyiValueMatch s₀ → s ≡ whole
     unfolding meeting matched
-    of-value from u e s g = ap settled g ∙ by-kind (Sk.Value from u) e
+    of-value from u e s g = g ∙ by-kind (Sk.Value from u) e
 
-    pub of-const : (folded : ℕ) → slot .kind ≡ Sk.Const folded → (x : Meeting) → x ≡ meeting T a n (File.Slot.Const folded) t path s₀ → x ≡ whole
-    of-const folded e x g = g ∙ by-kind (Sk.Const folded) e
+    pub of-const : (folded : ℕ) → slot .kind ≡ Sk.Const folded → s₀ ≡ whole
+    unfolding meeting
+    of-const folded e = by-kind (Sk.Const folded) e

@@ -5,11 +5,11 @@ ghost use Prim.Native.Nat.{ℕ, _<_};
 ghost use lib.ListN.{length};
 ghost use Rattle.rules.specs.Limits.{fileLimit};
 ghost use Rattle.rules.specs.File as File;
-ghost use Rattle.rules.specs.File.{typeAt, nodeAt, recordFields, unionTy};
+ghost use Rattle.rules.specs.File.{typeAt, nodeAt, isConstant, recordFields, unionTy};
 ghost use Rattle.rules.specs.Walk as WalkRules;
 ghost use Rattle.rules.specs.Walk.{FieldWalk};
 ghost use Rattle.state.specs.State.{State};
-ghost use Rattle.state.specs.Ops.{ops};
+ghost use Rattle.state.specs.Ops.{bind, ops};
 ghost use Rattle.file.specs.Tables.{Indexed, tablesOf};
 ghost use Rattle.paths.specs.Paths.{pathOf};
 ghost use Rattle.views.specs.Views.{nodeEntry, patternAt, predicateOption};
@@ -18,19 +18,17 @@ ghost use Rattle.accepted_file.specs.AcceptedFile.{AcceptedFile};
 ghost use Rattle.tables.specs.Tables.{pairsIn, SeenRun};
 ghost use Rattle.walk.specs.Walk.{walkState};
 ghost use Rattle.field_cases.specs.Pieces.{Fits, fieldsFor, Pieced};
-ghost use Rattle.field_cases.specs.FieldCases.{isInjection, startOf, slotBeside, doneWith};
-ghost use Rattle.field_cases.specs.FieldCases.{piecesStart, readStart, variableStart, start};
-ghost use Rattle.field_cases.specs.FieldCases.{meetingOf, meeting, choosingOf, alternativeChoice, choosing};
+ghost use Rattle.field_cases.specs.FieldCases.{isInjection, literalWay, wayAt, meeting};
+ghost use Rattle.field_cases.specs.FieldCases.{choosingOf, alternativeChoice, choosing};
 use constrain::constrain;
+use constrain::is_nothing;
+use constrain::known;
 use constrain::narrow;
-use constrain::ranged;
 use fields::fact_ty;
 use lists::Code;
-use lists::lookup;
 use paths::Address;
 use paths::FieldPath;
 use resolve::constant_node;
-use resolve::resolve;
 use slots::Slot;
 use slots::SlotKind;
 use tables::Found;
@@ -47,24 +45,16 @@ use views::field_ty_at;
 use views::node_of;
 use walk::Walk;
 
-// What `field` goes on with.
-pub enum Next {
-    Done,
-    Matched,
-    Partial,
-}
-
-// The slot is that of Matched; beside anything else it has no meaning, and is that of `nothing`.
-pub struct Begun {
-    pub next: Next,
-    pub slot: Slot,
-    pub walk: Walk,
-}
-
-// The node that `matched` goes on with, which `partial` opens; nothing where it is done.
-pub struct Met {
-    pub opens: Found,
-    pub walk: Walk,
+// How `field` goes on, by the pattern's kind: a union value, a skip, a diagnostic with a skip, a range or a guide, a constant, a variable
+// of a name, or a read.
+pub enum Way {
+    Union,
+    Skip,
+    Report(Code),
+    Range,
+    Constant,
+    Variable(usize),
+    Read,
 }
 
 // The alternative that `inject` goes on with, if any: its disc, its payload's pattern and type.
@@ -144,17 +134,6 @@ pub fn piece_at(file: &[u8], index: &[u16], node: usize, ty: usize, i: usize) ->
     Piece { pattern, ty: f.ty }
 }
 
-fn done(w: Walk) -> Begun
-    ensures { λ r. ⌜ r ≡ doneWith w ⌝ }
-{
-    let slot = Slot::plain(SlotKind::Const(0));
-    Begun {
-        next: Next::Done,
-        slot,
-        walk: w,
-    }
-}
-
 // The kinds that another phase reports.
 fn is_deferred(file: &[u8], index: &[u16], node: usize) -> bool
     requires { ⌜ Indexed (now file) (now index) ⌝ }
@@ -170,7 +149,14 @@ fn is_deferred(file: &[u8], index: &[u16], node: usize) -> bool
 }
 
 // A read that gave no slot is reported where nothing else told why: `mark` is where the diagnostics ended before it.
-fn unresolved(file: &[u8], index: &[u16], work: &mut [u8], node: usize, mark: u32, w: Walk) -> Walk
+pub fn unresolved(
+    file: &[u8],
+    index: &[u16],
+    work: &mut [u8],
+    node: usize,
+    mark: u32,
+    w: Walk,
+) -> Walk
     requires { ⌜ Indexed (now file) (now index) ⌝ }
     ensures { λ r. ⌜ (
         (plan : List ℕ) (earlier : State) → earlier .ends .diagnostics ≡ mark →
@@ -190,73 +176,8 @@ fn unresolved(file: &[u8], index: &[u16], work: &mut [u8], node: usize, mark: u3
     w.skip()
 }
 
-// Not one place: a record's pieces, or a read that resolved to nothing.
-fn begin_pieces(
-    file: &[u8],
-    index: &[u16],
-    work: &mut [u8],
-    node: usize,
-    mark: u32,
-    w: Walk,
-) -> Begun
-    requires { ⌜ Indexed (now file) (now index) ⌝ }
-    ensures starts { λ r. ⌜ (
-        (plan : List ℕ) (earlier : State) → earlier .ends .diagnostics ≡ mark →
-        let T = tablesOf (now (file .entry)) in
-        let before = walkState T w (now (work .entry)) plan in
-        let after = walkState T (r .walk) (now (work .exit)) plan in
-        startOf r after ≡ piecesStart T node earlier before
-        ) ⌝ }
-    ensures unset { λ r. ⌜ r .slot ≡ slotBeside (r .next) (r .slot) ⌝ }
-{
-    if let Run::Just(_, _) = pairs_of(file, index, node) {
-        let slot = Slot::plain(SlotKind::Const(0));
-        return Begun {
-            next: Next::Partial,
-            slot,
-            walk: w,
-        };
-    }
-    done(unresolved(file, index, work, node, mark, w))
-}
-
-// A read: matched where it resolves. A constant is its own location, and needs no list.
-fn begin_read(file: &[u8], index: &[u16], work: &mut [u8], node: usize, w: Walk) -> Begun
-    requires { ⌜ AcceptedFile (now file) (now index) ⌝ }
-    ensures starts { λ r. ⌜ (
-        (plan : List ℕ) →
-        let T = tablesOf (now (file .entry)) in
-        let before = walkState T w (now (work .entry)) plan in
-        let after = walkState T (r .walk) (now (work .exit)) plan in
-        startOf r after ≡ readStart T node before
-        ) ⌝ }
-    ensures unset { λ r. ⌜ r .slot ≡ slotBeside (r .next) (r .slot) ⌝ }
-{
-    if constant_node(file, index, node) {
-        let slot = Slot::plain(SlotKind::Const(node));
-        return Begun {
-            next: Next::Matched,
-            slot,
-            walk: w,
-        };
-    }
-    let a = resolve(file, index, work, node, w.lists());
-    let after = a.lists;
-    let mark = w.ends;
-    let walk = w.listed(after);
-    if a.some {
-        let slot = a.slot;
-        return Begun {
-            next: Next::Matched,
-            slot,
-            walk,
-        };
-    }
-    begin_pieces(file, index, work, node, mark.diagnostics, walk)
-}
-
-// A variable binds while it is new, before its constraints are read; else it is read where it was bound.
-fn begin_variable(
+// A new variable: bound to the field, then constrained.
+pub fn captured(
     file: &[u8],
     index: &[u16],
     work: &mut [u8],
@@ -266,33 +187,24 @@ fn begin_variable(
     address: Address,
     path: FieldPath,
     w: Walk,
-) -> Begun
+) -> Walk
     requires { ⌜ AcceptedFile (now file) (now index) ⌝ }
     requires { ⌜ ty < length (tablesOf (now file) .types) ⌝ }
-    ensures starts { λ r. ⌜ (
+    ensures { λ r. ⌜ (
         let T = tablesOf (now (file .entry)) in
         let before = walkState T w (now (work .entry)) (now (plan .entry)) in
-        let after = walkState T (r .walk) (now (work .exit)) (now (plan .exit)) in
-        startOf r after ≡ variableStart T (address .0) name ty (pathOf path) before
+        let after = walkState T r (now (work .exit)) (now (plan .exit)) in
+        let slot = File.Slot.Field (address .0) (pathOf path) ty in
+        after ≡ WalkRules.constrain (ops T) T name ty (pathOf path) (bind name slot before)
         ) ⌝ }
-    ensures unset { λ r. ⌜ r .slot ≡ slotBeside (r .next) (r .slot) ⌝ }
 {
-    let found = lookup(file, index, work, w.lists(), name);
-    if found.some {
-        let slot = found.slot;
-        return Begun {
-            next: Next::Matched,
-            slot,
-            walk: w,
-        };
-    }
     let slot = Slot::field(address, path, ty);
     let b = w.bind(work, name, slot);
-    done(constrain(file, index, work, plan, name, ty, path, b))
+    constrain(file, index, work, plan, name, ty, path, b)
 }
 
 // Whether a pattern is a union value: a Record where the field is a union.
-pub fn is_injection(file: &[u8], index: &[u16], node: usize, ty: usize) -> bool
+fn is_injection(file: &[u8], index: &[u16], node: usize, ty: usize) -> bool
     requires { ⌜ Indexed (now file) (now index) ⌝ }
     requires { ⌜ ty < length (tablesOf (now file) .types) ⌝ }
     ensures { λ r. ⌜ (
@@ -310,36 +222,35 @@ pub fn is_injection(file: &[u8], index: &[u16], node: usize, ty: usize) -> bool
     }
 }
 
-// `field` of a pattern that is no union value, by the pattern's kind.
-pub fn begin(
-    file: &[u8],
-    index: &[u16],
-    work: &mut [u8],
-    plan: &mut [u8],
-    node: usize,
-    ty: usize,
-    address: Address,
-    path: FieldPath,
-    w: Walk,
-) -> Begun
+// A constant is its own location; anything else is read.
+fn literal_way(file: &[u8], index: &[u16], node: usize) -> Way
     requires { ⌜ AcceptedFile (now file) (now index) ⌝ }
-    requires { ⌜ Fits (tablesOf (now file)) path ty ⌝ }
-    ensures starts { λ r. ⌜ (
-        let T = tablesOf (now (file .entry)) in
-        let before = walkState T w (now (work .entry)) (now (plan .entry)) in
-        let after = walkState T (r .walk) (now (work .exit)) (now (plan .exit)) in
-        startOf r after ≡ start T (address .0) node ty (pathOf path) before
-        ) ⌝ }
-    ensures unset { λ r. ⌜ r .slot ≡ slotBeside (r .next) (r .slot) ⌝ }
+    ensures { λ r. ⌜ r ≡ literalWay (isConstant (tablesOf (now (file .entry))) node) ⌝ }
 {
+    if constant_node(file, index, node) {
+        Way::Constant
+    } else {
+        Way::Read
+    }
+}
+
+// How `field` goes on with a pattern at a type.
+pub fn way_of(file: &[u8], index: &[u16], node: usize, ty: usize) -> Way
+    requires { ⌜ AcceptedFile (now file) (now index) ⌝ }
+    requires { ⌜ ty < length (tablesOf (now file) .types) ⌝ }
+    ensures { λ r. ⌜ r ≡ wayAt (tablesOf (now (file .entry))) node ty ⌝ }
+{
+    if is_injection(file, index, node, ty) {
+        return Way::Union;
+    }
     match node_of(file, index, node) {
-        NodeView::Var(x) => begin_variable(file, index, work, plan, x, ty, address, path, w),
-        NodeView::Wildcard => done(w.skip()),
-        NodeView::Never => done(w.diagnose(work, node, Code::NyiNever, true)),
-        NodeView::Prefix(_) => done(ranged(file, index, work, plan, node, ty, path, w)),
-        NodeView::Fuzzy(_, _, _) => done(ranged(file, index, work, plan, node, ty, path, w)),
-        NodeView::Disjunction => done(w.diagnose(work, node, Code::NyiDisjunction, true)),
-        _ => begin_read(file, index, work, node, w),
+        NodeView::Var(x) => Way::Variable(x),
+        NodeView::Wildcard => Way::Skip,
+        NodeView::Never => Way::Report(Code::NyiNever),
+        NodeView::Prefix(_) => Way::Range,
+        NodeView::Fuzzy(_, _, _) => Way::Range,
+        NodeView::Disjunction => Way::Report(Code::NyiDisjunction),
+        _ => literal_way(file, index, node),
     }
 }
 
@@ -411,48 +322,7 @@ fn meet_field(
     w.register_field(path, from, at, node, plan)
 }
 
-fn unopened(w: Walk) -> Met
-    ensures { λ r. ⌜ r ≡ record { opens = Found.Nothing; walk = w } ⌝ }
-{
-    Met {
-        opens: Found::Nothing,
-        walk: w,
-    }
-}
-
-// A constant: its bytes, or else its pieces.
-fn meet_const(
-    file: &[u8],
-    index: &[u16],
-    plan: &mut [u8],
-    node: usize,
-    folded: usize,
-    ty: usize,
-    path: FieldPath,
-    w: Walk,
-) -> Met
-    requires { ⌜ AcceptedFile (now file) (now index) ⌝ }
-    requires { ⌜ ty < length (tablesOf (now file) .types) ⌝ }
-    ensures { λ r. ⌜ (
-        (address : ℕ) (work : List ℕ) →
-        let T = tablesOf (now (file .entry)) in
-        let before = walkState T w work (now (plan .entry)) in
-        let after = walkState T (r .walk) work (now (plan .exit)) in
-        meetingOf r after ≡ meeting T address node (File.Slot.Const folded) ty (pathOf path) before
-        ) ⌝ }
-{
-    let n = narrow(file, index, plan, node, folded, ty, path, w);
-    let walk = n.walk;
-    if n.some {
-        return unopened(walk);
-    }
-    Met {
-        opens: Found::Just(folded),
-        walk,
-    }
-}
-
-// `matched`, by the slot's kind.
+// `matched`, by the slot's kind; a constant leaves the walk as it is.
 pub fn meet(
     file: &[u8],
     index: &[u16],
@@ -464,25 +334,25 @@ pub fn meet(
     address: Address,
     path: FieldPath,
     w: Walk,
-) -> Met
+) -> Walk
     requires { ⌜ AcceptedFile (now file) (now index) ⌝ }
     requires { ⌜ ty < length (tablesOf (now file) .types) ⌝ }
     ensures { λ r. ⌜ (
         let T = tablesOf (now (file .entry)) in
         let before = walkState T w (now (work .entry)) (now (plan .entry)) in
-        let after = walkState T (r .walk) (now (work .exit)) (now (plan .exit)) in
-        meetingOf r after ≡ meeting T (address .0) node (slotOf slot) ty (pathOf path) before
+        let after = walkState T r (now (work .exit)) (now (plan .exit)) in
+        after ≡ meeting T (address .0) node (slotOf slot) ty (pathOf path) before
         ) ⌝ }
 {
     let kind = slot.kind;
     let at = slot.path;
     match kind {
-        SlotKind::Row(a, p) => unopened(meet_row(file, index, work, plan, node, a, p, ty, path, w)),
-        SlotKind::Key(_, _) => unopened(w.diagnose(work, node, Code::NyiWholeKey, true)),
-        SlotKind::Derived(_) => unopened(w.diagnose(work, node, Code::NyiValueMatch, true)),
-        SlotKind::Field(a, _) => unopened(meet_field(plan, node, a, at, address, path, w)),
-        SlotKind::Value(_, _) => unopened(w.diagnose(work, node, Code::NyiValueMatch, false)),
-        SlotKind::Const(n) => meet_const(file, index, plan, node, n, ty, path, w),
+        SlotKind::Row(a, p) => meet_row(file, index, work, plan, node, a, p, ty, path, w),
+        SlotKind::Key(_, _) => w.diagnose(work, node, Code::NyiWholeKey, true),
+        SlotKind::Derived(_) => w.diagnose(work, node, Code::NyiValueMatch, true),
+        SlotKind::Field(a, _) => meet_field(plan, node, a, at, address, path, w),
+        SlotKind::Value(_, _) => w.diagnose(work, node, Code::NyiValueMatch, false),
+        SlotKind::Const(_) => w,
     }
 }
 
@@ -551,10 +421,9 @@ pub fn choose(
         choosingOf r after ≡ choosing T node ty (pathOf path) before
         ) ⌝ }
 {
-    let n = narrow(file, index, plan, node, node, ty, path, w);
-    let walk = n.walk;
-    if n.some {
-        return unchosen(walk);
+    let c = known(file, index, node, ty);
+    if is_nothing(c) {
+        return choose_alternative(file, index, work, node, ty, w);
     }
-    choose_alternative(file, index, work, node, ty, walk)
+    unchosen(narrow(file, index, plan, node, c, path, w))
 }

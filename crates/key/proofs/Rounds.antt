@@ -1,37 +1,57 @@
 -- What each member of the cycle ends in, from what it began with and what the member that it called gives.
 use Prim.Native.Nat.{ℕ, zero, suc, _≤_, _<_}
-use mathlib.Core.Path.{_≡_, sym, ap, _∙_}
+use mathlib.Core.Path.{_≡_, refl, sym, ap, _∙_, subst}
 use mathlib.Core.Bool.{Bool, true, false}
-use mathlib.Core.List.{List}
+use mathlib.Core.List.{List, [], _∷_}
+use types.Run.{OneOf, miss}
+use denote.Enum.Declared.{tagOf}
+use mathlib.Core.Option.{Option, none, some}
 use native.Mathlib.Omega.{arith}
 use lib.ListN.{length}
 use Rattle.rules.specs.File as File
-use Rattle.rules.specs.File.{Tables, typeAt, nodeAt, recordFields, unionTy, then, payload}
+use Rattle.rules.specs.File.{Tables, FieldPattern, nodeAt, recordFields, then, payload}
 use Rattle.rules.specs.Events.{Narrowing}
-use Rattle.rules.specs.Walk.{FieldWalk, eachField, matched, partial, fieldNode, fieldBelow}
+use Rattle.rules.specs.Resolve as ResolveRules
+use Rattle.rules.specs.Resolve.{resolve}
+use Rattle.rules.specs.Walk.{FieldWalk, eachField, constrain, unresolved, matched, partial, ranged, readAnswer, read, fieldBelow}
 use Rattle.state.specs.State.{State}
-use Rattle.state.specs.Ops.{ops, narrow, skip, closer}
+use Rattle.state.specs.Ops.{ops, bind, report, narrow, skip, closer}
 use Rattle.paths.specs.Paths.{pathOf, Holds}
 use Rattle.paths.specs.declared.FieldPath.{FieldPath}
-use Rattle.slots.specs.Slots.{slotOf}
-use Rattle.tables.specs.Tables.{foundOption}
-use Rattle.tables.specs.declared.Found.{Found}
-use Rattle.tables.specs.declared.Found.the-variants as Fo
+use Rattle.views.specs.Views.{patternAt}
+use Rattle.slots.specs.Slots.{slotOf, slotWith, slotOption, maybe}
+use Rattle.slots.specs.declared.Slot.{Slot}
+use Rattle.slots.specs.declared.SlotKind.{SlotKind}
+use Rattle.slots.specs.declared.SlotKind.the-variants as Sk
+use Rattle.slots.proofs.SlotKind as SlotKinds
+use Rattle.slots.specs.declared.MaybeSlot.{MaybeSlot}
+use Rattle.tables.specs.Tables.{SeenRun}
+use Rattle.tables.specs.declared.Run.{Run}
+use Rattle.tables.specs.declared.Run.the-variants as Ru
+use Rattle.constant.specs.declared.Const.{Const}
+use Rattle.lists.specs.Lists.{codeOf}
+use Rattle.lists.specs.declared.Code.{Code}
+use Rattle.lists.specs.declared.Lists.{Lists}
+use Rattle.resolve.specs.Resolved.{Answers}
+use Rattle.resolve.specs.declared.Answer.{Answer}
+use Rattle.resolve.proofs.Steps as Resolved
 use Rattle.seek.specs.Seek.{stateOf}
-use Rattle.walk.specs.Walk.{walkState}
+use Rattle.seek.specs.Narrow.{constOf, narrowedBy}
+use Rattle.walk.specs.Walk.{walkState, listsOf, withLists}
 use Rattle.walk.specs.declared.Walk.{Walk}
 use Rattle.field_cases.specs.Pieces.{Lower, patternsOf, fieldsFor}
 use Rattle.rules.proofs.Sound.{Sound}
 use Rattle.rules.proofs.Idle.{idle-fieldBelow}
 use Rattle.state.proofs.Stopped.{stopped}
-use Rattle.field_cases.specs.FieldCases.{isInjection, injectAt, Start, startWith, startOf, start, Meeting, meetingOf, meeting, Choosing, payloadOf, choosingOf, choosing}
-use Rattle.field_cases.proofs.Finishes.{finish, injection-finished, start-finished, opened, meeting-finished, injected, choosing-finished, choosing-lower}
-use Rattle.field_cases.specs.declared.Next.{Next}
-use Rattle.field_cases.specs.declared.Next.the-variants as Nx
+use Rattle.constrain.specs.Constrain.{isNothing, Known}
+use Rattle.constrain.proofs.Narrowings.{after-constant, after-none}
+use Rattle.field_cases.specs.FieldCases.{wayAt, meeting, injectAt, Choosing, payloadOf, choosingOf, choosing}
+use Rattle.field_cases.proofs.Reading.{answer-is}
+use Rattle.field_cases.proofs.Finishes.{byWay, way-finished, constNode, meeting-finished, injected, choosing-finished, choosing-lower}
+use Rattle.field_cases.specs.declared.Way.{Way}
+use Rattle.field_cases.specs.declared.Way.the-variants as Wy
 use Rattle.field_cases.specs.declared.Choice.{Choice}
 use Rattle.field_cases.specs.declared.Choice.the-variants as Ch
-use Rattle.field_cases.specs.declared.Begun.{Begun}
-use Rattle.field_cases.specs.declared.Met.{Met}
 use Rattle.field_cases.specs.declared.Chosen.{Chosen}
 use Rattle.key.specs.Cycle.{Walks, Gives}
 use Rattle.key.proofs.Fields.{partial-opens}
@@ -47,53 +67,118 @@ field-over T a n t path w work plan e =
     let s = walkState T w work plan in
     record { is = λ limit h. sym (idle-fieldBelow (ops T) T s (stopped T s e) a limit n t path) }
 
--- `field`, by whether the pattern is a union value
-module _ (T : Tables) (a n t : ℕ) (path : File.FieldPath) (s₀ : State) (told : Bool) (k : told ≡ isInjection (recordFields (nodeAt T n)) (unionTy (typeAt T t))) where
-  above : (s : State) → ((m : ℕ) → t ≤ m → s ≡ fieldNode (ops T) T a (below T a m) (nodeAt T n) n t path s₀) → Walks T a n t path s₀ s
+-- `matched` of a constant: its bytes, or else its pieces
+module _ (T : Tables) (a n k t : ℕ) (path : File.FieldPath) (s₀ : State) (c : Const) (v : Known T k t c) (s : State) where
+  const-bytes : (g : FieldWalk State) → isNothing c ≡ false → s ≡ narrowedBy T n (constOf T c) path s₀ → s ≡ matched (ops T) T a g n (File.Slot.Const k) t path s₀
+  unfolding matched
+  const-bytes g e q = after-constant T n k t path s₀ c v (λ x. x) (partial (ops T) T a g k t path) e s q
+
+  const-pieces : (g : FieldWalk State) → isNothing c ≡ true → s ≡ partial (ops T) T a g k t path s₀ → s ≡ matched (ops T) T a g n (File.Slot.Const k) t path s₀
+  unfolding matched
+  const-pieces g e q = q ∙ after-none T n k t path s₀ c v (λ x. x) (partial (ops T) T a g k t path) e
+
+  module _ (slot : Slot) (es : slot .kind ≡ Sk.Const k) where
+    abbrev by-kind : ℕ → SlotKind → State
+    by-kind m x = matched (ops T) T a (below T a m) n (slotWith x (slot .path)) t path s₀
+
+    pub matched-bytes : isNothing c ≡ false → s ≡ narrowedBy T n (constOf T c) path s₀ → Gives T a t (λ g. matched (ops T) T a g n (slotOf slot) t path s₀) s
+    matched-bytes e q = record { is = λ m h. const-bytes (below T a m) e q ∙ ap (by-kind m) (sym es) }
+
+    pub matched-pieces : isNothing c ≡ true → Gives T a t (λ g. partial (ops T) T a g k t path s₀) s → Gives T a t (λ g. matched (ops T) T a g n (slotOf slot) t path s₀) s
+    matched-pieces e p = record { is = λ m h. const-pieces (below T a m) e (p .is m h) ∙ ap (by-kind m) (sym es) }
+
+-- `matched` of any other slot
+no-const : (kind : SlotKind) (at : FieldPath) → OneOf (0 ∷ 1 ∷ 2 ∷ 3 ∷ 4 ∷ []) (tagOf SlotKinds.the-type kind) → constNode (slotWith kind at) ≡ none
+no-const (Sk.Row from p) at w = refl
+no-const (Sk.Key from u) at w = refl
+no-const (Sk.Derived from) at w = refl
+no-const (Sk.Field from u) at w = refl
+no-const (Sk.Value from u) at w = refl
+no-const (Sk.Const k) at w = absurd (miss (0 ∷ 1 ∷ 2 ∷ 3 ∷ 4 ∷ []) 5 tt w)
+
+pub matched-met : (T : Tables) (a n t : ℕ) (path : File.FieldPath) (s₀ s : State) (slot : Slot) → OneOf (0 ∷ 1 ∷ 2 ∷ 3 ∷ 4 ∷ []) (tagOf SlotKinds.the-type (slot .kind)) → s ≡ meeting T a n (slotOf slot) t path s₀ → Gives T a t (λ g. matched (ops T) T a g n (slotOf slot) t path s₀) s
+matched-met T a n t path s₀ s slot w q = record { is = λ m h. q ∙ meeting-finished T a (below T a m) n (slotOf slot) t path s₀ (no-const (slot .kind) (slot .path) w) }
+
+-- `field`, by its way
+module _ (T : Tables) (a n t : ℕ) (path : File.FieldPath) (s₀ : State) (way : Way) (k : way ≡ wayAt T n t) (low : Resolved.Lower T) where
+  goes : (u : Way) → way ≡ u → (s : State) → ((m : ℕ) → t ≤ m → s ≡ byWay T a (below T a m) u n t path s₀) → Walks T a n t path s₀ s
   unfolding fieldBelow
-  above s e = record { is = go }
+  goes u e s q = record { is = go }
     where
       go : (limit : ℕ) → t < limit → s ≡ fieldBelow (ops T) T a limit n t path s₀
       go zero h = absurd (omega arith)
-      go (suc m) h = e m (omega arith)
+      go (suc m) h = q m (omega arith) ∙ ap (λ (x : Way). byWay T a (below T a m) x n t path s₀) (sym e ∙ k) ∙ way-finished T a (below T a m) low n t path s₀
 
-  pub field-inject : told ≡ true → (s : State) → Gives T a t (λ g. injectAt T a g n t path s₀) s → Walks T a n t path s₀ s
-  field-inject e s g = above s (λ m h. g .is m h ∙ injection-finished T a (below T a m) n t path s₀ (sym k ∙ e))
+  pub field-inject : way ≡ Wy.Union → (s : State) → Gives T a t (λ g. injectAt T a g n t path s₀) s → Walks T a n t path s₀ s
+  unfolding byWay
+  field-inject e s g = goes Wy.Union e s (g .is)
 
-  module _ (no : told ≡ false) (s₁ : State) (r : Begun) (b : startOf r s₁ ≡ start T a n t path s₀) where
-    begun : (s₂ : State) → ((m : ℕ) → t ≤ m → s₂ ≡ finish T a (below T a m) (startOf r s₁) n t path) → Walks T a n t path s₀ s₂
-    begun s₂ e = above s₂ (λ m h. e m h ∙ ap (λ (x : Start). finish T a (below T a m) x n t path) b ∙ start-finished T a (below T a m) n t path s₀ (sym k ∙ no))
+  pub field-skip : way ≡ Wy.Skip → (s : State) → s ≡ skip s₀ → Walks T a n t path s₀ s
+  unfolding byWay
+  field-skip e s q = goes Wy.Skip e s (λ m h. q)
 
-    abbrev by-next : ℕ → Next → State
-    by-next m x = finish T a (below T a m) (startWith x (slotOf (r .slot)) s₁) n t path
+  pub field-report : (code : Code) → way ≡ Wy.Report code → (s : State) → s ≡ report n (codeOf code) (skip s₀) → Walks T a n t path s₀ s
+  unfolding byWay
+  field-report code e s q = goes (Wy.Report code) e s (λ m h. q)
 
-    pub field-done : r .next ≡ Nx.Done → Walks T a n t path s₀ s₁
-    unfolding finish
-    field-done e = begun s₁ (λ m h. sym (ap (by-next m) e))
+  pub field-range : way ≡ Wy.Range → (s : State) → ((b : ℕ) (g : FieldWalk State) → s ≡ ranged (ops T) T b g n t path s₀) → Walks T a n t path s₀ s
+  unfolding byWay
+  field-range e s q = goes Wy.Range e s (λ m h. q a (below T a m))
 
-    pub field-matched : r .next ≡ Nx.Matched → (s₂ : State) → Gives T a t (λ g. matched (ops T) T a g n (slotOf (r .slot)) t path s₁) s₂ → Walks T a n t path s₀ s₂
-    unfolding finish
-    field-matched e s₂ g = begun s₂ (λ m h. g .is m h ∙ sym (ap (by-next m) e))
+  module _ (e : way ≡ Wy.Constant) (c : Const) (v : Known T n t c) (s : State) where
+    pub field-bytes : isNothing c ≡ false → s ≡ narrowedBy T n (constOf T c) path s₀ → Walks T a n t path s₀ s
+    unfolding byWay
+    field-bytes b q = goes Wy.Constant e s (λ m h. const-bytes T a n n t path s₀ c v s (below T a m) b q)
 
-    pub field-partial : r .next ≡ Nx.Partial → (s₂ : State) → Gives T a t (λ g. partial (ops T) T a g n t path s₁) s₂ → Walks T a n t path s₀ s₂
-    unfolding finish
-    field-partial e s₂ g = begun s₂ (λ m h. g .is m h ∙ sym (ap (by-next m) e))
+    pub field-pieces : isNothing c ≡ true → Gives T a t (λ g. partial (ops T) T a g n t path s₀) s → Walks T a n t path s₀ s
+    unfolding byWay
+    field-pieces b p = goes Wy.Constant e s (λ m h. const-pieces T a n n t path s₀ c v s (below T a m) b (p .is m h))
 
--- `matched`
-module _ (T : Tables) (a n : ℕ) (slot : File.Slot) (t : ℕ) (path : File.FieldPath) (s₀ s₁ : State) (r : Met) (b : meetingOf r s₁ ≡ meeting T a n slot t path s₀) where
-  abbrev by-found : ℕ → Found → State
-  by-found m x = opened T a (below T a m) (record { opens = foundOption x; state = s₁ }) t path
+  module _ (x : ℕ) (e : way ≡ Wy.Variable x) (found : MaybeSlot) (f : slotOption found ≡ ops T .lookup s₀ x) (s : State) where
+    abbrev by-slot : ℕ → Option File.Slot → State
+    by-slot m o = elim o [ none ↦ constrain (ops T) T x t path (bind x (File.Slot.Field a path t) s₀) | some slot ↦ matched (ops T) T a (below T a m) n slot t path s₀ ]
 
-  matched-is : (m : ℕ) (x : Found) → r .opens ≡ x → by-found m x ≡ matched (ops T) T a (below T a m) n slot t path s₀
-  matched-is m x e = sym (ap (by-found m) e) ∙ ap (λ (y : Meeting). opened T a (below T a m) y t path) b ∙ meeting-finished T a (below T a m) n slot t path s₀
+    looked : (m : ℕ) (b : Bool) → found .some ≡ b → by-slot m (maybe b (slotOf (found .slot))) ≡ by-slot m (ops T .lookup s₀ x)
+    looked m b h = ap (by-slot m) (ap (λ (y : Bool). maybe y (slotOf (found .slot))) (sym h) ∙ f)
 
-  pub matched-done : r .opens ≡ Fo.Nothing → Gives T a t (λ g. matched (ops T) T a g n slot t path s₀) s₁
-  unfolding opened
-  matched-done e = record { is = λ m h. matched-is m Fo.Nothing e }
+    pub field-bound : found .some ≡ true → Gives T a t (λ g. matched (ops T) T a g n (slotOf (found .slot)) t path s₀) s → Walks T a n t path s₀ s
+    unfolding byWay
+    field-bound h g = goes (Wy.Variable x) e s (λ m l. g .is m l ∙ looked m true h)
 
-  pub matched-partial : (k : ℕ) → r .opens ≡ Fo.Just k → (s₂ : State) → Gives T a t (λ g. partial (ops T) T a g k t path s₁) s₂ → Gives T a t (λ g. matched (ops T) T a g n slot t path s₀) s₂
-  unfolding opened
-  matched-partial k e s₂ p = record { is = λ m h. p .is m h ∙ matched-is m (Fo.Just k) e }
+    pub field-new : found .some ≡ false → s ≡ constrain (ops T) T x t path (bind x (File.Slot.Field a path t) s₀) → Walks T a n t path s₀ s
+    unfolding byWay
+    field-new h q = goes (Wy.Variable x) e s (λ m l. q ∙ looked m false h)
+
+-- `field` of a read, by its answer: r is the walk w with the lists of the answer
+module _ (T : Tables) (a n t : ℕ) (path : File.FieldPath) (w r : Walk) (ans : Answer) (work work′ plan : List ℕ) (l : Lists) (el : l ≡ listsOf w) (er : r ≡ withLists w (ans .lists)) (q : Answers (resolve (ops T) T n) l work ans work′) (way : Way) (k : way ≡ wayAt T n t) (low : Resolved.Lower T) (e : way ≡ Wy.Read) (s : State) where
+  abbrev s₁ : State
+  s₁ = walkState T r work′ plan
+
+  abbrev answered : ℕ → Option File.Slot → State → State
+  answered m o x = readAnswer (ops T) T a (below T a m) n o t path (walkState T w work plan) x
+
+  reads : (b : Bool) → ans .some ≡ b → ((m : ℕ) → t ≤ m → s ≡ answered m (maybe b (slotOf (ans .slot))) s₁) → Walks T a n t path (walkState T w work plan) s
+  unfolding byWay read
+  reads b h g =
+      goes T a n t path (walkState T w work plan) way k low Wy.Read e s
+      (λ m i. g m i ∙ ap (λ (x : Bool). answered m (maybe x (slotOf (ans .slot))) s₁) (sym h)
+      ∙ ap (λ (x : ResolveRules.Answer State). answered m (x .slot) (x .walk)) (answer-is T w r l ans work work′ plan el er (resolve (ops T) T n) q))
+
+  pub field-read : ans .some ≡ true → Gives T a t (λ g. matched (ops T) T a g n (slotOf (ans .slot)) t path s₁) s → Walks T a n t path (walkState T w work plan) s
+  unfolding readAnswer
+  field-read h g = reads true h (g .is)
+
+  module _ (h : ans .some ≡ false) (f : List ℕ) (pairs : Run) (seen : SeenRun f (patternAt f) 4 (recordFields (nodeAt T n)) pairs) where
+    abbrev by-fields : ℕ → Option (List FieldPattern) → State
+    by-fields m o = elim o [ some fields ↦ partial (ops T) T a (below T a m) n t path s₁ | none ↦ unresolved (ops T) T n (walkState T w work plan) s₁ ]
+
+    pub field-opened : (i at : ℕ) → pairs ≡ Ru.Just i at → Gives T a t (λ g. partial (ops T) T a g n t path s₁) s → Walks T a n t path (walkState T w work plan) s
+    unfolding readAnswer
+    field-opened i at ep g = reads false h (λ m j. g .is m j ∙ ap (by-fields m) (subst (SeenRun f (patternAt f) 4 (recordFields (nodeAt T n))) ep seen .is))
+
+    pub field-unresolved : pairs ≡ Ru.Nothing → s ≡ unresolved (ops T) T n (walkState T w work plan) s₁ → Walks T a n t path (walkState T w work plan) s
+    unfolding readAnswer
+    field-unresolved ep g = reads false h (λ m j. g ∙ ap (by-fields m) (subst (SeenRun f (patternAt f) 4 (recordFields (nodeAt T n))) ep seen .is))
 
 -- `inject`
 module _ (T : Tables) (a n t : ℕ) (path : File.FieldPath) (s₀ s₁ : State) (r : Chosen) (b : choosingOf r s₁ ≡ choosing T n t path s₀) where

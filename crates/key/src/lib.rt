@@ -13,15 +13,20 @@ ghost use Rattle.walk.specs.Walk.{walkState};
 ghost use Rattle.field_cases.specs.Pieces.{Fits, patternsOf, fieldsFor};
 ghost use Rattle.field_cases.specs.FieldCases.{injectAt};
 ghost use Rattle.key.specs.Cycle.{Walks, Gives, fieldsOf, wholeField};
+use constrain::is_nothing;
+use constrain::known;
+use constrain::narrow;
+use constrain::ranged;
 use field_cases::Choice;
-use field_cases::Next;
-use field_cases::begin;
+use field_cases::Way;
+use field_cases::captured;
 use field_cases::choose;
-use field_cases::is_injection;
 use field_cases::meet;
 use field_cases::pairs_of;
 use field_cases::piece_at;
 use field_cases::pieces;
+use field_cases::unresolved;
+use field_cases::way_of;
 use lists::lookup;
 use paths::Address;
 use paths::FieldPath;
@@ -38,8 +43,8 @@ use views::field_ty_at;
 use views::node_of;
 use walk::Walk;
 
-// One key field: seek, splice, residual, or capture. Once the plan is too long nothing changes any more, and the walk ends at once. A
-// union value is told before anything is begun: `begin` then keeps a frame of its own, which is gone when the walk goes deeper.
+// One key field: seek, splice, residual, or capture. Once the plan is too long nothing changes any more, and the walk ends at once. What
+// ends here hands the walk back as it is; only what goes on has a slot.
 pub fn field(
     file: &[u8],
     index: &[u16],
@@ -64,26 +69,48 @@ pub fn field(
     if level.over {
         return w;
     }
-    if is_injection(file, index, node, ty) {
-        return inject(file, index, work, plan, node, ty, address, path, w);
-    }
-    let b = begin(file, index, work, plan, node, ty, address, path, w);
-    let next = b.next;
-    match next {
-        Next::Done => b.walk,
-        Next::Matched => matched(
-            file,
-            index,
-            work,
-            plan,
-            node,
-            b.slot,
-            ty,
-            address,
-            path,
-            b.walk,
-        ),
-        Next::Partial => partial(file, index, work, plan, node, ty, address, path, b.walk),
+    match way_of(file, index, node, ty) {
+        Way::Union => inject(file, index, work, plan, node, ty, address, path, w),
+        Way::Skip => w.skip(),
+        Way::Report(code) => w.diagnose(work, node, code, true),
+        Way::Range => ranged(file, index, work, plan, node, ty, path, w),
+        Way::Constant => {
+            let c = known(file, index, node, ty);
+            if is_nothing(c) {
+                return partial(file, index, work, plan, node, ty, address, path, w);
+            }
+            narrow(file, index, plan, node, c, path, w)
+        }
+        Way::Variable(x) => {
+            let found = lookup(file, index, work, w.lists(), x);
+            if found.some {
+                return matched(
+                    file,
+                    index,
+                    work,
+                    plan,
+                    node,
+                    found.slot,
+                    ty,
+                    address,
+                    path,
+                    w,
+                );
+            }
+            captured(file, index, work, plan, x, ty, address, path, w)
+        }
+        Way::Read => {
+            let a = resolve(file, index, work, node, w.lists());
+            let l = w.listed(a.lists);
+            if a.some {
+                return matched(file, index, work, plan, node, a.slot, ty, address, path, l);
+            }
+            if let Run::Just(_, _) = pairs_of(file, index, node) {
+                return partial(file, index, work, plan, node, ty, address, path, l);
+            }
+            let ends = w.ends;
+            unresolved(file, index, work, node, ends.diagnostics, l)
+        }
     }
 }
 
@@ -111,12 +138,15 @@ pub fn matched(
         after
         ) ⌝ }
 {
-    let m = meet(file, index, work, plan, node, slot, ty, address, path, w);
-    let opens = m.opens;
-    let Found::Just(n) = opens else {
-        return m.walk;
+    let kind = slot.kind;
+    let SlotKind::Const(n) = kind else {
+        return meet(file, index, work, plan, node, slot, ty, address, path, w);
     };
-    partial(file, index, work, plan, n, ty, address, path, m.walk)
+    let c = known(file, index, n, ty);
+    if is_nothing(c) {
+        return partial(file, index, work, plan, n, ty, address, path, w);
+    }
+    narrow(file, index, plan, node, c, path, w)
 }
 
 // A record pattern that gives some of its fields: building falls, and each piece is matched one step deeper.

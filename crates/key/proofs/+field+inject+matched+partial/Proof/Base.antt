@@ -13,17 +13,28 @@ use Rattle.key.proofs.+field+inject+matched+partial.Lts-matched as matc
 use Rattle.key.proofs.partial.Reads as partial
 use Rattle.key.proofs.partial.Kinds as partial-kinds
 use Rattle.key.proofs.+field+inject+matched+partial.Lts-partial as partial-lts
+use Rattle.constrain.proofs.is_nothing.Reads as is-nothing-reads
+use Rattle.constrain.proofs.known.Reads as known-reads
+use Rattle.constrain.proofs.narrow.Reads as narrow-reads
+use Rattle.constrain.proofs.ranged.Reads as ranged-reads
+use Rattle.field_cases.proofs.captured.Reads as captured-reads
+use Rattle.field_cases.proofs.choose.Reads as choose-reads
+use Rattle.field_cases.proofs.meet.Reads as meet-reads
+use Rattle.field_cases.proofs.pairs_of.Reads as pairs-of-reads
 use Rattle.field_cases.proofs.piece_at.Reads as piece-at-reads
 use Rattle.field_cases.proofs.pieces.Reads as pieces-reads
+use Rattle.field_cases.proofs.unresolved.Reads as unresolved-reads
+use Rattle.field_cases.proofs.way_of.Reads as way-of-reads
+use Rattle.lists.proofs.lookup.Reads as lookup-reads
 use Rattle.paths.proofs.FieldPath.payload.Reads as payload-reads
 use Rattle.paths.proofs.FieldPath.then.Reads as then-reads
+use Rattle.resolve.proofs.resolve.Reads as resolve-reads
 use Rattle.walk.proofs.Walk.closer.Reads as closer-reads
+use Rattle.walk.proofs.Walk.diagnose.Reads as diagnose-reads
+use Rattle.walk.proofs.Walk.listed.Reads as listed-reads
+use Rattle.walk.proofs.Walk.lists.Reads as lists-reads
 use Rattle.walk.proofs.Walk.skip.Reads as skip-reads
 use Rattle.walk.proofs.Walk.tag.Reads as tag-reads
-use Rattle.field_cases.proofs.begin.Reads as begin-reads
-use Rattle.field_cases.proofs.choose.Reads as choose-reads
-use Rattle.field_cases.proofs.is_injection.Reads as is-injection-reads
-use Rattle.field_cases.proofs.meet.Reads as meet-reads
 
 abbrev pub μ-field : Measures 4 field-kinds.ps ℕ
 μ-field κs a = a .1 .1 .1 .1 .1 .0 * 3 + 2
@@ -62,13 +73,13 @@ abbrev pub partial-below : ℕ → In 4 partial-kinds.ps
 partial-below t = and 4 partial-kinds.ps (falls 4 partial-kinds.ps _<_ μ-partial t) partial.Pre
 
 abbrev pub field-claims : ℕ → field-lts.Claims
-field-claims t = (is-injection-reads.Asked, is-injection-reads.Learnt, inject-below t, inject.Post, begin-reads.Asked, begin-reads.Learnt, matched-below t, matched.Post, partial-below t, partial.Post)
+field-claims t = (way-of-reads.Asked, way-of-reads.Learnt, inject-below t, inject.Post, skip-reads.Asked, skip-reads.Learnt, diagnose-reads.Asked, diagnose-reads.Learnt, ranged-reads.Asked, ranged-reads.Learnt, known-reads.Asked, known-reads.Learnt, is-nothing-reads.Asked, is-nothing-reads.Learnt, partial-below t, partial.Post, narrow-reads.Asked, narrow-reads.Learnt, lists-reads.Asked, lists-reads.Learnt, lookup-reads.Asked, lookup-reads.Learnt, matched-below t, matched.Post, captured-reads.Asked, captured-reads.Learnt, resolve-reads.Asked, resolve-reads.Learnt, listed-reads.Asked, listed-reads.Learnt, pairs-of-reads.Asked, pairs-of-reads.Learnt, unresolved-reads.Asked, unresolved-reads.Learnt)
 
 abbrev pub inject-claims : ℕ → inject-lts.Claims
 inject-claims t = (choose-reads.Asked, choose-reads.Learnt, payload-reads.Asked, payload-reads.Learnt, tag-reads.Asked, tag-reads.Learnt, field-below t, field.Post, closer-reads.Asked, closer-reads.Learnt)
 
 abbrev pub matched-claims : ℕ → matched-lts.Claims
-matched-claims t = (meet-reads.Asked, meet-reads.Learnt, partial-below t, partial.Post)
+matched-claims t = (meet-reads.Asked, meet-reads.Learnt, known-reads.Asked, known-reads.Learnt, is-nothing-reads.Asked, is-nothing-reads.Learnt, partial-below t, partial.Post, narrow-reads.Asked, narrow-reads.Learnt)
 
 abbrev pub partial-claims : ℕ → partial-lts.Claims
 partial-claims t = (pieces-reads.Asked, pieces-reads.Learnt, skip-reads.Asked, skip-reads.Learnt, piece-at-reads.Asked, piece-at-reads.Learnt, then-reads.Asked, then-reads.Learnt, field-below t, field.Post)
