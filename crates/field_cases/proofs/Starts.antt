@@ -3,9 +3,10 @@ use Prim.Native.Nat.{ℕ}
 use mathlib.Core.Path.{_≡_, refl, sym, ap, _∙_, subst}
 use mathlib.Core.Bool.{Bool, true, false}
 use mathlib.Core.List.{List, [], _∷_}
-use mathlib.Core.Option.{Option, some}
+use mathlib.Core.Option.{Option, none, some}
 use types.Run.{OneOf, miss}
 use denote.Enum.Declared.{tagOf}
+use Rattle.rules.specs.Base.{_whenSome_}
 use Rattle.rules.specs.File as File
 use Rattle.rules.specs.File.{Tables, FieldPattern, Alternative, typeAt, nodeAt, isConstant, recordFields, unionTy}
 use Rattle.state.specs.State.{Level, Target, State}
@@ -18,7 +19,9 @@ use Rattle.views.specs.declared.Anchor.{Anchor}
 use Rattle.views.proofs.NodeView as NodeViews
 use Rattle.slots.specs.Slots.{slotOption, IsSlot}
 use Rattle.slots.specs.declared.MaybeSlot.{MaybeSlot}
-use Rattle.tables.specs.Tables.{SeenRun}
+use Rattle.tables.specs.Tables.{foundOption, SeenRun}
+use Rattle.tables.specs.declared.Found.{Found}
+use Rattle.tables.specs.declared.Found.the-variants as Fo
 use Rattle.tables.specs.declared.Run.{Run}
 use Rattle.tables.specs.declared.Run.the-variants as Ru
 use Rattle.lists.specs.Lists.{stateWith}
@@ -27,7 +30,7 @@ use Rattle.walk.specs.Walk.{walkState, listsOf}
 use Rattle.walk.specs.declared.Walk.{Walk}
 use Rattle.walk.proofs.Parts.{lists-of}
 use Rattle.lists.specs.declared.Code.the-variants as Co
-use Rattle.field_cases.specs.FieldCases.{isInjection, literalWay, nodeWay, wayAt}
+use Rattle.field_cases.specs.FieldCases.{isInjection, literalWay, nodeWay, wayAt, isSkip, walkedPattern}
 use Rattle.field_cases.specs.declared.Way.{Way}
 use Rattle.field_cases.specs.declared.Way.the-variants as Wy
 
@@ -120,3 +123,23 @@ module _ (T : Tables) (n t : ℕ) (b : Bool) (kb : b ≡ isInjection (recordFiel
 
     pub as-literal : OneOf (0 ∷ 1 ∷ 2 ∷ 8 ∷ 9 ∷ 10 ∷ 11 ∷ 13 ∷ 14 ∷ 15 ∷ 16 ∷ []) (tagOf NodeViews.the-type v) → (r : Way) → r ≡ literalWay (isConstant T n) → r ≡ wayAt T n t
     as-literal w r q = q ∙ literal-as f (isConstant T n) v w ∙ seen-as v refl
+
+-- the pattern that a record key walks into
+module _ (T : Tables) (t : ℕ) (p : Found) where
+  pub none-walked : p ≡ Fo.Nothing → none ≡ walkedPattern T t (foundOption p)
+  unfolding walkedPattern _whenSome_
+  none-walked e = ap (λ (x : Found). walkedPattern T t (foundOption x)) (sym e)
+
+  module _ (n : ℕ) (e : p ≡ Fo.Just n) (way : Way) (k : way ≡ wayAt T n t) (b : Bool) (kb : b ≡ isSkip way) where
+    abbrev walked-by : Bool → Option ℕ
+    walked-by x = elim x [ true ↦ none | false ↦ some n ]
+
+    walked-is : (x : Bool) → b ≡ x → walked-by x ≡ walkedPattern T t (foundOption p)
+    unfolding walkedPattern _whenSome_
+    walked-is x d = ap walked-by (sym d ∙ kb ∙ ap isSkip k) ∙ ap (λ (y : Found). walkedPattern T t (foundOption y)) (sym e)
+
+    pub skip-walked : b ≡ true → none ≡ walkedPattern T t (foundOption p)
+    skip-walked d = walked-is true d
+
+    pub other-walked : b ≡ false → some n ≡ walkedPattern T t (foundOption p)
+    other-walked d = walked-is false d

@@ -3,6 +3,7 @@ use Prim.Native.Nat.{ℕ}
 use mathlib.Core.Bool.{Bool, true, false}
 use mathlib.Core.List.{List}
 use mathlib.Core.Option.{Option, none, some}
+use Rattle.rules.specs.Base.{_whenSome_}
 use Rattle.rules.specs.File as File
 use Rattle.rules.specs.File.{Tables, Node, FieldPattern, Alternative, typeAt, nodeAt, isConstant, recordFields, unionTy}
 use Rattle.rules.specs.Constant.{constant, onlyField, alternativeOf}
@@ -57,6 +58,19 @@ wayAt T n t =
       | true ↦ Wy.Union
       | false ↦ nodeWay (isConstant T n) (nodeAt T n)
     ]
+
+-- the pattern of a record key's field that is walked into: a Wildcard skips, as a field does that no pattern names
+abbrev pub isSkip : Way → Bool
+isSkip Wy.Union = false
+isSkip Wy.Skip = true
+isSkip (Wy.Report code) = false
+isSkip Wy.Range = false
+isSkip Wy.Constant = false
+isSkip (Wy.Variable x) = false
+isSkip Wy.Read = false
+
+unfoldable pub walkedPattern : Tables → ℕ → Option ℕ → Option ℕ
+walkedPattern T t pattern = pattern whenSome λ n. elim (isSkip (wayAt T n t)) [ true ↦ none | false ↦ some n ]
 
 -- `matched` of a slot that is no constant; a constant changes nothing here
 unfoldable pub meeting : Tables → ℕ → ℕ → File.Slot → ℕ → File.FieldPath → State → State

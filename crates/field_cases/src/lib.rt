@@ -15,10 +15,10 @@ ghost use Rattle.paths.specs.Paths.{pathOf};
 ghost use Rattle.views.specs.Views.{nodeEntry, patternAt, predicateOption};
 ghost use Rattle.slots.specs.Slots.{slotOf};
 ghost use Rattle.accepted_file.specs.AcceptedFile.{AcceptedFile};
-ghost use Rattle.tables.specs.Tables.{pairsIn, SeenRun};
+ghost use Rattle.tables.specs.Tables.{foundOption, pairsIn, SeenRun};
 ghost use Rattle.walk.specs.Walk.{walkState};
 ghost use Rattle.field_cases.specs.Pieces.{Fits, fieldsFor, Pieced};
-ghost use Rattle.field_cases.specs.FieldCases.{isInjection, literalWay, wayAt, meeting};
+ghost use Rattle.field_cases.specs.FieldCases.{isInjection, literalWay, wayAt, isSkip, walkedPattern, meeting};
 ghost use Rattle.field_cases.specs.FieldCases.{choosingOf, alternativeChoice, choosing};
 use constrain::constrain;
 use constrain::is_nothing;
@@ -251,6 +251,36 @@ pub fn way_of(file: &[u8], index: &[u16], node: usize, ty: usize) -> Way
         NodeView::Fuzzy(_, _, _) => Way::Range,
         NodeView::Disjunction => Way::Report(Code::NyiDisjunction),
         _ => literal_way(file, index, node),
+    }
+}
+
+fn is_skip(way: Way) -> bool
+    ensures { λ r. ⌜ r ≡ isSkip way ⌝ }
+{
+    match way {
+        Way::Union => false,
+        Way::Skip => true,
+        Way::Report(_) => false,
+        Way::Range => false,
+        Way::Constant => false,
+        Way::Variable(_) => false,
+        Way::Read => false,
+    }
+}
+
+// The pattern of a field that a record key walks into: a Wildcard closes the seek, as a field does that no pattern names.
+pub fn walked_pattern(file: &[u8], index: &[u16], pattern: Found, ty: usize) -> Found
+    requires { ⌜ AcceptedFile (now file) (now index) ⌝ }
+    requires { ⌜ ty < length (tablesOf (now file) .types) ⌝ }
+    ensures { λ r. ⌜ foundOption r ≡ walkedPattern (tablesOf (now (file .entry))) ty (foundOption pattern) ⌝ }
+{
+    let Found::Just(n) = pattern else {
+        return Found::Nothing;
+    };
+    if is_skip(way_of(file, index, n, ty)) {
+        Found::Nothing
+    } else {
+        Found::Just(n)
     }
 }
 

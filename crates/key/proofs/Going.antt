@@ -3,7 +3,7 @@
 use Prim.Native.Nat.{ℕ, _+_, _≤_, _<_}
 use mathlib.Core.Path.{_≡_, refl, sym, ap, _∙_}
 use mathlib.Core.List.{List}
-use mathlib.Core.Option.{Option}
+use mathlib.Core.Option.{Option, some}
 use native.Mathlib.Omega.{arith}
 use lib.ListN.{length, getD, drop}
 use Rattle.rules.specs.File as File
@@ -39,39 +39,35 @@ module _ (T : Tables) (a n t : ℕ) (missing : State → State) (place : ℕ →
     abbrev one : ℕ → Option ℕ → ℕ → State
     one m o c = turn (fieldBelow (ops T) T a m) missing place (patternsOf T n) (fieldsFor T n t) i s o c
 
-    -- one field more, by what was found of it
-    next : (m : ℕ) → t ≤ m → (o : Found) → r .pattern ≡ o → eachField (fieldBelow (ops T) T a m) missing place (patternsOf T n) 0 (fieldsFor T n t) s₀ ≡ left T a n t missing place m (i + 1) (one m (foundOption o) (r .ty))
-    next m l o e =
-        v .is m l
-        ∙ each-more (fieldBelow (ops T) T a m) missing place (patternsOf T n) (fieldsFor T n t) i s h
-        ∙ ap (left T a n t missing place m (i + 1))
-        (ap (λ (x : Option ℕ). one m x (getD (fieldsFor T n t) i noField .type)) (sym (k .found))
-        ∙ ap (one m (foundOption (r .pattern))) (sym (k .type))
-        ∙ ap (λ (x : Found). one m (foundOption x) (r .ty)) e)
-
     module _ (s′ : State) (w′ p′ : List ℕ) (ew : length w′ ≡ length w) (ep : length p′ ≡ length p) where
-      pub going-missing : r .pattern ≡ Fo.Nothing → s′ ≡ missing s → Going T a n t missing place (i + 1) s₀ s′ w₀ p₀ w′ p′
-      unfolding turn
-      going-missing e q =
-          record {
-            low = omega arith;
-            work-long = ew ∙ v .work-long;
-            plan-long = ep ∙ v .plan-long;
-            is = λ m l. next m l Fo.Nothing e ∙ ap (left T a n t missing place m (i + 1)) (sym q);
-          }
-
-      pub going-given : (j : ℕ) → r .pattern ≡ Fo.Just j → (q : FieldPath) → Holds q (place i) → Walks T a j (r .ty) (pathOf q) s s′ → Going T a n t missing place (i + 1) s₀ s′ w₀ p₀ w′ p′
-      unfolding turn
-      going-given j e q o x =
+      -- one field more, by what was found of it
+      pub going-turn : ((m : ℕ) → t ≤ m → s′ ≡ one m (foundOption (r .pattern)) (r .ty)) → Going T a n t missing place (i + 1) s₀ s′ w₀ p₀ w′ p′
+      going-turn q =
           record {
             low = omega arith;
             work-long = ew ∙ v .work-long;
             plan-long = ep ∙ v .plan-long;
             is = λ m l.
-                next m l (Fo.Just j) e
+                v .is m l
+                ∙ each-more (fieldBelow (ops T) T a m) missing place (patternsOf T n) (fieldsFor T n t) i s h
                 ∙ ap (left T a n t missing place m (i + 1))
-                (ap (λ (y : File.FieldPath). fieldBelow (ops T) T a m j (r .ty) y s) (sym (o .is)) ∙ sym (x .is m (omega (arith, k .lower .lower))));
+                (ap (λ (x : Option ℕ). one m x (getD (fieldsFor T n t) i noField .type)) (sym (k .found))
+                ∙ ap (one m (foundOption (r .pattern))) (sym (k .type))
+                ∙ sym (q m l));
           }
+
+      pub going-missing : r .pattern ≡ Fo.Nothing → s′ ≡ missing s → Going T a n t missing place (i + 1) s₀ s′ w₀ p₀ w′ p′
+      unfolding turn
+      going-missing e q = going-turn (λ m l. q ∙ ap (λ (x : Found). one m (foundOption x) (r .ty)) (sym e))
+
+      pub going-given : (j : ℕ) → foundOption (r .pattern) ≡ some j → (q : FieldPath) → Holds q (place i) → Walks T a j (r .ty) (pathOf q) s s′ → Going T a n t missing place (i + 1) s₀ s′ w₀ p₀ w′ p′
+      unfolding turn
+      going-given j e q o x =
+          going-turn
+          (λ m l.
+          x .is m (omega (arith, k .lower .lower))
+          ∙ ap (λ (y : File.FieldPath). fieldBelow (ops T) T a m j (r .ty) y s) (o .is)
+          ∙ ap (λ (x : Option ℕ). one m x (r .ty)) (sym e))
 
   pub going-end : length (fieldsFor T n t) ≤ i → (m : ℕ) → t ≤ m → s ≡ eachField (fieldBelow (ops T) T a m) missing place (patternsOf T n) 0 (fieldsFor T n t) s₀
   going-end h m l = sym (each-end (fieldBelow (ops T) T a m) missing place (patternsOf T n) (fieldsFor T n t) i s h) ∙ sym (v .is m l)

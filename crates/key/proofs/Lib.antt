@@ -5,6 +5,8 @@ pub mod Going
 pub mod Deeper
 -- What each member of the cycle ends in.
 pub mod Rounds
+-- The fields of a record key.
+pub mod Walked
 -- What goes on from a read's answer.
 pub mod Answered
 -- The whole key in one pattern.

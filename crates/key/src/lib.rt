@@ -26,6 +26,7 @@ use field_cases::pairs_of;
 use field_cases::piece_at;
 use field_cases::pieces;
 use field_cases::unresolved;
+use field_cases::walked_pattern;
 use field_cases::way_of;
 use lists::lookup;
 use paths::Address;
@@ -249,7 +250,8 @@ fn record_key(
     let mut i: usize = 0;
     while i < count {
         let p = piece_at(file, index, node, ty, i);
-        let pattern = p.pattern;
+        let found = p.pattern;
+        let pattern = walked_pattern(file, index, found, p.ty);
         let path = FieldPath::field(i as u16);
         i += 1;
         if let Found::Just(n) = pattern {

@@ -1,13 +1,16 @@
+use borrow.Author.Needs.{needs}
 use mathlib.Core.Path.{refl}
 use native.Mathlib.Omega.{arith}
 use Prim.Native.Nat.{_-_}
-use borrow.Author.Needs.{needs}
 use Rattle.rules.specs.File.{fieldPath}
+use Rattle.rules.proofs.Sound.{passed-all}
 use Rattle.state.specs.Ops.{skip}
 use Rattle.file.specs.Tables.{tablesOf}
 use Rattle.walk.specs.Walk.{walkState}
 use Rattle.accepted_file.proofs.Given.{sound-tables}
-use Rattle.key.proofs.Going.{Going, going-first, going-missing, going-given}
+use Rattle.accepted_file.proofs.Ranges.{nodes-lower}
+use Rattle.key.proofs.Going.{Going, going-first}
+use Rattle.key.proofs.Walked.{going-closed, going-walked}
 use Rattle.key.proofs.Keys.{fits-field, record-end}
 use Rattle.key.proofs.record_key.Statement.{statement}
 use Rattle.key.proofs.record_key.Tie as tie
@@ -27,26 +30,29 @@ loop-holds c = going-first _ _ _ _ _ _ _ _ _
 piece-at-requires : tie.Need-piece-at-requires Inv-loop μ-loop
 piece-at-requires c κs = (c .before .before .before .before .before .before .before .pre .0, (c .before .before .before .before .before .before .before .pre .1, omega (arith, c .loop-test .taken, c .before .before .pieces .ensures .0)))
 
+walked-pattern-requires : tie.Need-walked-pattern-requires Inv-loop μ-loop
+walked-pattern-requires c κs = (c .before .before .before .before .before .before .before .before .pre .0, c .piece-at .ensures .lower .known)
+
 cast-field : tie.Need-cast-field Inv-loop μ-loop
-cast-field c = omega (arith, c .before .loop-test .taken, c .before .before .before .pieces .ensures .1)
+cast-field c = omega (arith, c .before .before .loop-test .taken, c .before .before .before .before .pieces .ensures .1)
 
 field-requires : tie.Need-field-requires Inv-loop μ-loop
 field-requires c κs = search needs
 
 add-i : tie.Need-add-i Inv-loop μ-loop
-add-i c = omega (arith, c .before .before .loop-test .taken, c .before .before .before .before .pieces .ensures .1)
+add-i c = omega (arith, c .before .before .before .loop-test .taken, c .before .before .before .before .before .pieces .ensures .1)
 
 enum-known-pattern : tie.Need-enum-known-pattern Inv-loop μ-loop
 enum-known-pattern c = search needs
 
 field-requires-2 : tie.Need-field-requires-2 Inv-loop μ-loop
-field-requires-2 c κs = (c .before .before .before .before .before .before .before .before .before .before .before .before .before .before .pre .0, fits-field _ (sound-tables _ _ (c .before .before .before .before .before .before .before .before .before .before .before .before .before .before .pre .0)) _ (c .before .before .before .before .before .before .piece-at .ensures .lower .known) _ _ (c .before .before .before .before .before .field .ensures .0))
+field-requires-2 c κs = (c .before .before .before .before .before .before .before .before .before .before .before .before .before .before .before .pre .0, fits-field _ (sound-tables _ _ (c .before .before .before .before .before .before .before .before .before .before .before .before .before .before .before .pre .0)) _ (c .before .before .before .before .before .before .before .piece-at .ensures .lower .known) _ _ (c .before .before .before .before .before .field .ensures .0))
 
 loop-less : tie.Need-loop-less Inv-loop μ-loop
-loop-less c = omega (arith, c .before .before .before .before .before .before .before .before .before .before .before .before .loop-test .taken)
+loop-less c = omega (arith, c .before .before .before .before .before .before .before .before .before .before .before .before .before .loop-test .taken)
 
 loop-again : tie.Need-loop-again Inv-loop μ-loop
-loop-again c = going-given _ _ _ _ _ _ _ _ _ _ _ _ _ (c .before .before .before .before .before .before .before .before .before .before .before .before .before .loop .inv) (omega (arith, c .before .before .before .before .before .before .before .before .before .before .before .before .loop-test .taken, c .before .before .before .before .before .before .before .before .before .before .before .before .before .before .pieces .ensures .0)) _ (c .before .before .before .before .before .before .before .before .before .before .before .piece-at .ensures) _ _ _ (c .before .before .before .before .field2 .kept .1 .1 .0) (c .before .before .before .before .field2 .kept .1 .1 .1 .0) _ (c .before .before .before .before .before .before .before .before .pattern .given .1) _ (c .before .before .before .before .before .before .before .before .before .before .field .ensures .0) (c .before .before .before .before .field2 .ensures)
+loop-again c = going-walked _ _ _ _ _ _ _ _ _ _ _ (c .before .before .before .before .before .before .before .before .before .before .before .before .before .before .loop .inv) (omega (arith, c .before .before .before .before .before .before .before .before .before .before .before .before .before .loop-test .taken, c .before .before .before .before .before .before .before .before .before .before .before .before .before .before .before .pieces .ensures .0)) _ (c .before .before .before .before .before .before .before .before .before .before .before .before .piece-at .ensures) _ _ _ (c .before .before .before .before .field2 .kept .1 .1 .0) (c .before .before .before .before .field2 .kept .1 .1 .1 .0) _ (c .before .before .before .before .before .before .before .before .before .before .before .walked-pattern .ensures) _ (c .before .before .before .before .before .before .before .before .pattern .given .1) _ (c .before .before .before .before .before .before .before .before .before .before .field .ensures .0) (c .before .before .before .before .field2 .ensures)
 
 enum-told : tie.Need-enum-told Inv-loop μ-loop
 enum-told c = search needs
@@ -55,10 +61,10 @@ skip-requires : tie.Need-skip-requires Inv-loop μ-loop
 skip-requires c κs = search needs
 
 loop-less-2 : tie.Need-loop-less-2 Inv-loop μ-loop
-loop-less-2 c = omega (arith, c .before .before .before .before .before .loop-test .taken)
+loop-less-2 c = omega (arith, c .before .before .before .before .before .before .loop-test .taken)
 
 loop-again-2 : tie.Need-loop-again-2 Inv-loop μ-loop
-loop-again-2 c = going-missing _ _ _ _ _ _ _ _ _ _ _ _ _ (c .before .before .before .before .before .before .loop .inv) (omega (arith, c .before .before .before .before .before .loop-test .taken, c .before .before .before .before .before .before .before .pieces .ensures .0)) _ (c .before .before .before .before .piece-at .ensures) _ _ _ refl refl (c .before .enum-told .given .1) (c .skip .ensures _ _ _)
+loop-again-2 c = going-closed _ _ _ _ _ _ _ _ _ _ _ (c .before .before .before .before .before .before .before .loop .inv) (omega (arith, c .before .before .before .before .before .before .loop-test .taken, c .before .before .before .before .before .before .before .before .pieces .ensures .0)) _ (c .before .before .before .before .before .piece-at .ensures) _ _ _ refl refl _ (c .before .before .before .before .walked-pattern .ensures) (nodes-lower _ (passed-all _ (c .before .before .before .before .before .before .before .before .before .before .before .before .before .pre .0 .accepted))) (c .before .enum-told .given .1) (c .skip .ensures _ _ _)
 
 same-length : tie.Need-same-length Inv-loop μ-loop
 same-length c = c .before .loop .inv .work-long
@@ -78,6 +84,7 @@ record-key-spec =
     pieces-requires
     loop-holds
     piece-at-requires
+    walked-pattern-requires
     cast-field
     field-requires
     add-i

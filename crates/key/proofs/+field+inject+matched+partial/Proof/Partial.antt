@@ -1,4 +1,5 @@
-use mathlib.Core.Path.{refl}
+use Rattle.tables.specs.Tables.{foundOption}
+use mathlib.Core.Path.{ap, refl}
 use native.Mathlib.Omega.{arith}
 use borrow.Author.Needs.{needs}
 use Rattle.rules.specs.File.{then}
@@ -56,7 +57,7 @@ partial-loop-less t c = omega (arith, c .before .before .before .before .before 
 pub partial-loop-again : (t : ℕ) → partial-lts.Need-loop-again (partial-claims t) (partial-at t) partial.Post partial-Inv-loop partial-μ-loop
 partial-loop-again t c =
     going-given _ _ _ _ _ _ _ _ _ _ _ _ _ (c .before .before .before .before .before .before .before .before .before .before .before .before .before .loop .inv) (omega (arith, c .before .before .before .before .before .before .before .before .before .before .before .before .loop-test .taken, c .before .before .before .before .before .before .before .before .before .before .before .before .before .before .before .pieces .ensures .0)) _ (c .before .before .before .before .before .before .before .before .before .before .before .piece-at .ensures) _ _ _ (c .before .before .before .before .field .kept .1 .1 .0) (c .before .before .before .before .field .kept .1 .1 .1 .0)
-    _ (c .before .before .before .before .before .before .before .before .before .pattern .given .1) _ (c .before .before .before .before .before .before .before .then .ensures .0) (c .before .before .before .before .field .ensures)
+    _ (ap foundOption (c .before .before .before .before .before .before .before .before .before .pattern .given .1)) _ (c .before .before .before .before .before .before .before .then .ensures .0) (c .before .before .before .before .field .ensures)
 
 pub partial-enum-told : (t : ℕ) → partial-lts.Need-enum-told (partial-claims t) (partial-at t) partial.Post partial-Inv-loop partial-μ-loop
 partial-enum-told t c = search needs
