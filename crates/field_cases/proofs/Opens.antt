@@ -18,8 +18,8 @@ use Rattle.tables.specs.Tables.{SeenRun, foundOption}
 use Rattle.tables.specs.declared.Found.{Found}
 use Rattle.tables.specs.declared.Run.{Run}
 use Rattle.tables.specs.declared.Run.the-variants as Ru
-use Rattle.field_cases.specs.Pieces.{Lower, patternsOf, openFields, fieldsFor, noField, Pieced}
-use Rattle.field_cases.specs.declared.Piece.{Piece}
+use Rattle.field_cases.specs.Pieces.{Lower, patternsOf, openFields, fieldsFor, noPlaces, Opened, noField, Pieced}
+use Rattle.field_cases.specs.declared.Places.{Places}
 
 -- a run's records are inside the file
 pub run-inside : {A : Type 0} (f : List ℕ) (g : ℕ → A) (w : ℕ) (o : Option (List A)) (r : Run) → SeenRun f g w o r → (k from : ℕ) → r ≡ Ru.Just k from → from + w * k ≤ length f
@@ -55,29 +55,39 @@ module _ (f : List ℕ) (T : Tables) (n t : ℕ) (a : Run) (pairs : SeenRun f (p
       unfolding patternsOf
       patterns-are = ap (λ o. Option·getD o []) pairs-are
 
-      pub count-is : k ≡ length (fieldsFor T n t)
-      count-is = sym (ap length fields-are ∙ length-run (fieldAt f) 4 k from)
+      pub opened-both : Opened f T n t (record { count = k; pairs = m; at = at; from = from })
+      opened-both =
+          record {
+            fields = fields-are;
+            type = λ h. type-is;
+            patterns = λ h. patterns-are;
+            fields-in = run-inside f (fieldAt f) 4 (recordTy (typeAt T t)) b fields k from eb;
+            patterns-in = run-inside f (patternAt f) 4 (recordFields (nodeAt T n)) a pairs m at ea;
+          }
 
-      -- field i
-      module _ (S : Sound T) (known : t < length (T .types)) (i : ℕ) (h : i < length (fieldsFor T n t)) (v : FieldTy) (ev : fieldOf v ≡ fieldAt f (from + 4 * i)) where
-        pub below : i < k
-        below = omega (arith, count-is)
+-- nothing is opened
+pub opened-none : (f : List ℕ) (T : Tables) (n t : ℕ) (r : Places) → r ≡ noPlaces → fieldsFor T n t ≡ [] → Opened f T n t r
+unfolding run
+opened-none f T n t r d e = subst (Opened f T n t) (sym d) (record { fields = e; type = λ h. absurd (omega arith); patterns = λ h. absurd (omega arith); fields-in = omega arith; patterns-in = omega arith })
 
-        field-is : getD (fieldsFor T n t) i noField ≡ fieldOf v
-        field-is = ap (λ fs. getD fs i noField) fields-are ∙ run-at (fieldAt f) 4 k from i noField below ∙ sym ev
+module _ (f : List ℕ) (T : Tables) (n t : ℕ) (r : Places) (o : Opened f T n t r) where
+  pub count-is : r .count ≡ length (fieldsFor T n t)
+  count-is = sym (ap length (o .fields) ∙ length-run (fieldAt f) 4 (r .count) (r .from))
 
-        lower : Lower T t (v .ty)
-        lower =
-            let e = each-at (record-children (Child T t) (typeAt T t) (run (fieldAt f) 4 k from) (S .children t known) type-is) i noField (omega (arith, length-run (fieldAt f) 4 k from, below)) in
-            let c : Child T t (v .ty) = subst (λ (x : File.FieldTy). Child T t (x .type)) (ap (λ fs. getD fs i noField) (sym fields-are) ∙ field-is) e in
-            record { lower = c .lower; known = c .in-types; less-deep = c .less-deep }
+  -- field i
+  module _ (S : Sound T) (known : t < length (T .types)) (i : ℕ) (h : i < r .count) (v : FieldTy) (ev : fieldOf v ≡ fieldAt f (r .from + 4 * i)) where
+    field-is : getD (fieldsFor T n t) i noField ≡ fieldOf v
+    field-is = ap (λ fs. getD fs i noField) (o .fields) ∙ run-at (fieldAt f) 4 (r .count) (r .from) i noField h ∙ sym ev
 
-        module _ (q : Found) (eq : foundOption q ≡ fieldPattern (run (patternAt f) 4 m at) (v .name)) where
-          found-is : foundOption q ≡ fieldPattern (patternsOf T n) (getD (fieldsFor T n t) i noField .name)
-          found-is = eq ∙ ap (λ ps. fieldPattern ps (v .name)) (sym patterns-are) ∙ ap (λ (x : File.FieldTy). fieldPattern (patternsOf T n) (x .name)) (sym field-is)
+    lower : Lower T t (v .ty)
+    lower =
+        let e = each-at (record-children (Child T t) (typeAt T t) (run (fieldAt f) 4 (r .count) (r .from)) (S .children t known) (o .type (omega arith))) i noField (omega (arith, length-run (fieldAt f) 4 (r .count) (r .from))) in
+        let c : Child T t (v .ty) = subst (λ (x : File.FieldTy). Child T t (x .type)) (ap (λ fs. getD fs i noField) (sym (o .fields)) ∙ field-is) e in
+        record { lower = c .lower; known = c .in-types; less-deep = c .less-deep }
 
-          pub piece-is : Pieced T n t i (record { pattern = q; ty = v .ty })
-          piece-is = record { type = ap (λ (x : File.FieldTy). x .type) (sym field-is); found = found-is; lower = lower }
+    module _ (q : Found) (eq : foundOption q ≡ fieldPattern (run (patternAt f) 4 (r .pairs) (r .at)) (v .name)) where
+      found-is : foundOption q ≡ fieldPattern (patternsOf T n) (getD (fieldsFor T n t) i noField .name)
+      found-is = eq ∙ ap (λ ps. fieldPattern ps (v .name)) (sym (o .patterns (omega arith))) ∙ ap (λ (x : File.FieldTy). fieldPattern (patternsOf T n) (x .name)) (sym field-is)
 
-pub nothing-there : (T : Tables) (n t i : ℕ) (r : Piece) → i < length (fieldsFor T n t) → fieldsFor T n t ≡ [] → Pieced T n t i r
-nothing-there T n t i r h e = absurd (omega (arith, ap length e))
+      pub piece-is : Pieced T n t i (record { pattern = q; ty = v .ty })
+      piece-is = record { type = ap (λ (x : File.FieldTy). x .type) (sym field-is); found = found-is; lower = lower }

@@ -1,5 +1,5 @@
 -- A record pattern against a record type, field by field.
-use Prim.Native.Nat.{ℕ, _+_, _≤_, _<_}
+use Prim.Native.Nat.{ℕ, _+_, _*_, _≤_, _<_}
 use mathlib.Core.Path.{_≡_}
 use mathlib.Core.List.{List, []}
 use mathlib.Core.Option.{Option, none, some, Option·getD}
@@ -9,7 +9,9 @@ use Rattle.rules.specs.File.{Tables, FieldTy, FieldPattern, typeAt, nodeAt, rec
 use Rattle.rules.specs.Constant.{fieldPattern}
 use Rattle.paths.specs.Paths.{pathOf}
 use Rattle.paths.specs.declared.FieldPath.{FieldPath}
+use Rattle.views.specs.Views.{run, fieldAt, patternAt}
 use Rattle.tables.specs.Tables.{foundOption}
+use Rattle.field_cases.specs.declared.Places.{Places}
 use Rattle.field_cases.specs.declared.Piece.{Piece}
 
 -- a path by value at a type: its count is that of its steps, and there is room for every step below the type
@@ -35,6 +37,18 @@ openFields (some ps) (some fs) = fs
 
 unfoldable pub fieldsFor : Tables → ℕ → ℕ → List FieldTy
 fieldsFor T n t = openFields (recordFields (nodeAt T n)) (recordTy (typeAt T t))
+
+-- the code's answer where nothing is opened
+abbrev pub noPlaces : Places
+noPlaces = record { count = 0; pairs = 0; at = 0; from = 0 }
+
+-- r has the places of the fields in the file, and of the patterns where there is a field
+pub record Opened (f : List ℕ) (T : Tables) (n t : ℕ) (r : Places) : Type 0 where
+  pub fields : fieldsFor T n t ≡ run (fieldAt f) 4 (r .count) (r .from)
+  pub type : 0 < r .count → recordTy (typeAt T t) ≡ some (run (fieldAt f) 4 (r .count) (r .from))
+  pub patterns : 0 < r .count → patternsOf T n ≡ run (patternAt f) 4 (r .pairs) (r .at)
+  pub fields-in : r .from + 4 * r .count ≤ length f
+  pub patterns-in : r .at + 4 * r .pairs ≤ length f
 
 abbrev pub noField : FieldTy
 noField = record { name = 0; type = 0 }

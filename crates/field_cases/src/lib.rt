@@ -17,7 +17,7 @@ ghost use Rattle.slots.specs.Slots.{slotOf};
 ghost use Rattle.accepted_file.specs.AcceptedFile.{AcceptedFile};
 ghost use Rattle.tables.specs.Tables.{foundOption, pairsIn, SeenRun};
 ghost use Rattle.walk.specs.Walk.{walkState};
-ghost use Rattle.field_cases.specs.Pieces.{Fits, fieldsFor, Pieced};
+ghost use Rattle.field_cases.specs.Pieces.{Fits, noPlaces, Opened, Pieced};
 ghost use Rattle.field_cases.specs.FieldCases.{isInjection, literalWay, wayAt, isSkip, walkedPattern, meeting};
 ghost use Rattle.field_cases.specs.FieldCases.{choosingOf, alternativeChoice, choosing};
 use constrain::constrain;
@@ -68,6 +68,14 @@ pub struct Chosen {
     pub walk: Walk,
 }
 
+// Where the type's fields and the pattern's pairs stand in the file, and how many there are, of a Record that is opened.
+pub struct Places {
+    pub count: usize,
+    pub pairs: usize,
+    pub at: usize,
+    pub from: usize,
+}
+
 // A field's type, and the pattern that it is given.
 pub struct Piece {
     pub pattern: Found,
@@ -93,44 +101,57 @@ pub fn pairs_of(file: &[u8], index: &[u16], node: usize) -> Run
     }
 }
 
-// How many fields are walked of a Record against a Record type; none of anything else.
-pub fn pieces(file: &[u8], index: &[u16], node: usize, ty: usize) -> usize
+// Nothing is opened.
+fn closed() -> Places
+    ensures { λ r. ⌜ r ≡ noPlaces ⌝ }
+{
+    Places {
+        count: 0,
+        pairs: 0,
+        at: 0,
+        from: 0,
+    }
+}
+
+// The fields that are walked of a Record against a Record type; none of anything else.
+pub fn pieces(file: &[u8], index: &[u16], node: usize, ty: usize) -> Places
     requires { ⌜ AcceptedFile (now file) (now index) ⌝ }
     requires { ⌜ ty < length (tablesOf (now file) .types) ⌝ }
-    ensures counts { λ r. ⌜ r ≡ length (fieldsFor (tablesOf (now (file .entry))) node ty) ⌝ }
-    ensures bounded { λ r. ⌜ r < fileLimit ⌝ }
+    ensures opens { λ r. ⌜ Opened (now (file .entry)) (tablesOf (now (file .entry))) node ty r ⌝ }
+    ensures bounded { λ r. ⌜ r .count < fileLimit ⌝ }
 {
-    let Run::Just(n, at) = pairs_of(file, index, node) else {
-        return 0;
+    let Run::Just(pairs, at) = pairs_of(file, index, node) else {
+        return closed();
     };
-    if let Run::Just(k, from) = record_ty(file, index, ty) {
-        k
+    if let Run::Just(count, from) = record_ty(file, index, ty) {
+        Places {
+            count,
+            pairs,
+            at,
+            from,
+        }
     } else {
-        0
+        closed()
     }
 }
 
 // Field i of those.
-pub fn piece_at(file: &[u8], index: &[u16], node: usize, ty: usize, i: usize) -> Piece
+pub fn piece_at(
+    file: &[u8],
+    index: &[u16],
+    node: usize,
+    ty: usize,
+    opened: Places,
+    i: usize,
+) -> Piece
     requires { ⌜ AcceptedFile (now file) (now index) ⌝ }
     requires { ⌜ ty < length (tablesOf (now file) .types) ⌝ }
-    requires { ⌜ i < length (fieldsFor (tablesOf (now file)) node ty) ⌝ }
+    requires { ⌜ Opened (now file) (tablesOf (now file)) node ty opened ⌝ }
+    requires { ⌜ i < opened .count ⌝ }
     ensures { λ r. ⌜ Pieced (tablesOf (now (file .entry))) node ty i r ⌝ }
 {
-    let Run::Just(n, at) = pairs_of(file, index, node) else {
-        return Piece {
-            pattern: Found::Nothing,
-            ty: 0,
-        };
-    };
-    let Run::Just(k, from) = record_ty(file, index, ty) else {
-        return Piece {
-            pattern: Found::Nothing,
-            ty: 0,
-        };
-    };
-    let f = field_ty_at(file, from, i);
-    let pattern = field_pattern(file, at, n, f.name);
+    let f = field_ty_at(file, opened.from, i);
+    let pattern = field_pattern(file, opened.at, opened.pairs, f.name);
     Piece { pattern, ty: f.ty }
 }
 

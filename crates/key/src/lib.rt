@@ -173,11 +173,11 @@ pub fn partial(
         after
         ) ⌝ }
 {
-    let count = pieces(file, index, node, ty);
+    let opened = pieces(file, index, node, ty);
     let mut l = w.skip();
     let mut i: usize = 0;
-    while i < count {
-        let p = piece_at(file, index, node, ty, i);
+    while i < opened.count {
+        let p = piece_at(file, index, node, ty, opened, i);
         let pattern = p.pattern;
         let step = i as u32;
         i += 1;
@@ -245,11 +245,11 @@ fn record_key(
         after ≡ WalkRules.eachField field skip fieldPath (patternsOf T node) 0 (fieldsFor T node ty) before
         ) ⌝ }
 {
-    let count = pieces(file, index, node, ty);
+    let opened = pieces(file, index, node, ty);
     let mut l = w;
     let mut i: usize = 0;
-    while i < count {
-        let p = piece_at(file, index, node, ty, i);
+    while i < opened.count {
+        let p = piece_at(file, index, node, ty, opened, i);
         let found = p.pattern;
         let pattern = walked_pattern(file, index, found, p.ty);
         let path = FieldPath::field(i as u16);

@@ -258,10 +258,10 @@ fn any_field(file: &[u8], index: &[u16], node: usize, ty: usize) -> bool
         Met T ty (λ below. anyField below (patternsOf T node) (fieldsFor T node ty)) r
         ) ⌝ }
 {
-    let count = pieces(file, index, node, ty);
+    let opened = pieces(file, index, node, ty);
     let mut i: usize = 0;
-    while i < count {
-        let p = piece_at(file, index, node, ty, i);
+    while i < opened.count {
+        let p = piece_at(file, index, node, ty, opened, i);
         let pattern = p.pattern;
         let t = p.ty;
         i += 1;
@@ -284,10 +284,10 @@ fn any_brought(file: &[u8], index: &[u16], node: usize, ty: usize) -> bool
         r ≡ anyField (broughtMeets T (meets T)) (patternsOf T node) (fieldsFor T node ty)
         ) ⌝ }
 {
-    let count = pieces(file, index, node, ty);
+    let opened = pieces(file, index, node, ty);
     let mut i: usize = 0;
-    while i < count {
-        let p = piece_at(file, index, node, ty, i);
+    while i < opened.count {
+        let p = piece_at(file, index, node, ty, opened, i);
         let pattern = p.pattern;
         let t = p.ty;
         i += 1;

@@ -1,3 +1,4 @@
+use Rattle.field_cases.proofs.Opens.{count-is}
 use mathlib.Core.Path.{sym, _∙_}
 use native.Mathlib.Omega.{arith}
 use borrow.Author.Needs.{needs}
@@ -47,10 +48,10 @@ abbrev go-on-claims : ℕ → go-on-lts.Claims
 go-on-claims t = (any-field-below t, any-field.Post, step-at-reads.Asked, step-at-reads.Learnt, go-on-below t, go-on.Post)
 
 abbrev any-field-Inv-loop : any-field-lts.InvT-loop
-any-field-Inv-loop file index node ty count i₀ i = Going (meetsBelow (tablesOf file)) (tablesOf file) node ty i
+any-field-Inv-loop file index node ty opened i₀ i = Going (meetsBelow (tablesOf file)) (tablesOf file) node ty i
 
 abbrev any-field-μ-loop : any-field-lts.MeasureT-loop
-any-field-μ-loop file index node ty count i₀ i = count - i
+any-field-μ-loop file index node ty opened i₀ i = opened .count - i
 
 any-field-pieces-requires : (t : ℕ) → any-field-lts.Need-pieces-requires (any-field-claims t) (any-field-at t) any-field.Post any-field-Inv-loop any-field-μ-loop
 any-field-pieces-requires t c κs = c .before .before .pre .1
@@ -60,57 +61,57 @@ any-field-loop-holds t c = going-first _ _ _ _
 
 any-field-piece-at-requires : (t : ℕ) → any-field-lts.Need-piece-at-requires (any-field-claims t) (any-field-at t) any-field.Post any-field-Inv-loop any-field-μ-loop
 any-field-piece-at-requires t c κs =
-    let p = c .before .before .before .before .before .pre .1 in
-    (p .0, (p .1, omega (arith, c .loop-test .taken, c .before .before .pieces .ensures .0)))
+    let p = c .before .before .before .before .before .before .pre .1 in
+    (p .0, (p .1, (c .before .before .before .pieces .ensures .0, c .if1 .taken)))
 
 any-field-add-i : (t : ℕ) → any-field-lts.Need-add-i (any-field-claims t) (any-field-at t) any-field.Post any-field-Inv-loop any-field-μ-loop
-any-field-add-i t c = omega (arith, c .before .loop-test .taken, c .before .before .before .pieces .ensures .1)
+any-field-add-i t c = omega (arith, c .before .if1 .taken, c .before .before .before .before .pieces .ensures .1)
 
 any-field-enum-known-pattern : (t : ℕ) → any-field-lts.Need-enum-known-pattern (any-field-claims t) (any-field-at t) any-field.Post any-field-Inv-loop any-field-μ-loop
 any-field-enum-known-pattern t c = search needs
 
 any-field-step-at-requires : (t : ℕ) → any-field-lts.Need-step-at-requires (any-field-claims t) (any-field-at t) any-field.Post any-field-Inv-loop any-field-μ-loop
 any-field-step-at-requires t c κs =
-    (c .before .before .before .before .before .before .before .before .before .pre .1 .0, c .before .before .before .piece-at .ensures .lower .known)
+    (c .before .before .before .before .before .before .before .before .before .before .pre .1 .0, c .before .before .before .piece-at .ensures .lower .known)
 
 any-field-go-on-requires : (t : ℕ) → any-field-lts.Need-go-on-requires (any-field-claims t) (any-field-at t) any-field.Post any-field-Inv-loop any-field-μ-loop
 any-field-go-on-requires t c κs =
-    let s = c .before .before .before .before .before .before .before .before .before .before in
+    let s = c .before .before .before .before .before .before .before .before .before .before .before in
     let l = c .before .before .before .before .piece-at .ensures .lower in
     (omega (arith, l .lower, s .pre .0), (s .pre .1 .0, (l .known, stepped-in _ (sound-tables _ _ (s .pre .1 .0)) _ _ _ (l .known) (c .step-at .ensures))))
 
 any-field-returns : (t : ℕ) → any-field-lts.Need-returns (any-field-claims t) (any-field-at t) any-field.Post any-field-Inv-loop any-field-μ-loop
 any-field-returns t c =
-    let v = c .before .before .before .before .before .before .before .before in
+    let v = c .before .before .before .before .before .before .before .before .before in
     let k = c .before .before .before .before .before .before .piece-at .ensures in
     record {
-      is = going-met _ _ _ _ _ (v .loop .inv) (omega (arith, c .before .before .before .before .before .before .before .loop-test .taken, v .before .pieces .ensures .0)) _ k _ (c .before .before .before .before .pattern .given .1)
-          (λ limit l. sym (c .if1 .taken) ∙ met-below _ _ _ _ _ (c .before .before .step-at .ensures) (c .before .go-on .ensures) limit (omega (arith, k .lower .lower, l)));
+      is = going-met _ _ _ _ _ (v .loop .inv) (omega (arith, c .before .before .before .before .before .before .before .if1 .taken, count-is _ _ _ _ _ (v .before .pieces .ensures .0))) _ k _ (c .before .before .before .before .pattern .given .1)
+          (λ limit l. sym (c .if2 .taken) ∙ met-below _ _ _ _ _ (c .before .before .step-at .ensures) (c .before .go-on .ensures) limit (omega (arith, k .lower .lower, l)));
     }
 
 any-field-loop-less : (t : ℕ) → any-field-lts.Need-loop-less (any-field-claims t) (any-field-at t) any-field.Post any-field-Inv-loop any-field-μ-loop
-any-field-loop-less t c = omega (arith, c .before .before .before .before .before .before .before .loop-test .taken)
+any-field-loop-less t c = omega (arith, c .before .before .before .before .before .before .before .if1 .taken)
 
 any-field-loop-again : (t : ℕ) → any-field-lts.Need-loop-again (any-field-claims t) (any-field-at t) any-field.Post any-field-Inv-loop any-field-μ-loop
 any-field-loop-again t c =
-    let v = c .before .before .before .before .before .before .before .before in
+    let v = c .before .before .before .before .before .before .before .before .before in
     let k = c .before .before .before .before .before .before .piece-at .ensures in
-    going-clear _ _ _ _ _ (v .loop .inv) (omega (arith, c .before .before .before .before .before .before .before .loop-test .taken, v .before .pieces .ensures .0)) _ k _ (c .before .before .before .before .pattern .given .1)
-    (λ limit l. sym (c .if1 .left) ∙ met-below _ _ _ _ _ (c .before .before .step-at .ensures) (c .before .go-on .ensures) limit (omega (arith, k .lower .lower, l)))
+    going-clear _ _ _ _ _ (v .loop .inv) (omega (arith, c .before .before .before .before .before .before .before .if1 .taken, count-is _ _ _ _ _ (v .before .pieces .ensures .0))) _ k _ (c .before .before .before .before .pattern .given .1)
+    (λ limit l. sym (c .if2 .left) ∙ met-below _ _ _ _ _ (c .before .before .step-at .ensures) (c .before .go-on .ensures) limit (omega (arith, k .lower .lower, l)))
 
 any-field-enum-told : (t : ℕ) → any-field-lts.Need-enum-told (any-field-claims t) (any-field-at t) any-field.Post any-field-Inv-loop any-field-μ-loop
 any-field-enum-told t c = search needs
 
 any-field-loop-less-2 : (t : ℕ) → any-field-lts.Need-loop-less-2 (any-field-claims t) (any-field-at t) any-field.Post any-field-Inv-loop any-field-μ-loop
-any-field-loop-less-2 t c = omega (arith, c .before .before .before .loop-test .taken)
+any-field-loop-less-2 t c = omega (arith, c .before .before .before .if1 .taken)
 
 any-field-loop-again-2 : (t : ℕ) → any-field-lts.Need-loop-again-2 (any-field-claims t) (any-field-at t) any-field.Post any-field-Inv-loop any-field-μ-loop
 any-field-loop-again-2 t c =
-    going-missing _ _ _ _ _ (c .before .before .before .before .loop .inv) (omega (arith, c .before .before .before .loop-test .taken, c .before .before .before .before .before .pieces .ensures .0)) _ (c .before .before .piece-at .ensures) (c .enum-told .given .1)
+    going-missing _ _ _ _ _ (c .before .before .before .before .before .loop .inv) (omega (arith, c .before .before .before .if1 .taken, count-is _ _ _ _ _ (c .before .before .before .before .before .before .pieces .ensures .0))) _ (c .before .before .piece-at .ensures) (c .enum-told .given .1)
 
 any-field-returns-2 : (t : ℕ) → any-field-lts.Need-returns-2 (any-field-claims t) (any-field-at t) any-field.Post any-field-Inv-loop any-field-μ-loop
 any-field-returns-2 t c =
-    record { is = going-end _ _ _ _ _ (c .before .loop .inv) (omega (arith, c .loop-test .left, c .before .before .pieces .ensures .0)) }
+    record { is = going-end _ _ _ _ _ (c .before .before .loop .inv) (omega (arith, c .if1 .left, count-is _ _ _ _ _ (c .before .before .before .pieces .ensures .0))) }
 
 go-on-enum-known-s : (t : ℕ) → go-on-lts.Need-enum-known-s (go-on-claims t) (go-on-at t) go-on.Post
 go-on-enum-known-s t c = search needs
