@@ -85,18 +85,8 @@ pub fn field(
         Way::Variable(x) => {
             let found = lookup(file, index, work, w.lists(), x);
             if found.some {
-                return matched(
-                    file,
-                    index,
-                    work,
-                    plan,
-                    node,
-                    found.slot,
-                    ty,
-                    address,
-                    path,
-                    w,
-                );
+                let slot = found.slot;
+                return matched(file, index, work, plan, node, slot, ty, address, path, w);
             }
             captured(file, index, work, plan, x, ty, address, path, w)
         }

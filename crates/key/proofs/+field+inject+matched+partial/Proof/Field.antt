@@ -75,7 +75,7 @@ pub field-lookup-requires : (t : ℕ) → field-lts.Need-lookup-requires (field-
 field-lookup-requires t c κs = c .before .before .before .before .before .before .before .before .before .before .before .before .pre .1 .0
 
 pub field-matched-requires : (t : ℕ) → field-lts.Need-matched-requires (field-claims t) (field-at t) field.Post
-field-matched-requires t c κs = (omega (arith, c .before .before .before .before .before .before .before .before .before .before .before .before .before .before .before .before .pre .0), c .before .before .before .before .before .before .before .before .before .before .before .before .before .before .before .before .pre .1)
+field-matched-requires t c κs = (omega (arith, c .before .before .before .before .before .before .before .before .before .before .before .before .before .before .before .before .before .pre .0), c .before .before .before .before .before .before .before .before .before .before .before .before .before .before .before .before .before .pre .1)
 
 pub field-same-length-3 : (t : ℕ) → field-lts.Need-same-length-3 (field-claims t) (field-at t) field.Post
 field-same-length-3 t c = c .before .before .before .before .matched .kept .1 .1 .0
@@ -84,7 +84,7 @@ pub field-same-length-4 : (t : ℕ) → field-lts.Need-same-length-4 (field-clai
 field-same-length-4 t c = c .before .before .before .before .matched .kept .1 .1 .1 .0
 
 pub field-returns-3 : (t : ℕ) → field-lts.Need-returns-3 (field-claims t) (field-at t) field.Post
-field-returns-3 t c = field-bound _ _ _ _ _ _ _ (c .before .before .before .before .before .before .before .before .before .before .before .before .before .before .way-of .ensures) (nodes-lower _ (passed-all _ (c .before .before .before .before .before .before .before .before .before .before .before .before .before .before .before .before .before .before .before .before .before .pre .1 .0 .accepted))) _ (c .before .before .before .before .before .before .before .before .before .before .before .before .x .given .1) (c .before .before .before .before .before .before .before .before .lookup .result) (looked-up _ _ (c .before .before .before .before .before .before .before .before .lookup .result) _ _ _ _ (c .before .before .before .before .before .before .before .before .before .lists .ensures) (c .before .before .before .before .before .before .before .before .lookup .ensures)) _ (c .before .before .before .before .before .before .before .if3 .taken) (c .before .before .before .before .matched .ensures)
+field-returns-3 t c = field-bound _ _ _ _ _ _ _ (c .before .before .before .before .before .before .before .before .before .before .before .before .before .before .before .way-of .ensures) (nodes-lower _ (passed-all _ (c .before .before .before .before .before .before .before .before .before .before .before .before .before .before .before .before .before .before .before .before .before .before .pre .1 .0 .accepted))) _ (c .before .before .before .before .before .before .before .before .before .before .before .before .before .x .given .1) (c .before .before .before .before .before .before .before .before .before .lookup .result) (looked-up _ _ (c .before .before .before .before .before .before .before .before .before .lookup .result) _ _ _ _ (c .before .before .before .before .before .before .before .before .before .before .lists .ensures) (c .before .before .before .before .before .before .before .before .before .lookup .ensures)) _ (c .before .before .before .before .before .before .before .before .if3 .taken) (c .before .before .before .before .matched .ensures)
 
 pub field-captured-requires : (t : ℕ) → field-lts.Need-captured-requires (field-claims t) (field-at t) field.Post
 field-captured-requires t c κs = (c .before .before .before .before .before .before .before .before .before .before .before .before .before .before .before .before .pre .1 .0, c .before .before .before .before .before .before .before .before .before .before .before .before .before .before .before .before .pre .1 .1 .known)
