@@ -173,6 +173,8 @@ pub fn worst() -> Vec<Case> {
         ),
         case("union values", &stalls::union_values()),
         case("no name in common", &stalls::no_name_in_common()),
+        case("accesses", &stalls::accesses()),
+        case("reports", &stalls::reports()),
         case("made bindings", &stalls::made_bindings()),
         case("chains of reads", &stalls::chains()),
         case("whole key", &stalls::whole_key()),

@@ -270,6 +270,55 @@ pub fn no_name_in_common() -> RuleFile {
     all_levels(file)
 }
 
+/// On each of 64 levels 480 Accesses read one part of a constant: a thousand records that
+/// lack their one text, and so give nothing.
+pub fn accesses() -> RuleFile {
+    const READS: u16 = 240;
+    let mut file = start(WIDE + 1);
+    let lacking = record_ty(&mut file, 1, STR);
+    let wide = record_ty(&mut file, VARS, lacking);
+    let part = record_ty(&mut file, 4, wide);
+    let reads = record_ty(&mut file, READS, part);
+    record_ty(&mut file, 2, reads);
+    let part = record(&mut file, 0..4, |file| {
+        record(file, 0..VARS, |file| node(file, Node::Record(vec![])))
+    });
+    let bound = node(&mut file, Node::Record(vec![(0, part)]));
+    bind(&mut file, WIDE, Slot::Const(bound));
+    record(&mut file, 0..2, |file| {
+        record(file, 0..READS, |file| {
+            let base = node(file, Node::Var(WIDE));
+            node(file, Node::KeyAccess(0, base))
+        })
+    });
+    all_levels(file)
+}
+
+/// On each of 64 levels 80 Vars stand for a constant that is opened and reports one union
+/// value without a pair, beside 1,750 records that give nothing.
+pub fn reports() -> RuleFile {
+    const OPENED: u16 = 80;
+    const RECORDS: u16 = 7;
+    let mut file = start(WIDE + 1);
+    let lacking = record_ty(&mut file, 1, STR);
+    let union = ty(&mut file, Type::Union(vec![(0, 0, STR)]));
+    let wide = record_ty(&mut file, VARS, lacking);
+    let mut fields: Vec<(u16, u16)> = (0..RECORDS).map(|name| (name, wide)).collect();
+    fields.push((RECORDS, union));
+    let constant = ty(&mut file, Type::Record(fields));
+    record_ty(&mut file, OPENED, constant);
+    let mut given = vec![];
+    for name in 0..RECORDS {
+        let records = record(&mut file, 0..VARS, |file| node(file, Node::Record(vec![])));
+        given.push((name, records));
+    }
+    given.push((RECORDS, node(&mut file, Node::Record(vec![]))));
+    let bound = node(&mut file, Node::Record(given));
+    bind(&mut file, WIDE, Slot::Const(bound));
+    record(&mut file, 0..OPENED, |file| node(file, Node::Var(WIDE)));
+    all_levels(file)
+}
+
 /// The first level makes 500 bindings; on each of the others 1,500 Vars stand for a record
 /// that lacks its text, and so are none of them. Their name has the number 0, whose bytes
 /// stand in every binding that is made, but not where its name is.
@@ -427,6 +476,8 @@ mod tests {
             (lacking_their_last_leaf(), 64),
             (union_values(), 64),
             (no_name_in_common(), 64),
+            (accesses(), 64),
+            (reports(), 64),
             (made_bindings(), 64),
             (chains(), 64),
             (falling_discs(), 1),
@@ -490,6 +541,15 @@ mod tests {
         }
     }
 
+    #[test]
+    fn what_is_read_gives_nothing_and_what_is_opened_reports() {
+        let read = plan(&cut(accesses(), 1, 0));
+        assert_eq!((read.levels[0].entries(), read.diagnostics.len()), (0, 0));
+        let opened = plan(&cut(reports(), 1, 0));
+        let codes: Vec<u8> = opened.diagnostics.iter().map(|(_, code)| *code).collect();
+        assert_eq!((opened.levels[0].entries(), codes), (0, vec![9; 80]));
+    }
+
     /// On what `bench worst` compares in full, if it can wait for the Rust.
     #[test]
     fn the_original_bodies_agree() {
@@ -501,6 +561,8 @@ mod tests {
             cut(lacking_their_last_leaf(), 1, 0),
             cut(union_values(), 1, 1),
             cut(no_name_in_common(), 1, 0),
+            cut(accesses(), 1, 0),
+            cut(reports(), 1, 0),
             made_bindings(),
             cut(chains(), 1, 0),
             whole_key(),

@@ -1,1 +1,2 @@
 pub mod AcceptedFile
+pub mod Fates

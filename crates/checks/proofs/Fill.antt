@@ -48,7 +48,7 @@ pub indexed-sets : (f ix vs : List ℕ) (b : ℕ) → 4682 ≤ b → Indexed f i
 indexed-sets f ix vs b h x =
     record {
       small = x .small;
-      long = length-sets ix b vs ∙ x .long;
+      long = omega (arith, length-sets ix b vs, x .long);
       accepted = x .accepted;
       names = section-above 0 (lit< tt) g (x .names);
       types = section-above 1 (lit< tt) g (x .types);
@@ -128,7 +128,7 @@ bit-true false = refl
 
 -- the areas while they are filled
 module _ (T : Tables) (ix : List ℕ) (lower : childrenLower T ≡ true) where
-  pub depth-here : (t : ℕ) → t < length (T .types) → length (T .types) ≤ 512 → length ix ≡ indexLength → depthOf (drop depthsBase (sets ix depthsBase (take t (depths T)))) (typeAt T t) ≡ getD (depths T) t 0
+  pub depth-here : (t : ℕ) → t < length (T .types) → length (T .types) ≤ 512 → indexLength ≤ length ix → depthOf (drop depthsBase (sets ix depthsBase (take t (depths T)))) (typeAt T t) ≡ getD (depths T) t 0
   depth-here t h few long =
       let l = depths-long T in
       depth-agree t (drop depthsBase (sets ix depthsBase (take t (depths T)))) (take t (depths T)) (typeAt T t) (λ c k. stored-at (depths T) ix depthsBase t c (omega arith) (omega arith) k) (type-lower T lower t h)
@@ -142,32 +142,32 @@ module _ (T : Tables) (ix : List ℕ) (lower : childrenLower T ≡ true) where
   unfolding flagsOf
   flags-get c = List·getD-map bitOf (constants T) c false
 
-  flag-here : (n c : ℕ) → n ≤ length (T .nodes) → length (T .nodes) ≤ 2048 → length ix ≡ indexLength → c < n → getD (flagsAt (sets ix constantsBase (take n (flagsOf T)))) c false ≡ getD (take n (constants T)) c false
+  flag-here : (n c : ℕ) → n ≤ length (T .nodes) → length (T .nodes) ≤ 2048 → indexLength ≤ length ix → c < n → getD (flagsAt (sets ix constantsBase (take n (flagsOf T)))) c false ≡ getD (take n (constants T)) c false
   flag-here n c h few long k =
       let l = flags-long in
       flag-at (sets ix constantsBase (take n (flagsOf T))) c
       ∙ ap (λ (x : ℕ). eqb x 1) (sym (getD-drop constantsBase (sets ix constantsBase (take n (flagsOf T))) c 0) ∙ stored-at (flagsOf T) ix constantsBase n c (omega arith) (omega arith) k ∙ getD-take n (flagsOf T) c 0 k ∙ flags-get c)
       ∙ bit-true (getD (constants T) c false) ∙ sym (getD-take n (constants T) c false k)
 
-  pub constant-here : (n : ℕ) → n < length (T .nodes) → length (T .nodes) ≤ 2048 → length ix ≡ indexLength → constantOf (flagsAt (sets ix constantsBase (take n (flagsOf T)))) (nodeAt T n) ≡ getD (constants T) n false
+  pub constant-here : (n : ℕ) → n < length (T .nodes) → length (T .nodes) ≤ 2048 → indexLength ≤ length ix → constantOf (flagsAt (sets ix constantsBase (take n (flagsOf T)))) (nodeAt T n) ≡ getD (constants T) n false
   constant-here n h few long =
       let g : n ≤ length (T .nodes) = omega arith in
       constant-agree n (flagsAt (sets ix constantsBase (take n (flagsOf T)))) (take n (constants T)) (nodeAt T n) (λ c k. flag-here n c g few long k) (node-lower T lower n h)
       ∙ sym (constants-entry T n h)
 
-  pub flag-next : (n v : ℕ) (b : Bool) → n < length (T .nodes) → length (T .nodes) ≤ 2048 → length ix ≡ indexLength → v ≡ bitOf b → b ≡ constantOf (flagsAt (sets ix constantsBase (take n (flagsOf T)))) (nodeAt T n)
+  pub flag-next : (n v : ℕ) (b : Bool) → n < length (T .nodes) → length (T .nodes) ≤ 2048 → indexLength ≤ length ix → v ≡ bitOf b → b ≡ constantOf (flagsAt (sets ix constantsBase (take n (flagsOf T)))) (nodeAt T n)
       → set (sets ix constantsBase (take n (flagsOf T))) (constantsBase + n) v ≡ sets ix constantsBase (take (n + 1) (flagsOf T))
   flag-next n v b h few long ev eb =
       let l = flags-long in
       store-next (flagsOf T) ix constantsBase n (omega arith) v (ev ∙ ap bitOf (eb ∙ constant-here n h few long) ∙ sym (flags-get n))
 
-  pub depth-next : (t v : ℕ) → t < length (T .types) → length (T .types) ≤ 512 → length ix ≡ indexLength → v ≡ depthOf (drop depthsBase (sets ix depthsBase (take t (depths T)))) (typeAt T t)
+  pub depth-next : (t v : ℕ) → t < length (T .types) → length (T .types) ≤ 512 → indexLength ≤ length ix → v ≡ depthOf (drop depthsBase (sets ix depthsBase (take t (depths T)))) (typeAt T t)
       → set (sets ix depthsBase (take t (depths T))) (depthsBase + t) v ≡ sets ix depthsBase (take (t + 1) (depths T))
   depth-next t v h few long e =
       let l = depths-long T in
       store-next (depths T) ix depthsBase t (omega arith) v (e ∙ depth-here t h few long)
 
-  pub depth-small : (t v : ℕ) → t < length (T .types) → length (T .types) ≤ 512 → length ix ≡ indexLength → v ≡ depthOf (drop depthsBase (sets ix depthsBase (take t (depths T)))) (typeAt T t) → v ≤ 512
+  pub depth-small : (t v : ℕ) → t < length (T .types) → length (T .types) ≤ 512 → indexLength ≤ length ix → v ≡ depthOf (drop depthsBase (sets ix depthsBase (take t (depths T)))) (typeAt T t) → v ≤ 512
   depth-small t v h few long e = omega (arith, e ∙ depth-here t h few long, depth-bound T t h)
 
   pub depths-done : (t : ℕ) → length (T .types) ≤ t → sets ix depthsBase (take t (depths T)) ≡ sets ix depthsBase (depths T)
@@ -245,7 +245,7 @@ pub steps-high : (k n b : ℕ) → n ≡ k → b < k → leb n b ≡ false
 steps-high k n b e h = ap (λ (j : ℕ). leb j b) e ∙ lt-leb k b h
 
 -- the same for an index jx that is known to be so far
-module _ (T : Tables) (ix jx : List ℕ) (lower : childrenLower T ≡ true) (long : length ix ≡ indexLength) where
+module _ (T : Tables) (ix jx : List ℕ) (lower : childrenLower T ≡ true) (long : indexLength ≤ length ix) where
   pub depth-stored : (t v : ℕ) → t < length (T .types) → length (T .types) ≤ 512 → jx ≡ sets ix depthsBase (take t (depths T)) → v ≡ depthOf (drop depthsBase jx) (typeAt T t)
       → (set jx (depthsBase + t) v ≡ sets ix depthsBase (take (t + 1) (depths T))) × (v ≤ 512)
   depth-stored t v h few e g =

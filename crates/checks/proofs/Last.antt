@@ -63,10 +63,14 @@ indexed-over f (b ∷ bs) ix k x = indexed-over f bs (set ix (lastBindingsBase +
 pub record Written (f ix jx : List ℕ) (k : ℕ) : Type 0 where
   pub within : k ≤ length (tablesOf f .bindings)
   pub indexed : Indexed f jx
+  pub long : length jx ≡ length ix
   pub same : bindingsOver jx k (drop k (tablesOf f .bindings)) ≡ bindingsOver ix 0 (tablesOf f .bindings)
 
+pub cleared-length : (ix jx : List ℕ) (n : ℕ) → jx ≡ sets ix lastBindingsBase (replicate n 0) → length jx ≡ length ix
+cleared-length ix jx n e = ap length e ∙ length-sets ix lastBindingsBase (replicate n 0)
+
 pub written-none : (f ix jx : List ℕ) (n : ℕ) → Indexed f ix → jx ≡ sets ix lastBindingsBase (replicate n 0) → Written f jx jx 0
-written-none f ix jx n x e = record { within = omega arith; indexed = indexed-so f ix jx (replicate n 0) lastBindingsBase (omega arith) e x; same = refl }
+written-none f ix jx n x e = record { within = omega arith; indexed = indexed-so f ix jx (replicate n 0) lastBindingsBase (omega arith) e x; long = refl; same = refl }
 
 module _ (f ix jx : List ℕ) (k : ℕ) (w : Written f ix jx k) where
   pub written-more : (x : ℕ) → k < length (tablesOf f .bindings) → x ≡ bindingAt (tablesOf f) k .name → Written f ix (set jx (lastBindingsBase + x) (k + 1)) (k + 1)
@@ -75,6 +79,7 @@ module _ (f ix jx : List ℕ) (k : ℕ) (w : Written f ix jx k) where
       record {
         within = omega arith;
         indexed = indexed-sets f jx ((k + 1) ∷ []) (lastBindingsBase + x) (omega arith) (w .indexed);
+        long = length-set jx (lastBindingsBase + x) (k + 1) ∙ w .long;
         same =
             ap (λ (i : ℕ). bindingsOver (set jx (lastBindingsBase + x) (k + 1)) (k + 1) (drop i (tablesOf f .bindings))) (add-one k)
             ∙ ap (λ (i : ℕ). bindingsOver (set jx (lastBindingsBase + i) (k + 1)) (k + 1) (drop (suc k) (tablesOf f .bindings))) e
@@ -101,7 +106,7 @@ filled f ix x lower =
     let kx : List ℕ = sets jx constantsBase (flagsOf T) in
     let zs : List ℕ = replicate (length (T .names)) 0 in
     let lx : List ℕ = sets kx lastBindingsBase zs in
-    let long : length lx ≡ indexLength = length-sets kx lastBindingsBase zs ∙ length-sets jx constantsBase (flagsOf T) ∙ length-sets ix depthsBase (depths T) ∙ n in
+    let long : indexLength ≤ length lx = omega (arith, length-sets kx lastBindingsBase zs, length-sets jx constantsBase (flagsOf T), length-sets ix depthsBase (depths T)) in
     let kept : (j : ℕ) → j < lastBindingsBase → getD (bindingsOver lx 0 (T .bindings)) j 0 ≡ getD kx j 0 = λ j h. over-below (T .bindings) lx 0 j h ∙ sets-below zs kx lastBindingsBase j 0 h in
     record {
       indexed = indexed-over f (T .bindings) lx 0 (indexed-sets f kx zs lastBindingsBase (omega arith) (indexed-sets f jx (flagsOf T) constantsBase (omega arith) (indexed-sets f ix (depths T) depthsBase (omega arith) x)));

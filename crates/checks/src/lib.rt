@@ -53,7 +53,7 @@ pub enum Verdict {
 
 // The greatest of the depths of n child types, whose numbers stand from p on, w bytes apart.
 fn deepest_of(file: &[u8], index: &[u16], t: usize, w: usize, n: usize, p: usize) -> usize
-    requires { ⌜ (length (now index) ≡ indexLength) × (t ≤ typeLimit) ⌝ }
+    requires { ⌜ (indexLength ≤ length (now index)) × (t ≤ typeLimit) ⌝ }
     requires { ⌜ Words (now file) 2 w n p ⌝ }
     requires { ⌜ all (λ c. ltb c t) (run (word (now file)) w n p) ≡ true ⌝ }
     ensures gives { λ r. ⌜ (
@@ -121,7 +121,7 @@ fn fill_depths(file: &[u8], index: &mut [u16])
 
 // Whether each of n child nodes is constant; their numbers stand from p on, four bytes apart.
 fn all_constant(file: &[u8], index: &[u16], m: usize, n: usize, p: usize) -> bool
-    requires { ⌜ (length (now index) ≡ indexLength) × (m ≤ nodeLimit) ⌝ }
+    requires { ⌜ (indexLength ≤ length (now index)) × (m ≤ nodeLimit) ⌝ }
     requires { ⌜ Words (now file) 2 4 n p ⌝ }
     requires { ⌜ all (λ c. ltb c m) (run (word (now file)) 4 n p) ≡ true ⌝ }
     ensures { λ r. ⌜ (
@@ -208,7 +208,7 @@ fn binding_name(file: &[u8], index: &[u16], k: usize) -> usize
 
 // Zero for each of n names: it has no binding so far.
 fn clear_last_bindings(index: &mut [u16], n: usize)
-    requires { ⌜ (length (now index) ≡ indexLength) × (n ≤ nameLimit) ⌝ }
+    requires { ⌜ (indexLength ≤ length (now index)) × (n ≤ nameLimit) ⌝ }
     ensures { λ _. ⌜ now (index .exit) ≡ sets (now (index .entry)) lastBindingsBase (replicate n 0) ⌝ }
 {
     let mut x = 0;
@@ -519,7 +519,7 @@ pub fn check(file: &[u8], index: &mut [u16]) -> Verdict
 
 // Reads and checks a file. On acceptance the index finds every record, and holds depths, constancy and last bindings.
 pub fn verify(file: &[u8], index: &mut [u16]) -> Verdict
-    requires { ⌜ (length (now file) ≤ fileLimit) × (length (now index) ≡ indexLength) ⌝ }
+    requires { ⌜ (length (now file) ≤ fileLimit) × (indexLength ≤ length (now index)) ⌝ }
     ensures gives { λ r. ⌜ r ≡ fileVerdict (now (file .entry)) ⌝ }
     ensures leaves { λ r. ⌜ now (index .exit) ≡ fileIndex (now (file .entry)) (now (index .entry)) ⌝ }
     ensures finds { λ r. ⌜ (r ≡ Verdict.Accepted → Checked (now (file .entry)) (now (index .exit))) ⌝ }

@@ -7,7 +7,7 @@ use Prim.Native.Nat.{ℕ, _+_, _≤_, _<_, min}
 use native.Mathlib.Omega.{arith}
 use borrow.Author.Tests.{le-leb, lt-leb, leb-true}
 use lib.Dec.{leb}
-use lib.ListN.{length, take}
+use lib.ListN.{length, take, replicate, length-replicate}
 use lib.Seq.{sets, length-sets}
 use Rattle.rules.specs.Base.{Each}
 use Rattle.rules.specs.Limits.{fileLimit, workLimit, planLimit}
@@ -26,6 +26,7 @@ use Rattle.state.proofs.Whole.{exact-file, mistyped-file}
 use Rattle.rules.specs.Literals.{levelsMeet}
 use Rattle.rules.proofs.Literals.{levels-meet}
 use Rattle.accepted_file.proofs.Given.{sound-tables}
+use Rattle.file.specs.Steps.{indexLength}
 use Rattle.file.specs.Tables.{tablesOf}
 use Rattle.accepted_file.specs.AcceptedFile.{AcceptedFile, flag}
 use Rattle.checks.specs.Checked.{bitOf, Checked, verdictOf, allFault, readVerdict, fileVerdict}
@@ -33,6 +34,7 @@ use Rattle.checks.specs.declared.Verdict.{Verdict}
 use Rattle.checks.specs.declared.Verdict.the-variants as Ve
 use Rattle.endings.specs.Endings.{endingOutcome}
 use Rattle.compile.specs.Memories.{callVerdict, acceptedOutcome, Memory, memory, memoryBy}
+use Rattle.fates.proofs.Right.{short-recalls}
 use Rattle.levels.specs.Written.{unleveled, betweenLevels, writtenOf}
 use Rattle.endings.specs.declared.Ending.the-variants.{Planned, Refused}
 use Rattle.levels.specs.declared.Written.{Written}
@@ -79,6 +81,10 @@ refused-outcome f p room area n =
     (λ p e. ap Outcome.refused (refused-number n 2 (sym e))))
     (λ q e. ap Outcome.refused (refused-number n 1 (sym e)))
 
+-- the index of the call's own frame keeps its length
+pub own-length : (ix zx : List ℕ) → length ix ≡ length zx → zx ≡ replicate indexLength 0 → length ix ≡ indexLength
+own-length ix zx l e = l ∙ ap length e ∙ length-replicate {A = ℕ} indexLength 0
+
 -- an accepted file is ready
 no-fault : (o : Option ℕ) → verdictOf o ≡ Ve.Accepted → o ≡ none
 no-fault none e = refl
@@ -88,9 +94,9 @@ bit-flag : (b : Bool) → bitOf b ≡ flag b
 bit-flag true = refl
 bit-flag false = refl
 
-pub ready : (f ix : List ℕ) (v : Verdict) → v ≡ fileVerdict f → v ≡ Ve.Accepted → Checked f ix → AcceptedFile f ix
+pub ready : (f ix : List ℕ) (v : Verdict) → length ix ≡ indexLength → v ≡ fileVerdict f → v ≡ Ve.Accepted → Checked f ix → AcceptedFile f ix
 unfolding fileVerdict readVerdict allFault
-ready f ix v e q k =
+ready f ix v short e q k =
     let filled = k .numbered .filled in
     record {
       indexed = filled .indexed;
@@ -98,6 +104,7 @@ ready f ix v e q k =
       depths = filled .depth-at;
       constants = λ n h. filled .constant-at n h ∙ bit-flag (isConstant (tablesOf f) n);
       last-bindings = filled .last-at;
+      remembered = λ n t d h l r. short-recalls (tablesOf f) ix short n t d r;
     }
 
 -- what the tables say of the levels is what their walks note

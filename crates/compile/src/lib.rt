@@ -6,6 +6,7 @@ ghost use Rattle.rules.specs.Limits.{fileLimit, workLimit};
 ghost use Rattle.rules.specs.Compile as CompileRules;
 ghost use Rattle.rules.specs.Demand1.{refusals, Demand1};
 ghost use Rattle.rules.specs.Demand3.{Demand3};
+ghost use Rattle.file.specs.Steps.{indexLength};
 ghost use Rattle.file.specs.Tables.{tablesOf};
 ghost use Rattle.accepted_file.specs.AcceptedFile.{AcceptedFile};
 ghost use Rattle.endings.specs.Endings.{endingOutcome, Within};
@@ -14,6 +15,9 @@ ghost use Rattle.checks.specs.Checked.{fileVerdict};
 use checks::Verdict;
 use checks::verify;
 use endings::Ending;
+use fates::LONG_INDEX;
+use fates::any_record;
+use fates::remember;
 use file::INDEX;
 use levels::write;
 use literals::levels_meet;
@@ -48,6 +52,48 @@ fn accepted(file: &[u8], index: &[u16], plan: &mut [u8], work: &mut [u8]) -> End
     }
 }
 
+// The same, by an index that remembers what constants come to.
+fn remembered(file: &[u8], index: &[u16], plan: &mut [u8], work: &mut [u8]) -> Ending
+    requires { ⌜ AcceptedFile (now file) (now index) ⌝ }
+    requires { ⌜ length (now index) ≡ indexLength ⌝ }
+    ensures outcome { λ r. ⌜ (
+        let T = tablesOf (now (file .entry)) in
+        endingOutcome r (now (plan .exit)) ≡ acceptedOutcome T (now (work .entry)) (now (plan .entry))
+        ) ⌝ }
+    ensures within { λ r. ⌜ Within r (now (plan .exit)) ⌝ }
+    ensures memory { λ _. ⌜ (
+        let T = tablesOf (now (file .entry)) in
+        let after = memory (now (work .exit)) (now (plan .exit)) in
+        after ≡ memoryBy Verdict.Accepted T (now (work .entry)) (now (plan .entry))
+        ) ⌝ }
+{
+    let mut long = [0u16; LONG_INDEX];
+    remember(file, index, &mut long);
+    accepted(file, &long, plan, work)
+}
+
+// Where a name stands for a Record it pays to remember what that comes to.
+fn walked(file: &[u8], index: &[u16], plan: &mut [u8], work: &mut [u8]) -> Ending
+    requires { ⌜ AcceptedFile (now file) (now index) ⌝ }
+    requires { ⌜ length (now index) ≡ indexLength ⌝ }
+    ensures outcome { λ r. ⌜ (
+        let T = tablesOf (now (file .entry)) in
+        endingOutcome r (now (plan .exit)) ≡ acceptedOutcome T (now (work .entry)) (now (plan .entry))
+        ) ⌝ }
+    ensures within { λ r. ⌜ Within r (now (plan .exit)) ⌝ }
+    ensures memory { λ _. ⌜ (
+        let T = tablesOf (now (file .entry)) in
+        let after = memory (now (work .exit)) (now (plan .exit)) in
+        after ≡ memoryBy Verdict.Accepted T (now (work .entry)) (now (plan .entry))
+        ) ⌝ }
+{
+    if any_record(file, index) {
+        remembered(file, index, plan, work)
+    } else {
+        accepted(file, index, plan, work)
+    }
+}
+
 // Reading and the whole-file checks first.
 fn checked(file: &[u8], plan: &mut [u8], work: &mut [u8]) -> Ending
     requires { ⌜ (length (now file) ≤ fileLimit) × (workLimit ≤ length (now work)) ⌝ }
@@ -66,7 +112,7 @@ fn checked(file: &[u8], plan: &mut [u8], work: &mut [u8]) -> Ending
 {
     let mut index = [0u16; INDEX];
     match verify(file, &mut index) {
-        Verdict::Accepted => accepted(file, &index, plan, work),
+        Verdict::Accepted => walked(file, &index, plan, work),
         Verdict::Refused(n) => Ending::Refused(n),
     }
 }

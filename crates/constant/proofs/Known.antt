@@ -60,7 +60,7 @@ other a b e = let z : _≡_ {A = ℕ} 0 1 = cc in omega arith
 fuzzy : (x d : ℕ) (a : Anchor) (b : List ℕ) → ConstantRules.Const.Fuzzy x d a ≡ ConstantRules.Const.Prefix b → ⊥
 fuzzy x d a b e = let z : _≡_ {A = ℕ} 0 1 = cc in omega arith
 
-record-bytes : (b : ℕ → ℕ → Option ConstantRules.Const) (patterns : List FieldPattern) (ty : Ty) (k : ConstantRules.Const) → constantRecord b patterns ty ≡ some k → (bytes : List ℕ) × (ConstantRules.Const.Bytes bytes ≡ k)
+pub record-bytes : (b : ℕ → ℕ → Option ConstantRules.Const) (patterns : List FieldPattern) (ty : Ty) (k : ConstantRules.Const) → constantRecord b patterns ty ≡ some k → (bytes : List ℕ) × (ConstantRules.Const.Bytes bytes ≡ k)
 unfolding constantRecord
 record-bytes b patterns Ty.Int k e = absurd (some≢none k (sym e))
 record-bytes b patterns Ty.Str k e = absurd (some≢none k (sym e))

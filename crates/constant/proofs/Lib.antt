@@ -11,3 +11,6 @@ pub mod Measured
 -- What `constant` gives for each form of node.
 pub mod Arms
 pub mod Known
+-- Whether there are bytes at all.
+pub mod Has
+pub mod Lacks

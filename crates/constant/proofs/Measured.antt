@@ -65,13 +65,20 @@ only-const T n t c s e q = q ∙ ap sizeOf e ∙ only-size T n t (ConstantRules.
 
 -- A field: the first pattern of its name.
 module _ (b : ℕ → ℕ → Option ConstantRules.Const) (patterns : List File.FieldPattern) (x t : ℕ) where
+  pub field-absent : (r : Found) → foundOption r ≡ fieldPattern patterns x → r ≡ Fo.Nothing → none ≡ fieldBytes b patterns x t
+  unfolding fieldBytes _whenSome_
+  field-absent r e q = ap (λ (o : Option ℕ). o whenSome λ p. b p t whenSome bytesOnly) (sym (ap foundOption q) ∙ e)
+
+  pub field-present : (r : Found) (p : ℕ) → foundOption r ≡ fieldPattern patterns x → r ≡ Fo.Just p → (b p t whenSome bytesOnly) ≡ fieldBytes b patterns x t
+  unfolding fieldBytes _whenSome_
+  field-present r p e q = ap (λ (o : Option ℕ). o whenSome λ p. b p t whenSome bytesOnly) (sym (ap foundOption q) ∙ e)
+
   pub field-none : (r : Found) → foundOption r ≡ fieldPattern patterns x → r ≡ Fo.Nothing → Si.Nothing ≡ sizeWith 0 (fieldBytes b patterns x t)
-  unfolding fieldBytes _whenSome_ sizeWith
-  field-none r e q = ap (λ (o : Option ℕ). sizeWith 0 (o whenSome λ p. b p t whenSome bytesOnly)) (sym (ap foundOption q) ∙ e)
+  unfolding sizeWith
+  field-none r e q = ap (sizeWith 0) (field-absent r e q)
 
   pub field-some : (r : Found) (p : ℕ) (s : Size) → foundOption r ≡ fieldPattern patterns x → r ≡ Fo.Just p → s ≡ sizeWith 0 (b p t whenSome bytesOnly) → s ≡ sizeWith 0 (fieldBytes b patterns x t)
-  unfolding fieldBytes _whenSome_
-  field-some r p s e q g = g ∙ ap (λ (o : Option ℕ). sizeWith 0 (o whenSome λ p. b p t whenSome bytesOnly)) (sym (ap foundOption q) ∙ e)
+  field-some r p s e q g = g ∙ ap (sizeWith 0) (field-present r p e q)
 
 -- the pattern that was found
 pub pattern-ok : (f : List ℕ) (T : Tables) (node n at x : ℕ) → Patterns f T node n at → (r : Found) (p : ℕ) → foundOption r ≡ fieldPattern (run (patternAt f) 4 n at) x → r ≡ Fo.Just p → (p < length (T .nodes)) × (constantRank T p < constantRank T node)
@@ -176,9 +183,13 @@ only-other f at (suc zero) d = absurd (d refl)
 only-other f at (suc (suc m)) d = refl
 
 module _ (b : ℕ → ℕ → Option ConstantRules.Const) (f : List ℕ) (n at : ℕ) (alts : List File.Alternative) where
+  pub payload-absent : (n ≡ 1 → ⊥) → none ≡ payloadBytes b (run (patternAt f) 4 n at) alts
+  unfolding payloadBytes _whenSome_
+  payload-absent d = sym (ap (λ (o : Option File.FieldPattern). o whenSome λ g. ConstantRules.alternativeOf alts (g .name) whenSome λ a. b (g .node) (a .type) whenSome bytesOnly) (only-other f at n d))
+
   pub payload-many : (n ≡ 1 → ⊥) → Si.Nothing ≡ sizeWith 0 (payloadBytes b (run (patternAt f) 4 n at) alts)
-  unfolding payloadBytes _whenSome_ sizeWith
-  payload-many d = sym (ap (λ (o : Option File.FieldPattern). sizeWith 0 (o whenSome λ g. ConstantRules.alternativeOf alts (g .name) whenSome λ a. b (g .node) (a .type) whenSome bytesOnly)) (only-other f at n d))
+  unfolding sizeWith
+  payload-many d = ap (sizeWith 0) (payload-absent d)
 
   module _ (one : n ≡ 1) (v : FieldPattern) (e : patternOf v ≡ patternAt f (at + 4 * 0)) (r : MaybeAlternative) (q : alternativeOption r ≡ ConstantRules.alternativeOf alts (v .name)) where
     only-one : onlyField (run (patternAt f) 4 n at) ≡ some (patternOf v)
@@ -193,13 +204,20 @@ module _ (b : ℕ → ℕ → Option ConstantRules.Const) (f : List ℕ) (n at :
         ap (λ (o : Option File.FieldPattern). o whenSome λ g. ConstantRules.alternativeOf alts (g .name) whenSome λ a. b (g .node) (a .type) whenSome bytesOnly) only-one
         ∙ ap (λ (o : Option File.Alternative). o whenSome λ a. b (v .node) (a .type) whenSome bytesOnly) (sym q)
 
+    pub payload-unnamed : r ≡ Ma.Nothing → none ≡ payloadBytes b (run (patternAt f) 4 n at) alts
+    unfolding _whenSome_
+    payload-unnamed d = sym (payload-is ∙ ap (λ (r : MaybeAlternative). alternativeOption r whenSome λ a. b (v .node) (a .type) whenSome bytesOnly) d)
+
+    pub payload-named : (a : Alternative) → r ≡ Ma.Just a → (b (v .node) (a .ty) whenSome bytesOnly) ≡ payloadBytes b (run (patternAt f) 4 n at) alts
+    unfolding _whenSome_
+    payload-named a d = sym (payload-is ∙ ap (λ (r : MaybeAlternative). alternativeOption r whenSome λ a. b (v .node) (a .type) whenSome bytesOnly) d)
+
     pub payload-none : r ≡ Ma.Nothing → Si.Nothing ≡ sizeWith 0 (payloadBytes b (run (patternAt f) 4 n at) alts)
-    unfolding _whenSome_ sizeWith
-    payload-none d = sym (ap (sizeWith 0) (payload-is ∙ ap (λ (r : MaybeAlternative). alternativeOption r whenSome λ a. b (v .node) (a .type) whenSome bytesOnly) d))
+    unfolding sizeWith
+    payload-none d = ap (sizeWith 0) (payload-unnamed d)
 
     pub payload-some : (a : Alternative) (s : Size) → r ≡ Ma.Just a → s ≡ sizeWith 0 (b (v .node) (a .ty) whenSome bytesOnly) → s ≡ sizeWith 0 (payloadBytes b (run (patternAt f) 4 n at) alts)
-    unfolding _whenSome_
-    payload-some a s d g = g ∙ sym (ap (sizeWith 0) (payload-is ∙ ap (λ (r : MaybeAlternative). alternativeOption r whenSome λ a. b (v .node) (a .type) whenSome bytesOnly) d))
+    payload-some a s d g = g ∙ ap (sizeWith 0) (payload-named a d)
 
 -- the only pattern and the alternative that was found
 pub only-ok : (f : List ℕ) (T : Tables) (node n at : ℕ) → Patterns f T node n at → n ≡ 1 → (v : FieldPattern) → patternOf v ≡ patternAt f (at + 4 * 0) → (v .node < length (T .nodes)) × (constantRank T (v .node) < constantRank T node)
@@ -211,6 +229,16 @@ only-ok f T node n at k one v e =
 pub alternative-ok : (f : List ℕ) (T : Tables) (k from x : ℕ) → Alternatives f T k from → (r : MaybeAlternative) (a : Alternative) → alternativeOption r ≡ ConstantRules.alternativeOf (run (alternativeAt f) 8 k from) x → r ≡ Ma.Just a → a .ty < length (T .types)
 unfolding ConstantRules.alternativeOf
 alternative-ok f T k from x o r a e q = each-first (λ a. eqb (a .name) x) (o .each) (alternativeOf a) (sym e ∙ ap alternativeOption q)
+
+-- a type that is neither Record nor Union
+pub neither : (b : ℕ → ℕ → Option ConstantRules.Const) (patterns : List File.FieldPattern) (f : List ℕ) (v : TypeView) → OneOf (0 ∷ 1 ∷ 2 ∷ 3 ∷ []) (tagOf TypeViews.the-type v) → constantRecord b patterns (typeOf f v) ≡ none
+unfolding constantRecord
+neither b patterns f Tv.Int w = refl
+neither b patterns f Tv.Str w = refl
+neither b patterns f Tv.Bytes w = refl
+neither b patterns f (Tv.Fact p) w = refl
+neither b patterns f (Tv.Record k at) w = absurd (miss (0 ∷ 1 ∷ 2 ∷ 3 ∷ []) 4 tt w)
+neither b patterns f (Tv.Union k at) w = absurd (miss (0 ∷ 1 ∷ 2 ∷ 3 ∷ []) 5 tt w)
 
 -- A record or a union around what was measured.
 module _ (T : Tables) (n t : ℕ) (b : ℕ → ℕ → Option ConstantRules.Const) (patterns : List File.FieldPattern) where
@@ -246,16 +274,6 @@ module _ (T : Tables) (n t : ℕ) (b : ℕ → ℕ → Option ConstantRules.Cons
       go none = refl
       go (some g) = among g (ConstantRules.alternativeOf alts (g .name))
 
-  -- a type that is neither Record nor Union
-  pub neither : (f : List ℕ) (v : TypeView) → OneOf (0 ∷ 1 ∷ 2 ∷ 3 ∷ []) (tagOf TypeViews.the-type v) → constantRecord b patterns (typeOf f v) ≡ none
-  unfolding constantRecord
-  neither f Tv.Int w = refl
-  neither f Tv.Str w = refl
-  neither f Tv.Bytes w = refl
-  neither f (Tv.Fact p) w = refl
-  neither f (Tv.Record k at) w = absurd (miss (0 ∷ 1 ∷ 2 ∷ 3 ∷ []) 4 tt w)
-  neither f (Tv.Union k at) w = absurd (miss (0 ∷ 1 ∷ 2 ∷ 3 ∷ []) 5 tt w)
-
   module _ (f : List ℕ) (ty : Ty) (v : TypeView) (s : SeenType f ty v) where
     pub as-record : (k from : ℕ) (m : Size) (r : Const) → v ≡ Tv.Record k from → m ≡ sizeWith 0 (constantFields b patterns (run (fieldAt f) 4 k from)) → r ≡ wrapped n t 2 m → r ≡ viewOf T n t (constantRecord b patterns ty)
     as-record k from m r e q g = g ∙ ap (wrapped n t 2) q ∙ record-view (run (fieldAt f) 4 k from) ∙ ap (λ (y : Ty). viewOf T n t (constantRecord b patterns y)) (subst (SeenType f ty) e s .is)
@@ -264,4 +282,4 @@ module _ (T : Tables) (n t : ℕ) (b : ℕ → ℕ → Option ConstantRules.Cons
     as-union k from m r e q g = g ∙ ap (wrapped n t 6) q ∙ union-view (run (alternativeAt f) 8 k from) ∙ ap (λ (y : Ty). viewOf T n t (constantRecord b patterns y)) (subst (SeenType f ty) e s .is)
 
     pub as-neither : OneOf (0 ∷ 1 ∷ 2 ∷ 3 ∷ []) (tagOf TypeViews.the-type v) → Co.Nothing ≡ viewOf T n t (constantRecord b patterns ty)
-    as-neither w = sym (ap (viewOf T n t) (sym (ap (constantRecord b patterns) (s .is)) ∙ neither f v w))
+    as-neither w = sym (ap (viewOf T n t) (sym (ap (constantRecord b patterns) (s .is)) ∙ neither b patterns f v w))

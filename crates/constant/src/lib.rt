@@ -5,12 +5,14 @@ ghost use Prim.Native.Nat.{_+_, _*_, _≤_, _<_, min};
 ghost use mathlib.Core.List.{[], _∷_};
 ghost use lib.ListN.{length};
 ghost use Rattle.rules.specs.Limits.{fileLimit};
+ghost use Rattle.rules.specs.Base.{either};
 ghost use Rattle.rules.specs.File.{nameAt, typeAt};
 ghost use Rattle.rules.specs.Constant as ConstantRules;
 ghost use Rattle.rules.specs.Constant.{escape, encodePrefix, constantFields, constantRecord};
 ghost use Rattle.file.specs.Tables.{Indexed, tablesOf};
 ghost use Rattle.views.specs.Views.{run, byteAt, fieldAt, alternativeAt, patternAt};
 ghost use Rattle.accepted_file.specs.AcceptedFile.{AcceptedFile};
+ghost use Rattle.constant.specs.Has.{given, hasBytes, isBytes, RecordAt};
 ghost use Rattle.constant.specs.Plain.{leastByte, plain};
 ghost use Rattle.constant.specs.Sizes.{cap, sizeWith, Small, viewOf, constView, intOnly, strOnly, bytesAlone, sizeOf, wrapped, fieldBytes, payloadBytes, Patterns, Fields, Alternatives};
 use file::least;
@@ -19,6 +21,7 @@ use tables::MaybeAlternative;
 use tables::alternative_of;
 use tables::field_pattern;
 use tables::folded;
+use tables::recall;
 use views::Anchor;
 use views::NodeView;
 use views::TypeView;
@@ -44,6 +47,9 @@ pub enum Size {
 
 // Longer than any plan: what is as long or longer counts as this long, so that no sum of lengths overflows.
 pub const CAP: usize = 65536;
+
+// The fate of a constant that has bytes, as the index remembers it.
+const BYTES: usize = 3;
 
 // The sum of two lengths, which stops at CAP.
 pub fn capped(a: usize, b: usize) -> usize
@@ -187,6 +193,142 @@ fn wrap(node: usize, ty: usize, k: usize, s: Size) -> Const
     }
 }
 
+// Whether a constant is bytes.
+fn is_bytes(c: Const) -> bool
+    ensures { λ r. ⌜ r ≡ isBytes c ⌝ }
+{
+    match c {
+        Const::Nothing => false,
+        Const::Bytes(_, _, _) => true,
+        Const::Prefix(_) => false,
+        Const::Fuzzy(_, _, _) => false,
+    }
+}
+
+// Whether a field has bytes: the first of a Record's n pairs that has its name.
+fn has_field(
+    file: &[u8],
+    index: &[u16],
+    node: usize,
+    n: usize,
+    at: usize,
+    name: usize,
+    ty: usize,
+) -> bool
+    requires { ⌜ AcceptedFile (now file) (now index) ⌝ }
+    requires { ⌜ Patterns (now file) (tablesOf (now file)) node n at ⌝ }
+    requires { ⌜ ty < length (tablesOf (now file) .types) ⌝ }
+    ensures { λ r. ⌜ (
+        let f = now (file .entry) in
+        let patterns = run (patternAt f) 4 n at in
+        r ≡ given (fieldBytes (ConstantRules.constant (tablesOf f)) patterns name ty)
+        ) ⌝ }
+{
+    let Found::Just(p) = field_pattern(file, at, n, name) else {
+        return false;
+    };
+    has_bytes(file, index, p, ty)
+}
+
+// Whether each of the k fields of a Record type has bytes.
+fn has_fields(
+    file: &[u8],
+    index: &[u16],
+    node: usize,
+    n: usize,
+    at: usize,
+    k: usize,
+    from: usize,
+) -> bool
+    requires { ⌜ AcceptedFile (now file) (now index) ⌝ }
+    requires { ⌜ Patterns (now file) (tablesOf (now file)) node n at ⌝ }
+    requires { ⌜ Fields (now file) (tablesOf (now file)) k from ⌝ }
+    ensures { λ r. ⌜ (
+        let f = now (file .entry) in
+        let patterns = run (patternAt f) 4 n at in
+        let fields = run (fieldAt f) 4 k from in
+        r ≡ given (constantFields (ConstantRules.constant (tablesOf f)) patterns fields)
+        ) ⌝ }
+{
+    let mut i: usize = 0;
+    while i < k {
+        let f = field_ty_at(file, from, i);
+        if !has_field(file, index, node, n, at, f.name, f.ty) {
+            return false;
+        }
+        i += 1;
+    }
+    true
+}
+
+// Whether the payload of a union value has bytes: a record of one pair, which names one of the k alternatives.
+fn has_payload(
+    file: &[u8],
+    index: &[u16],
+    node: usize,
+    n: usize,
+    at: usize,
+    k: usize,
+    from: usize,
+) -> bool
+    requires { ⌜ AcceptedFile (now file) (now index) ⌝ }
+    requires { ⌜ Patterns (now file) (tablesOf (now file)) node n at ⌝ }
+    requires { ⌜ Alternatives (now file) (tablesOf (now file)) k from ⌝ }
+    ensures { λ r. ⌜ (
+        let f = now (file .entry) in
+        let patterns = run (patternAt f) 4 n at in
+        let alternatives = run (alternativeAt f) 8 k from in
+        r ≡ given (payloadBytes (ConstantRules.constant (tablesOf f)) patterns alternatives)
+        ) ⌝ }
+{
+    if n != 1 {
+        return false;
+    }
+    let p = field_pattern_at(file, at, 0);
+    let MaybeAlternative::Just(a) = alternative_of(file, from, k, p.name) else {
+        return false;
+    };
+    has_bytes(file, index, p.node, a.ty)
+}
+
+// Whether a Record of n pairs has bytes at a type: as the index remembers it, else by its fields or its payload.
+fn has_record(file: &[u8], index: &[u16], node: usize, ty: usize, n: usize, at: usize) -> bool
+    requires { ⌜ AcceptedFile (now file) (now index) ⌝ }
+    requires { ⌜ RecordAt (now file) (tablesOf (now file)) node n at ⌝ }
+    requires { ⌜ ty < length (tablesOf (now file) .types) ⌝ }
+    ensures { λ r. ⌜ (
+        let f = now (file .entry) in
+        let T = tablesOf f in
+        r ≡ hasBytes (constantRecord (ConstantRules.constant T) (run (patternAt f) 4 n at) (typeAt T ty))
+        ) ⌝ }
+{
+    if let Found::Just(d) = recall(index, node, ty) {
+        return d == BYTES;
+    }
+    match type_at(file, index, ty) {
+        TypeView::Record(k, from) => has_fields(file, index, node, n, at, k, from),
+        TypeView::Union(k, from) => has_payload(file, index, node, n, at, k, from),
+        _ => false,
+    }
+}
+
+// Whether a pattern has bytes at a type. Nothing is measured for it, and what a Const comes to may be known to the index.
+pub fn has_bytes(file: &[u8], index: &[u16], node: usize, ty: usize) -> bool
+    requires { ⌜ AcceptedFile (now file) (now index) ⌝ }
+    requires { ⌜ node < length (tablesOf (now file) .nodes) ⌝ }
+    requires { ⌜ ty < length (tablesOf (now file) .types) ⌝ }
+    ensures { λ r. ⌜ r ≡ hasBytes (ConstantRules.constant (tablesOf (now (file .entry))) node ty) ⌝ }
+{
+    let m = folded(file, index, node);
+    match node_at(file, index, m) {
+        NodeView::Int(_) => is_bytes(at_int(file, index, ty, Const::Bytes(node, ty, 0))),
+        NodeView::Str(_) => is_bytes(at_str(file, index, ty, Const::Bytes(node, ty, 0))),
+        NodeView::Bytes(_, _) => is_bytes(at_bytes(file, index, ty, Const::Bytes(node, ty, 0))),
+        NodeView::Record(n, at) => has_record(file, index, m, ty, n, at),
+        _ => false,
+    }
+}
+
 // A field's bytes: those of the first of a Record's n pairs that has its name.
 fn constant_field(
     file: &[u8],
@@ -209,7 +351,7 @@ fn constant_field(
     let Found::Just(p) = field_pattern(file, at, n, name) else {
         return Size::Nothing;
     };
-    bytes_only(constant(file, index, p, ty))
+    bytes_only(constant_of(file, index, p, ty, true))
 }
 
 // The k fields of a Record type, in its order. The encoding goes by position, so one field without bytes leaves none.
@@ -272,7 +414,7 @@ fn constant_union(
     let MaybeAlternative::Just(a) = alternative_of(file, from, k, p.name) else {
         return Size::Nothing;
     };
-    bytes_only(constant(file, index, p.node, a.ty))
+    bytes_only(constant_of(file, index, p.node, a.ty, true))
 }
 
 // A Record's n pairs at a type: a record, a union, or no constant.
@@ -304,8 +446,34 @@ fn constant_record(file: &[u8], index: &[u16], node: usize, ty: usize, n: usize,
     }
 }
 
-// The bytes that a pattern determines at a type, if it determines all of them: where they come from, and how many they are.
-pub fn constant(file: &[u8], index: &[u16], node: usize, ty: usize) -> Const
+// Whether a Record of n pairs may have bytes at a type: one that is not sure to have them is asked.
+fn may_have(
+    file: &[u8],
+    index: &[u16],
+    node: usize,
+    ty: usize,
+    n: usize,
+    at: usize,
+    sure: bool,
+) -> bool
+    requires { ⌜ AcceptedFile (now file) (now index) ⌝ }
+    requires { ⌜ RecordAt (now file) (tablesOf (now file)) node n at ⌝ }
+    requires { ⌜ ty < length (tablesOf (now file) .types) ⌝ }
+    ensures { λ r. ⌜ (
+        let f = now (file .entry) in
+        let T = tablesOf f in
+        let patterns = run (patternAt f) 4 n at in
+        r ≡ either sure (hasBytes (constantRecord (ConstantRules.constant T) patterns (typeAt T ty)))
+        ) ⌝ }
+{
+    if sure {
+        return true;
+    }
+    has_record(file, index, node, ty, n, at)
+}
+
+// What `constant` gives. A pattern inside a Record that has bytes is sure to have them too, and is not asked again.
+fn constant_of(file: &[u8], index: &[u16], node: usize, ty: usize, sure: bool) -> Const
     requires { ⌜ AcceptedFile (now file) (now index) ⌝ }
     requires { ⌜ node < length (tablesOf (now file) .nodes) ⌝ }
     requires { ⌜ ty < length (tablesOf (now file) .types) ⌝ }
@@ -324,7 +492,23 @@ pub fn constant(file: &[u8], index: &[u16], node: usize, ty: usize) -> Const
         }
         NodeView::Prefix(x) => at_str(file, index, ty, Const::Prefix(x)),
         NodeView::Fuzzy(x, d, a) => at_str(file, index, ty, Const::Fuzzy(x, d, a)),
-        NodeView::Record(n, at) => constant_record(file, index, node, ty, n, at),
+        NodeView::Record(n, at) => {
+            if !may_have(file, index, m, ty, n, at, sure) {
+                return Const::Nothing;
+            }
+            constant_record(file, index, node, ty, n, at)
+        }
         _ => Const::Nothing,
     }
+}
+
+// The bytes that a pattern determines at a type, if it determines all of them: where they come from, and how many they are. A Record is asked
+// first whether it has bytes at all, so that texts are looked through only where they are written.
+pub fn constant(file: &[u8], index: &[u16], node: usize, ty: usize) -> Const
+    requires { ⌜ AcceptedFile (now file) (now index) ⌝ }
+    requires { ⌜ node < length (tablesOf (now file) .nodes) ⌝ }
+    requires { ⌜ ty < length (tablesOf (now file) .types) ⌝ }
+    ensures { λ r. ⌜ r ≡ constView (tablesOf (now (file .entry))) node ty ⌝ }
+{
+    constant_of(file, index, node, ty, false)
 }

@@ -214,7 +214,7 @@ module _ (b : ℕ → ℕ → Option ConstantRules.Const) (patterns : List File.
 
     pub put-neither : OneOf (0 ∷ 1 ∷ 2 ∷ 3 ∷ []) (tagOf TypeViews.the-type v) → ⊥
     unfolding recordBytes _whenSome_
-    put-neither w = nowhere _ at h (ap (λ (o : Option ConstantRules.Const). o whenSome bytesOnly) (sym (ap (constantRecord b patterns) (s .is)) ∙ neither (record { names = []; types = []; predicates = []; nodes = []; bindings = []; hoisted = []; fetched = []; constraints = []; comparisons = []; levels = [] }) 0 0 b patterns f v w))
+    put-neither w = nowhere _ at h (ap (λ (o : Option ConstantRules.Const). o whenSome bytesOnly) (sym (ap (constantRecord b patterns) (s .is)) ∙ neither b patterns f v w))
 
 -- A union around its payload.
 tag-size : (at d : ℕ) → at + 5 ≡ at + length (unionTag d)

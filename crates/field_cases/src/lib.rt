@@ -7,7 +7,6 @@ ghost use Rattle.rules.specs.Limits.{fileLimit};
 ghost use Rattle.rules.specs.File as File;
 ghost use Rattle.rules.specs.File.{typeAt, nodeAt, isConstant, recordFields, unionTy};
 ghost use Rattle.rules.specs.Walk as WalkRules;
-ghost use Rattle.rules.specs.Walk.{FieldWalk};
 ghost use Rattle.state.specs.State.{State};
 ghost use Rattle.state.specs.Ops.{bind, ops};
 ghost use Rattle.file.specs.Tables.{Indexed, tablesOf};
@@ -319,61 +318,9 @@ fn refers_to(p: MaybePredicate, referenced: MaybePredicate) -> bool
     }
 }
 
-// A join through a reference: a row matches a field that refers to its own predicate.
-fn meet_row(
-    file: &[u8],
-    index: &[u16],
-    work: &mut [u8],
-    plan: &mut [u8],
-    node: usize,
-    from: Address,
-    predicate: MaybePredicate,
-    ty: usize,
-    path: FieldPath,
-    w: Walk,
-) -> Walk
-    requires { ⌜ Indexed (now file) (now index) ⌝ }
-    ensures { λ r. ⌜ (
-        (address : ℕ) (below : FieldWalk State) →
-        let T = tablesOf (now (file .entry)) in
-        let before = walkState T w (now (work .entry)) (now (plan .entry)) in
-        let after = walkState T r (now (work .exit)) (now (plan .exit)) in
-        let slot = File.Slot.Row (from .0) (predicateOption predicate) in
-        after ≡ WalkRules.matched (ops T) T address below node slot ty (pathOf path) before
-        ) ⌝ }
-{
-    let referenced = fact_ty(file, index, ty);
-    if refers_to(predicate, referenced) {
-        return w.fact_id(path, from, node, plan);
-    }
-    w.diagnose(work, node, Code::RejectTypeMismatch, false)
-}
-
-// A register's field. The level's own register is the row at hand: its two fields are asked to be equal.
-fn meet_field(
-    plan: &mut [u8],
-    node: usize,
-    from: Address,
-    at: FieldPath,
-    address: Address,
-    path: FieldPath,
-    w: Walk,
-) -> Walk
-    ensures { λ r. ⌜ (
-        (T : File.Tables) (below : FieldWalk State) (ty t : ℕ) (work : List ℕ) →
-        let before = walkState T w work (now (plan .entry)) in
-        let after = walkState T r work (now (plan .exit)) in
-        let slot = File.Slot.Field (from .0) (pathOf at) ty in
-        after ≡ WalkRules.matched (ops T) T (address .0) below node slot t (pathOf path) before
-        ) ⌝ }
-{
-    if from.0 == address.0 {
-        return w.own_field(path, at, node, plan);
-    }
-    w.register_field(path, from, at, node, plan)
-}
-
-// `matched`, by the slot's kind; a constant leaves the walk as it is.
+// `matched`, by the slot's kind; a constant leaves the walk as it is. A row matches a field that refers to its own predicate, which is a
+// join through a reference. Of the level's own register, the row at hand, two fields are asked to be equal. Each arm hands the walk to one
+// call only.
 pub fn meet(
     file: &[u8],
     index: &[u16],
@@ -398,10 +345,20 @@ pub fn meet(
     let kind = slot.kind;
     let at = slot.path;
     match kind {
-        SlotKind::Row(a, p) => meet_row(file, index, work, plan, node, a, p, ty, path, w),
+        SlotKind::Row(a, p) => {
+            if refers_to(p, fact_ty(file, index, ty)) {
+                return w.fact_id(path, a, node, plan);
+            }
+            w.diagnose(work, node, Code::RejectTypeMismatch, false)
+        }
         SlotKind::Key(_, _) => w.diagnose(work, node, Code::NyiWholeKey, true),
         SlotKind::Derived(_) => w.diagnose(work, node, Code::NyiValueMatch, true),
-        SlotKind::Field(a, _) => meet_field(plan, node, a, at, address, path, w),
+        SlotKind::Field(a, _) => {
+            if a.0 == address.0 {
+                return w.own_field(path, at, node, plan);
+            }
+            w.register_field(path, a, at, node, plan)
+        }
         SlotKind::Value(_, _) => w.diagnose(work, node, Code::NyiValueMatch, false),
         SlotKind::Const(_) => w,
     }

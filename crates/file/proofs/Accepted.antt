@@ -160,7 +160,7 @@ module _ (f : List ℕ) where
       ∙ sets-below (entries f s p) ix (baseOf s) j 0 h
 
   -- the entries of section s + k, after n sections from section s on
-  filled-at : (n s q k t : ℕ) (ix : List ℕ) → length ix ≡ indexLength → s + n ≤ 10 → start f s ≤ length f → stepAt f (sections n s) (start f s) ≡ Next q → k < n
+  filled-at : (n s q k t : ℕ) (ix : List ℕ) → indexLength ≤ length ix → s + n ≤ 10 → start f s ≤ length f → stepAt f (sections n s) (start f s) ≡ Next q → k < n
       → t < length (entries f (s + k) (start f (s + k)))
       → getD (filled f n s (start f s) ix) (baseOf (s + k) + t) 0 ≡ getD (entries f (s + k) (start f (s + k))) t 0
   filled-at zero s q k t ix l a b e h g = absurd (omega arith)
@@ -179,7 +179,7 @@ module _ (f : List ℕ) where
       let v : start f (s + 1) ≡ w .next = start-next f s (w .next) (w .here) in
       let i : s + suc k ≡ s + 1 + k = omega arith in
       let ix′ : List ℕ = sets ix (baseOf s) (entries f s (start f s)) in
-      let c = filled-at n (s + 1) q k t ix′ (length-sets ix (baseOf s) (entries f s (start f s)) ∙ l) (omega arith) (rw v (w .within)) (rw v (w .later)) (omega arith) (rw i at g) in
+      let c = filled-at n (s + 1) q k t ix′ (omega (arith, length-sets ix (baseOf s) (entries f s (start f s)))) (omega arith) (rw v (w .within)) (rw v (w .later)) (omega arith) (rw i at g) in
       rw (i, filled-more f (suc n) s (start f s) n (w .next) ix ix′ (omega arith) (w .here) refl) (rw v at c)
 
 -- section s, read by the rules' own reader of its records
@@ -262,7 +262,7 @@ unfolding end
 end-inv a b [] rest e = (cc, cc)
 end-inv a b (x ∷ l) rest e = absurd (refused-got e)
 
-module _ (f ix : List ℕ) (q : ℕ) (small : length f ≤ fileLimit) (long : length ix ≡ indexLength) (same : Read.file f ≡ Read.tenSections f) (e : stepAt f Read.tenSections 0 ≡ Next q) where
+module _ (f ix : List ℕ) (q : ℕ) (small : length f ≤ fileLimit) (long : indexLength ≤ length ix) (same : Read.file f ≡ Read.tenSections f) (e : stepAt f Read.tenSections 0 ≡ Next q) where
   entry : (s t : ℕ) → s < 10 → t < length (entries f s (start f s)) → getD (filled f 10 0 0 ix) (baseOf s + t) 0 ≡ getD (entries f s (start f s)) t 0
   unfolding start
   entry s t h g =
@@ -282,7 +282,7 @@ module _ (f ix : List ℕ) (q : ℕ) (small : length f ≤ fileLimit) (long : le
       let t = l .0 ∙ sym d in
       record {
         small = small;
-        long = length-filled f 10 0 0 ix ∙ long;
+        long = omega (arith, length-filled f 10 0 0 ix);
         accepted = same ∙ z ∙ ap (λ (U : Tables). got U rest) (sym d) ∙ ap (got (tablesOf f)) (l .1);
         names = found 0 name _ _ (lit< tt) suffix-name refl (ap (λ (U : Tables). U .names) t) t0;
         types = found 1 type _ _ (lit< tt) suffix-type refl (ap (λ (U : Tables). U .types) t) t1;
@@ -321,7 +321,7 @@ module _ (f ix : List ℕ) (q : ℕ) (small : length f ≤ fileLimit) (long : le
           made T rest z (end-inv _ T _ rest e10) t0 t1 t2 t3 t4 t5 t6 t7 t8 t9))))))))))
 
 -- whatever file was read to its end
-pub indexed : (f ix : List ℕ) (q : ℕ) → length f ≤ fileLimit → length ix ≡ indexLength → stepAt f Read.file 0 ≡ Next q → Indexed f (indexOf f ix)
+pub indexed : (f ix : List ℕ) (q : ℕ) → length f ≤ fileLimit → indexLength ≤ length ix → stepAt f Read.file 0 ≡ Next q → Indexed f (indexOf f ix)
 unfolding indexOf stepAt readAt Read.file
 indexed [] ix q small long e = indexed-empty ix long
 indexed (b ∷ bytes) ix q small long e = indexed-sections (b ∷ bytes) ix q small long refl e

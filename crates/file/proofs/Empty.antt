@@ -38,7 +38,7 @@ emptied-below (suc n) s j ix h g =
     let ne : j ≡ baseOf s → ⊥ = omega arith in
     emptied-below n (s + 1) j (set ix (baseOf s) 0) (omega arith) (omega (arith, apart s (omega arith))) ∙ getD-set-other ix (baseOf s) j 0 0 ne
 
-emptied-at : (n s k : ℕ) (ix : List ℕ) → length ix ≡ indexLength → s + n ≤ 10 → k < n → getD (emptied n s ix) (baseOf (s + k)) 0 ≡ 0
+emptied-at : (n s k : ℕ) (ix : List ℕ) → indexLength ≤ length ix → s + n ≤ 10 → k < n → getD (emptied n s ix) (baseOf (s + k)) 0 ≡ 0
 unfolding emptied
 emptied-at zero s k ix l h g = absurd (omega arith)
 emptied-at (suc n) s zero ix l h g =
@@ -47,9 +47,9 @@ emptied-at (suc n) s zero ix l h g =
     rw add-zero (emptied-below n (s + 1) (baseOf s) (set ix (baseOf s) 0) (omega arith) (omega arith) ∙ getD-set-same ix (baseOf s) 0 0 (omega arith))
 emptied-at (suc n) s (suc k) ix l h g =
     let e : s + suc k ≡ s + 1 + k = omega arith in
-    rw e (emptied-at n (s + 1) k (set ix (baseOf s) 0) (length-set ix (baseOf s) 0 ∙ l) (omega arith) (omega arith))
+    rw e (emptied-at n (s + 1) k (set ix (baseOf s) 0) (omega (arith, length-set ix (baseOf s) 0)) (omega arith) (omega arith))
 
-module _ (ix : List ℕ) (long : length ix ≡ indexLength) where
+module _ (ix : List ℕ) (long : indexLength ≤ length ix) where
   section-empty : {A : Type 0} (s : ℕ) (r : Reader A) → s < 10 → Section [] (emptied 10 0 ix) s r []
   section-empty s r h =
       record {
@@ -63,7 +63,7 @@ module _ (ix : List ℕ) (long : length ix ≡ indexLength) where
   indexed-empty =
       record {
         small = omega arith;
-        long = length-emptied 10 0 ix ∙ long;
+        long = omega (arith, length-emptied 10 0 ix);
         accepted = refl;
         names = section-empty 0 _ (lit< tt);
         types = section-empty 1 _ (lit< tt);

@@ -35,7 +35,7 @@ pub record Section {A : Type 0} (f ix : List ℕ) (s : ℕ) (r : Reader A) (xs :
 -- f is a file that the reader accepts, and ix its index
 pub record Indexed (f ix : List ℕ) : Type 0 where
   pub small : length f ≤ fileLimit
-  pub long : length ix ≡ indexLength
+  pub long : indexLength ≤ length ix
   pub accepted : Read.file f ≡ got (tablesOf f) []
   pub names : Section f ix Sections.names name (tablesOf f .names)
   pub types : Section f ix Sections.types type (tablesOf f .types)

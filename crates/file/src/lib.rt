@@ -392,7 +392,7 @@ pub fn section(file: &[u8], index: &mut [u16], s: usize, p: usize) -> Step
         (p ≤ length (now file)) ×
         (length (now file) ≤ fileLimit) ×
         (s < sectionCount) ×
-        (length (now index) ≡ indexLength)
+        (indexLength ≤ length (now index))
         ) ⌝ }
     ensures reads { λ r. ⌜ r ≡ stepAt (now (file .entry)) (sectionOf s) p ⌝ }
     ensures indexes { λ r. ⌜ now (index .exit) ≡ sets (now (index .entry)) (baseOf s) (entries (now (file .entry)) s p) ⌝ }
@@ -409,7 +409,7 @@ pub fn section(file: &[u8], index: &mut [u16], s: usize, p: usize) -> Step
 
 // Reads the ten sections front to back: the refusal of the first fault, or the file's end. Their counts and records go into the index.
 fn ten_sections(file: &[u8], index: &mut [u16]) -> Step
-    requires { ⌜ (length (now file) ≤ fileLimit) × (length (now index) ≡ indexLength) ⌝ }
+    requires { ⌜ (length (now file) ≤ fileLimit) × (indexLength ≤ length (now index)) ⌝ }
     ensures reads { λ r. ⌜ r ≡ stepAt (now (file .entry)) Read.tenSections 0 ⌝ }
     ensures indexes { λ r. ⌜ now (index .exit) ≡ filled (now (file .entry)) sectionCount 0 0 (now (index .entry)) ⌝ }
 {
@@ -434,7 +434,7 @@ fn ten_sections(file: &[u8], index: &mut [u16]) -> Step
 
 // Writes the index of ten empty sections: each count is 0.
 fn no_records(index: &mut [u16])
-    requires { ⌜ length (now index) ≡ indexLength ⌝ }
+    requires { ⌜ indexLength ≤ length (now index) ⌝ }
     ensures { λ _. ⌜ now (index .exit) ≡ emptied sectionCount 0 (now (index .entry)) ⌝ }
 {
     let mut s = 0;
@@ -448,7 +448,7 @@ fn no_records(index: &mut [u16])
 // Reads the whole file: the refusal of its first fault, or its end. On acceptance the index finds every record. A file of no bytes is
 // ten empty sections.
 pub fn read(file: &[u8], index: &mut [u16]) -> Step
-    requires { ⌜ (length (now file) ≤ fileLimit) × (length (now index) ≡ indexLength) ⌝ }
+    requires { ⌜ (length (now file) ≤ fileLimit) × (indexLength ≤ length (now index)) ⌝ }
     ensures reads { λ r. ⌜ r ≡ stepAt (now (file .entry)) Read.file 0 ⌝ }
     ensures indexes { λ r. ⌜ now (index .exit) ≡ indexOf (now (file .entry)) (now (index .entry)) ⌝ }
     ensures finds { λ r. ⌜ ((q : ℕ) → r ≡ Step.Next q → Indexed (now (file .entry)) (now (index .exit))) ⌝ }

@@ -3,6 +3,8 @@ pub mod Fields
 pub mod Going
 -- A path one step deeper.
 pub mod Deeper
+-- What gives nothing but a skip.
+pub mod Quiet
 -- What each member of the cycle ends in.
 pub mod Rounds
 -- The fields of a record key.

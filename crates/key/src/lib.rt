@@ -37,6 +37,7 @@ use slots::Slot;
 use slots::SlotKind;
 use tables::Found;
 use tables::Run;
+use tables::is_quiet;
 use tables::record_ty;
 use views::FieldTy;
 use views::NodeView;
@@ -140,7 +141,8 @@ pub fn matched(
     narrow(file, index, plan, node, c, path, w)
 }
 
-// A record pattern that gives some of its fields: building falls, and each piece is matched one step deeper.
+// A record pattern that gives some of its fields: building falls, and each piece is matched one step deeper. Of a constant that is
+// remembered to give nothing else the pieces are left out.
 pub fn partial(
     file: &[u8],
     index: &[u16],
@@ -165,6 +167,9 @@ pub fn partial(
 {
     let opened = pieces(file, index, node, ty);
     let mut l = w.skip();
+    if is_quiet(file, index, node, ty) {
+        return l;
+    }
     let mut i: usize = 0;
     while i < opened.count {
         let p = piece_at(file, index, node, ty, opened, i);

@@ -6,6 +6,7 @@ use native.Mathlib.Omega.{arith}
 use lib.ListN.{length, length-append}
 use Rattle.rules.specs.File as File
 use Rattle.rules.specs.Plan as Plan
+use Rattle.state.specs.State.{noted}
 use Rattle.records.specs.Records.{put}
 use Rattle.slots.specs.Slots.{slotWith, slotOf}
 use Rattle.slots.specs.declared.SlotKind.{SlotKind}
@@ -19,6 +20,10 @@ select-end at n a d p e = omega (arith, length-append (Plan.path p) (Plan.u32 d)
 pub binding-end : (at n x : ℕ) (s : File.Slot) → n ≡ length (Plan.slot s) → at + 2 + n ≡ at + length (Plan.binding (record { name = x; slot = s }))
 unfolding Plan.binding Plan.u16
 binding-end at n x s e = omega arith
+
+-- a record noted as the memory has its number and its place
+pub noted-after : (w w′ v : List ℕ) (x n at m from : ℕ) → w′ ≡ noted x n at w → w ≡ v → n ≡ m → at ≡ from → w′ ≡ noted x m from v
+noted-after w w′ v x n at m from h e f g = h ∙ λ i. noted x (f i) (g i) (e i)
 
 pub field-size : (a n t : ℕ) (p : File.FieldPath) → n ≡ length (Plan.path p) → 5 + n ≡ length (Plan.slot (File.Slot.Field a p t))
 unfolding Plan.slot Plan.u16

@@ -4,4 +4,3 @@ pub mod Bounds
 pub mod Scans
 pub mod Fits
 pub mod Finds
-pub mod Pairs

@@ -1,22 +1,21 @@
--- The last binding of a name among records one after another: what a scan keeps from record to record.
-use Prim.Native.Nat.{ℕ, zero, suc, _+_, _-_, _≤_, _<_}
+-- A binding where the tables lead for a name: that it is read there, that it has the name, and its slot.
+use Prim.Native.Nat.{ℕ, _+_, _≤_, _<_}
 use mathlib.Core.Path.{_≡_, refl, sym, ap, _∙_, subst}
-use mathlib.Core.Bool.{Bool, true, false}
-use mathlib.Core.List.{List, [], _∷_}
+use mathlib.Core.Bool.{true, false}
+use mathlib.Core.List.{List, []}
 use mathlib.Core.Option.{Option, none, some}
 use native.Mathlib.Omega.{arith}
-use borrow.Author.Tests.{eq-eqb, ne-eqb}
-use lib.Dec.{eqb}
+use borrow.Author.Tests.{lt-ltb, le-ltb}
+use lib.Dec.{eqb, ltb}
 use lib.ListN.{length, drop, length-drop, drop-of-length-le}
-use Rattle.rules.specs.Base.{lastOr, _whenSome_}
+use Rattle.rules.specs.Base.{_whenSome_}
 use Rattle.rules.specs.File.{Slot, Binding}
 use Rattle.rules.specs.Read as Read
 use Rattle.rules.specs.Read.{pure, follow, u16, u8, slot, binding}
 use Rattle.rules.specs.Read.Read.{got, refused}
-use Rattle.rules.specs.Constant.{lookup}
-use Rattle.rules.proofs.Cases.{ways}
-use Rattle.state.specs.State.{bindingsIn}
-use Rattle.file.specs.Steps.{word, stepOf, readAt, stepAt}
+use Rattle.rules.proofs.Cases.{pick, true≢false}
+use Rattle.state.specs.State.{numberAt, placeAt, wordIn, slotNamed, madeSlot}
+use Rattle.file.specs.Steps.{word, readAt, stepAt}
 use Rattle.file.specs.declared.Step.{Step}
 use Rattle.file.specs.declared.Step.the-variants.{Next, Refused}
 use Rattle.file.proofs.Readers.{bind-inv, needs-fixed, needs-first, fixed-u16}
@@ -31,7 +30,7 @@ use Rattle.tables.specs.Tables.{SeenSlot}
 use Rattle.tables.specs.declared.MaybeSlotView.the-variants as Ms
 use Rattle.views.specs.Views.{slotView, slotViewed, SlotInside}
 use Rattle.views.specs.declared.SlotView.{SlotView}
-use Rattle.lists.specs.Lists.{bindingRead, bindingAt, slotAt, slotFrom, placeOf, endOf, later, lastFrom, lastPlace, viewAt, Readable, FoundReads, SeenAt, SeenView}
+use Rattle.lists.specs.Lists.{bindingRead, bindingAt, slotAt, slotFrom, endOf, isNamed, namedAt, madePlace, viewAt, Readable, FoundReads, SeenAt, SeenView}
 
 -- a binding that was read at p: its name, then its slot
 pub binding-read : (f : List ℕ) (p : ℕ) (b : Binding) (rest : List ℕ) → readAt f binding p ≡ got b rest → BindingRead f p b
@@ -76,13 +75,6 @@ module _ (f : List ℕ) (r last : Found) (e : r ≡ last) where
   unfolding viewAt
   view-none g = ap (viewAt f) (sym g ∙ e)
 
--- what a scan of the whole finds
-abbrev pub Last : List ℕ → ℕ → Found → Type 0
-Last f x found = SeenAt f (lookup (bindingsIn (length f) f) x) found × (found ≡ lastPlace f x)
-
-pub seen-as : (f : List ℕ) (x : ℕ) (r found : Found) → r ≡ found → Last f x found → Last f x r
-seen-as f x r found e s = subst (Last f x) (sym e) s
-
 -- it ends past its name
 pub past-name : (f : List ℕ) (p q : ℕ) (b : Binding) → p ≤ length f → q ≤ length f → readAt f binding p ≡ got b (drop q f) → p + 2 ≤ q
 unfolding binding readAt
@@ -92,161 +84,95 @@ past-name f p q b h k e =
     let l : length (drop q f) ≡ length (drop (s .skipped) (drop (p + 2) f)) = ap length (s .is) in
     omega (arith, length-drop q f, length-drop (s .skipped) (drop (p + 2) f), length-drop (p + 2) f, s .within)
 
--- what stands where nothing more is read
-none-left : (n : ℕ) (l : List ℕ) (x : ℕ) → Read.binding l ≡ refused x → bindingsIn n l ≡ []
-unfolding bindingsIn
-none-left zero l x e = refl
-none-left (suc n) l x e = ap (λ (r : Read.Read Binding). elim r as (λ _. List Binding) [ got b rest ↦ b ∷ bindingsIn n rest | refused k ↦ [] ]) e
-
-one-more : (n m : ℕ) (l rest : List ℕ) (b : Binding) → n ≡ suc m → Read.binding l ≡ got b rest → bindingsIn n l ≡ b ∷ bindingsIn m rest
-unfolding bindingsIn
-one-more n m l rest b h e =
-    ap (λ (k : ℕ). bindingsIn k l) h ∙ ap (λ (r : Read.Read Binding). elim r as (λ _. List Binding) [ got b rest ↦ b ∷ bindingsIn m rest | refused k ↦ [] ]) e
-
--- one binding more
-module _ (o : Option Binding) (x : ℕ) (b : Binding) (bs : List Binding) where
-  last-hit : eqb (b .name) x ≡ true → lastOr o (λ b. eqb (b .name) x) (b ∷ bs) ≡ lastOr (some b) (λ b. eqb (b .name) x) bs
-  unfolding lastOr
-  last-hit e = ap (λ (t : Bool). elim t as (λ _. Option Binding) [ true ↦ lastOr (some b) (λ b. eqb (b .name) x) bs | false ↦ lastOr o (λ b. eqb (b .name) x) bs ]) e
-
-  last-miss : eqb (b .name) x ≡ false → lastOr o (λ b. eqb (b .name) x) (b ∷ bs) ≡ lastOr o (λ b. eqb (b .name) x) bs
-  unfolding lastOr
-  last-miss e = ap (λ (t : Bool). elim t as (λ _. Option Binding) [ true ↦ lastOr (some b) (λ b. eqb (b .name) x) bs | false ↦ lastOr o (λ b. eqb (b .name) x) bs ]) e
-
 nothing-read : Read.binding [] ≡ refused 3
 unfolding binding u16 u8 Read._>>=_ follow
 nothing-read = refl
 
--- position + 1, or 0 if nothing was found
-pub place-none : (n : ℕ) → n ≡ 0 → Fo.Nothing ≡ placeOf n
-unfolding placeOf
-place-none n e = sym (ap placeOf e)
+-- Whether a binding of the name x stands at p.
+module _ (f : List ℕ) (p x : ℕ) where
+  named-as : (r : Read.Read Binding) → readAt f binding p ≡ r → isNamed x r ≡ namedAt f p x
+  unfolding namedAt
+  named-as r e = sym (ap (isNamed x) e)
 
-pub place-next : (n p : ℕ) → n ≡ suc p → Fo.Just p ≡ placeOf n
-unfolding placeOf
-place-next n p e = sym (ap placeOf e)
+  -- none past the end
+  pub named-past : length f < p → false ≡ namedAt f p x
+  unfolding isNamed readAt
+  named-past h = named-as (refused 3) (ap Read.binding (drop-of-length-le f {i = p} (omega arith)) ∙ nothing-read)
 
--- the place p, or what was found before it
-module _ (f : List ℕ) (p x : ℕ) (found : ℕ) (w : ℕ) (e : w ≡ word f p) where
-  pub later-hit : (n : ℕ) → n ≡ suc p → w ≡ x → placeOf n ≡ later f p x (placeOf found)
-  unfolding later
-  later-hit n g h = sym (place-next n p g) ∙ sym (ap (λ (t : Bool). elim t as (λ _. Found) [ true ↦ Fo.Just p | false ↦ placeOf found ]) (eq-eqb (word f p) x (sym e ∙ h)))
+  module _ (h : p ≤ length f) (q : ℕ) (e : q ≡ endOf (stepAt f binding p)) where
+    -- none that is read
+    pub named-none : q ≡ 0 → false ≡ namedAt f p x
+    unfolding isNamed readAt endOf
+    named-none z = go (stepAt f binding p) refl e
+      where
+        go : (r : Step) → stepAt f binding p ≡ r → q ≡ endOf r → false ≡ namedAt f p x
+        go (Next y) g o =
+            let n = ended f binding p y suffix-binding h g in
+            absurd (omega (arith, o, z, past-name f p y (n .value) h (n .within) (n .is)))
+        go (Refused k) g o = named-as (refused k) (faulted f binding p k g)
 
-  pub later-miss : (w ≡ x → ⊥) → placeOf found ≡ later f p x (placeOf found)
-  unfolding later
-  later-miss h = sym (ap (λ (t : Bool). elim t as (λ _. Found) [ true ↦ Fo.Just p | false ↦ placeOf found ]) (ne-eqb (word f p) x (λ g. h (e ∙ g))))
-
-module _ (f : List ℕ) (x : ℕ) where
-  abbrev all : Option Binding
-  all = lastOr none (λ b. eqb (b .name) x) (bindingsIn (length f) f)
-
-  -- a scan that has come to p, with the last of that name so far
-  pub record Scanning (p : ℕ) (found : Found) : Type 0 where
-    pub within : p ≤ length f
-    pub fuel : ℕ
-    pub enough : length f ≤ p + fuel
-    pub same : all ≡ lastOr (bindingAt f found) (λ b. eqb (b .name) x) (bindingsIn fuel (drop p f))
-    pub place : lastPlace f x ≡ lastFrom fuel f x p found
-    pub reads : FoundReads f found
-
-  pub scan-start : Scanning 0 (placeOf 0)
-  unfolding bindingAt placeOf lastPlace
-  scan-start = record { within = omega arith; fuel = length f; enough = omega arith; same = refl; place = refl; reads = tt }
-
-  module _ (p : ℕ) (found : Found) (s : Scanning p found) where
-    -- where no record is read, what was found stays
-    ends-here : (n k : ℕ) → Read.binding (drop p f) ≡ refused k → lastFrom n f x p found ≡ found
-    unfolding lastFrom stepAt stepOf readAt
-    ends-here zero k e = refl
-    ends-here (suc n) k e =
-        ap (λ (r : Read.Read Binding). elim (stepOf f r) as (λ _. Found) [ Next q ↦ lastFrom n f x q (later f p x found) | Refused y ↦ found ]) e
-
-    seen : all ≡ bindingAt f found → SeenAt f (lookup (bindingsIn (length f) f) x) found
-    unfolding slotAt lookup
-    seen e = record { is = ap (λ (o : Option Binding). o whenSome λ b. some (b .slot)) (sym e); reads = s .reads }
-
-    stopped : (k : ℕ) → Read.binding (drop p f) ≡ refused k → Last f x found
-    unfolding lastOr
-    stopped k e = (
-      seen (s .same ∙ ap (lastOr (bindingAt f found) (λ b. eqb (b .name) x)) (none-left (s .fuel) (drop p f) k e)),
-      sym (s .place ∙ ends-here (s .fuel) k e),
-    )
-
-    pub scan-end : length f ≤ p → Last f x found
-    scan-end h = stopped 3 (ap Read.binding (drop-of-length-le f h) ∙ nothing-read)
-
-    module _ (q : ℕ) (e : q ≡ endOf (stepAt f binding p)) where
-      pub scan-none : q ≡ 0 → Last f x found
-      unfolding readAt endOf
-      scan-none z = go (stepAt f binding p) refl e
-        where
-          go : (r : Step) → stepAt f binding p ≡ r → q ≡ endOf r → Last f x found
-          go (Next y) g h =
-              let n = ended f binding p y suffix-binding (s .within) g in
-              absurd (omega (arith, h, z, past-name f p y (n .value) (s .within) (n .within) (n .is)))
-          go (Refused k) g h = stopped k (faulted f binding p k g)
-
-      pub scan-ended : (q ≡ 0 → ⊥) → Ended f binding p q
+    module _ (z : q ≡ 0 → ⊥) where
+      stands : Ended f binding p q
       unfolding endOf
-      scan-ended z = go (stepAt f binding p) refl e
+      stands = go (stepAt f binding p) refl e
         where
           go : (r : Step) → stepAt f binding p ≡ r → q ≡ endOf r → Ended f binding p q
-          go (Next y) g h = ended f binding p q suffix-binding (s .within) (g ∙ ap Next (sym h))
-          go (Refused k) g h = absurd (z h)
+          go (Next y) g o = ended f binding p q suffix-binding h (g ∙ ap Next (sym o))
+          go (Refused k) g o = absurd (z o)
 
-    module _ (q : ℕ) (n : Ended f binding p q) where
-      pub forward : p + 2 ≤ q
-      forward = past-name f p q (n .value) (s .within) (n .within) (n .is)
+      pub name-inside : p + 2 ≤ length f
+      name-inside = omega (arith, stands .within, past-name f p q (stands .value) h (stands .within) (stands .is))
 
-      hit : eqb (word f p) x ≡ eqb (n .value .name) x
-      hit = ap (λ (b : Binding). eqb (b .name) x) (binding-read f p (n .value) (drop q f) (n .is) .is)
+      -- one: the word there is its name
+      pub named-word : eqb (word f p) x ≡ namedAt f p x
+      unfolding isNamed readAt
+      named-word = ap (λ (b : Binding). eqb (b .name) x) (binding-read f p (stands .value) (drop q f) (stands .is) .is) ∙ named-as (got (stands .value) (drop q f)) (stands .is)
 
-      -- the record at p is passed
-      goes-on : (k m : ℕ) → k ≡ suc m → lastFrom k f x p found ≡ lastFrom m f x q (later f p x found)
-      unfolding lastFrom stepAt stepOf
-      goes-on k m h =
-          let l : length f - length (drop q f) ≡ q = omega (arith, length-drop q f, n .within) in
-          ap (λ (i : ℕ). lastFrom i f x p found) h
-          ∙ ap (λ (r : Read.Read Binding). elim (stepOf f r) as (λ _. Found) [ Next y ↦ lastFrom m f x y (later f p x found) | Refused y ↦ found ]) (n .is)
-          ∙ ap (λ (y : ℕ). lastFrom m f x y (later f p x found)) l
+-- Where the tables lead for the name x; n and p are what the code finds there.
+module _ (f : List ℕ) (count x n : ℕ) (en : n ≡ wordIn f (numberAt x)) where
+  abbrev pub Place : Found → Type 0
+  Place r = SeenAt f (madeSlot f count x) r × (r ≡ madePlace f count x)
 
-      pub scan-more : (next : Found) → p < length f → next ≡ later f p x found → Scanning q next
-      unfolding later readAt bindingAt
-      scan-more next h e = ways (eqb (word f p) x) (Scanning q next) yes no'
-        where
-          rest : List Binding
-          rest = bindingsIn (s .fuel - 1) (drop q f)
+  -- no binding's number
+  pub place-past : count ≤ n → Place Fo.Nothing
+  unfolding madeSlot madePlace slotAt bindingAt _whenSome_
+  place-past h =
+      let no : ltb (wordIn f (numberAt x)) count ≡ false = le-ltb (wordIn f (numberAt x)) count (omega arith) in
+      (record { is = sym (pick (ltb (wordIn f (numberAt x)) count) false _ none no); reads = tt }, sym (pick (ltb (wordIn f (numberAt x)) count) false _ Fo.Nothing no))
 
-          fuelled : s .fuel ≡ suc (s .fuel - 1)
-          fuelled = omega (arith, s .enough)
+  module _ (p : ℕ) (ep : p ≡ wordIn f (placeAt n)) (l : n < count) where
+    there-is : wordIn f (placeAt (wordIn f (numberAt x))) ≡ p
+    there-is = ap (λ (k : ℕ). wordIn f (placeAt k)) (sym en) ∙ sym ep
 
-          onward : lastPlace f x ≡ lastFrom (s .fuel - 1) f x q next
-          onward = s .place ∙ goes-on (s .fuel) (s .fuel - 1) fuelled ∙ ap (lastFrom (s .fuel - 1) f x q) (sym e)
+    slot-is : madeSlot f count x ≡ slotNamed x (readAt f Read.binding p)
+    unfolding madeSlot readAt
+    slot-is =
+        pick (ltb (wordIn f (numberAt x)) count) true _ none (lt-ltb (wordIn f (numberAt x)) count (omega arith))
+        ∙ ap (λ (k : ℕ). slotNamed x (Read.binding (drop k f))) there-is
 
-          turn : all ≡ lastOr (bindingAt f found) (λ b. eqb (b .name) x) (n .value ∷ rest)
-          turn = s .same ∙ ap (lastOr (bindingAt f found) (λ b. eqb (b .name) x)) (one-more (s .fuel) (s .fuel - 1) (drop p f) (drop q f) (n .value) fuelled (n .is))
+    place-is : madePlace f count x ≡ (elim (namedAt f p x) as (λ _. Found) [ true ↦ Fo.Just p | false ↦ Fo.Nothing ])
+    unfolding madePlace
+    place-is =
+        pick (ltb (wordIn f (numberAt x)) count) true _ Fo.Nothing (lt-ltb (wordIn f (numberAt x)) count (omega arith))
+        ∙ ap (λ (k : ℕ). elim (namedAt f k x) as (λ _. Found) [ true ↦ Fo.Just k | false ↦ Fo.Nothing ]) there-is
 
-          goes : (c : Bool) → eqb (word f p) x ≡ c → next ≡ (elim c as (λ _. Found) [ true ↦ Fo.Just p | false ↦ found ])
-          goes c t = e ∙ ap (λ (c : Bool). elim c as (λ _. Found) [ true ↦ Fo.Just p | false ↦ found ]) t
+    -- a binding of the name, and one of another or none
+    pub place-here : namedAt f p x ≡ true → Place (Fo.Just p)
+    unfolding namedAt isNamed slotNamed slotAt bindingAt _whenSome_
+    place-here t = (go (readAt f Read.binding p) refl t, sym (place-is ∙ pick (namedAt f p x) true (Fo.Just p) Fo.Nothing t))
+      where
+        go : (r : Read.Read Binding) → readAt f Read.binding p ≡ r → isNamed x r ≡ true → SeenAt f (madeSlot f count x) (Fo.Just p)
+        go (got b rest) e s =
+            record {
+              is = ap (λ (r : Read.Read Binding). bindingRead r whenSome λ b. some (b .slot)) e ∙ sym (slot-is ∙ ap (slotNamed x) e ∙ pick (eqb (b .name) x) true (some (b .slot)) none s);
+              reads = record { value = b; rest = rest; reads = e };
+            }
+        go (refused k) e s = absurd (true≢false (sym s))
 
-          yes : eqb (word f p) x ≡ true → Scanning q next
-          yes t =
-              record {
-                within = n .within;
-                fuel = s .fuel - 1;
-                enough = omega (arith, s .enough, forward);
-                same = turn ∙ last-hit _ x (n .value) rest (sym hit ∙ t) ∙ ap (λ (o : Option Binding). lastOr o (λ b. eqb (b .name) x) rest) (sym (ap (bindingAt f) (goes true t) ∙ ap bindingRead (n .is)));
-                place = onward;
-                reads = subst (FoundReads f) (sym (goes true t)) (record { value = n .value; rest = drop q f; reads = n .is });
-              }
-
-          no' : eqb (word f p) x ≡ false → Scanning q next
-          no' t =
-              record {
-                within = n .within;
-                fuel = s .fuel - 1;
-                enough = omega (arith, s .enough, forward);
-                same = turn ∙ last-miss _ x (n .value) rest (sym hit ∙ t) ∙ ap (λ (r : Found). lastOr (bindingAt f r) (λ b. eqb (b .name) x) rest) (sym (goes false t));
-                place = onward;
-                reads = subst (FoundReads f) (sym (goes false t)) (s .reads);
-              }
+    pub place-none : namedAt f p x ≡ false → Place Fo.Nothing
+    unfolding namedAt isNamed slotNamed slotAt bindingAt _whenSome_
+    place-none t = (go (readAt f Read.binding p) refl t, sym (place-is ∙ pick (namedAt f p x) false (Fo.Just p) Fo.Nothing t))
+      where
+        go : (r : Read.Read Binding) → readAt f Read.binding p ≡ r → isNamed x r ≡ false → SeenAt f (madeSlot f count x) Fo.Nothing
+        go (got b rest) e s = record { is = sym (slot-is ∙ ap (slotNamed x) e ∙ pick (eqb (b .name) x) false (some (b .slot)) none s); reads = tt }
+        go (refused k) e s = record { is = sym (slot-is ∙ ap (slotNamed x) e); reads = tt }

@@ -1,11 +1,10 @@
 -- What the code's lists stand for in the state that the compiler keeps (crate state).
-use Prim.Native.Nat.{ℕ, zero, suc, _+_, _≤_, min}
+use Prim.Native.Nat.{ℕ, _+_, _≤_}
 use mathlib.Core.Path.{_≡_}
 use mathlib.Core.Bool.{Bool, true, false}
 use mathlib.Core.List.{List, [], _∷_}
 use mathlib.Core.Option.{Option, none, some}
-use lib.Bits.{bitOr, bitXor}
-use lib.Dec.{eqb}
+use lib.Dec.{eqb, ltb}
 use lib.ListN.{length, getD}
 use Rattle.rules.specs.Base.{_whenSome_}
 use Rattle.rules.specs.Limits.{stepLimit}
@@ -14,11 +13,11 @@ use Rattle.state.specs.Ops.{roomy}
 use Rattle.rules.specs.Events as Events
 use Rattle.rules.specs.Read as Read
 use Rattle.rules.specs.Read.Read.{got, refused}
-use Rattle.file.specs.Steps.{word, readAt, stepAt}
+use Rattle.file.specs.Steps.{readAt}
 use Rattle.file.specs.declared.Step.{Step}
 use Rattle.file.specs.declared.Step.the-variants.{Next, Refused}
 use Rattle.state.specs.State as InState
-use Rattle.state.specs.State.{Level, Target, State, state, ends}
+use Rattle.state.specs.State.{Level, Target, State, state, ends, numberAt, placeAt, wordIn}
 use Rattle.views.specs.Views.{slotView, slotViewed, SlotInside}
 use Rattle.views.specs.declared.SlotView.{SlotView}
 use Rattle.views.specs.declared.SlotView.the-variants as Sv
@@ -79,36 +78,28 @@ unfoldable pub endOf : Step → ℕ
 endOf (Next q) = q
 endOf (Refused n) = 0
 
--- position + 1, or 0 if nothing was found
-unfoldable pub placeOf : ℕ → Found
-placeOf zero = Fo.Nothing
-placeOf (suc p) = Fo.Just p
+-- whether a binding of the name was read
+unfoldable pub isNamed : ℕ → Read.Read Binding → Bool
+isNamed x (got b rest) = eqb (b .name) x
+isNamed x (refused n) = false
 
--- the place p if the binding there has the name, else what was found before it
-unfoldable pub later : List ℕ → ℕ → ℕ → Found → Found
-later f p x found = elim (eqb (word f p) x) [ true ↦ Fo.Just p | false ↦ found ]
+unfoldable pub namedAt : List ℕ → ℕ → ℕ → Bool
+namedAt f p x = isNamed x (readAt f Read.binding p)
 
--- the place of the last binding of a name, from the record at p on and up to the first that is none; n is no less than the records left
-unfoldable pub lastFrom : ℕ → List ℕ → ℕ → ℕ → Found → Found
-lastFrom zero f x p found = found
-lastFrom (suc n) f x p found = elim (stepAt f Read.binding p) [ Next q ↦ lastFrom n f x q (later f p x found) | Refused k ↦ found ]
-
-unfoldable pub lastPlace : List ℕ → ℕ → Found
-lastPlace f x = lastFrom (length f) f x 0 Fo.Nothing
+-- where the tables lead for a name, if a binding of the name stands there
+unfoldable pub madePlace : List ℕ → ℕ → ℕ → Found
+madePlace work count x =
+    let n = wordIn work (numberAt x) in
+    let p = wordIn work (placeAt n) in
+    elim (ltb n count) [
+      | true ↦ elim (namedAt work p x) [ true ↦ Fo.Just p | false ↦ Fo.Nothing ]
+      | false ↦ Fo.Nothing
+    ]
 
 -- the slot of the binding at a place: it follows the name's two bytes
 unfoldable pub viewAt : List ℕ → Found → MaybeSlotView
 viewAt f Fo.Nothing = Ms.Nothing
 viewAt f (Fo.Just p) = Ms.Just (slotView f (p + 2))
-
--- how far the bytes a and b are from low and high: 0 where they are the same
-abbrev pub apart : ℕ → ℕ → ℕ → ℕ → ℕ
-apart a b low high = bitOr (bitXor a low) (bitXor b high)
-
--- the least of that over the first n pairs of bytes side by side
-unfoldable pub nearest : List ℕ → ℕ → ℕ → ℕ → ℕ
-nearest f low high zero = 255
-nearest f low high (suc n) = min (apart (getD f n 0) (getD f (n + 1) 0) low high) (nearest f low high n)
 
 -- a binding is read at p
 pub record Readable (f : List ℕ) (p : ℕ) : Type 0 where

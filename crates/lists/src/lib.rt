@@ -1,13 +1,13 @@
 // The four lists as records in the work area, each in the plan's form, two lists to a run: bindings and selects grow up, constrained names
 // and diagnostics down. A record that would meet the run's other list means that the plan is too long: `over` is set, and nothing changes
-// any more.
+// any more. Two tables past the lists tell where a name was bound.
 ghost use mathlib.Core.Path.{_≡_};
 ghost use mathlib.Core.Bool.{true, false};
 ghost use mathlib.Core.List.{List, _∷_, _++_};
 ghost use mathlib.Core.Option.{Option·getD, some};
-ghost use Prim.Native.Nat.{ℕ, _+_, _-_, _*_, _≤_, _<_, min};
+ghost use Prim.Native.Nat.{ℕ, _+_, _*_, _≤_, _<_};
 ghost use lib.Dec.{ltb, leb};
-ghost use lib.ListN.{length, getD, take};
+ghost use lib.ListN.{length, getD};
 ghost use Rattle.rules.specs.Base.{both};
 ghost use Rattle.rules.specs.Limits.{depthLimit};
 ghost use Rattle.rules.specs.File.{depth};
@@ -15,7 +15,7 @@ ghost use Rattle.rules.specs.Checks.{noneOr, isType, isPredicate};
 ghost use Rattle.rules.specs.Constant as Constant;
 ghost use Rattle.rules.specs.Events.{codeNumber};
 ghost use Rattle.rules.specs.Plan as Plan;
-ghost use Rattle.state.specs.State.{Level, Target, bindingsIn, made};
+ghost use Rattle.state.specs.State.{Level, Target, noted, madeSlot};
 ghost use Rattle.state.specs.Ops as Ops;
 ghost use Rattle.state.specs.Ops.{checkedSlot, ops};
 ghost use Rattle.rules.specs.Read.{binding};
@@ -28,11 +28,10 @@ ghost use Rattle.accepted_file.specs.AcceptedFile.{AcceptedFile};
 ghost use Rattle.tables.specs.Tables.{SeenSlot};
 ghost use Rattle.slots.specs.Slots.{slotOf, Stands, IsSlot};
 ghost use Rattle.records.specs.Records.{put, reach, longestPath};
-ghost use Rattle.lists.specs.Lists.{stateWith, overrun, codeOf, fitsTables, placeOf, plainSizes, endOf};
-ghost use Rattle.lists.specs.Lists.{later, apart, nearest, slotFrom, lastPlace, viewAt, Readable, SeenAt, SeenView, ShortSlot};
+ghost use Rattle.lists.specs.Lists.{stateWith, overrun, codeOf, fitsTables, plainSizes, endOf, namedAt};
+ghost use Rattle.lists.specs.Lists.{slotFrom, madePlace, viewAt, Readable, SeenAt, SeenView, ShortSlot};
 use file::DEPTH_LIMIT;
 use file::DEPTHS;
-use file::least;
 use file::wide;
 use file::wide16;
 use file::word_at;
@@ -45,6 +44,7 @@ use records::put8;
 use records::put16;
 use records::put32;
 use records::wide32;
+use records::word_in;
 use slots::MaybeSlot;
 use slots::Slot;
 use slots::SlotKind;
@@ -89,6 +89,13 @@ pub enum Code {
 
 // How many records a count's two bytes hold.
 const COUNT_LIMIT: u32 = 65535;
+
+// The tables that tell where a name was bound: for each name its binding's number, and for each number its record's place.
+const NAMES: usize = 32768;
+
+const PLACES: usize = 33792;
+
+const NAME_LIMIT: usize = 512;
 
 fn stopped(l: Lists) -> Lists
     ensures { λ r. ⌜ r ≡ overrun l ⌝ }
@@ -261,6 +268,15 @@ fn put_slot(work: &mut [u8], at: usize, slot: Slot)
     }
 }
 
+// Notes the n-th binding in the tables: its name's number, and where its record begins.
+fn note(work: &mut [u8], name: usize, n: usize, at: usize)
+    requires { ⌜ n ≤ reach ⌝ }
+    ensures { λ _. ⌜ now (work .exit) ≡ noted name n at (now (work .entry)) ⌝ }
+{
+    put16(work, NAMES + 2 * (name % NAME_LIMIT), n);
+    put16(work, PLACES + 2 * n, at);
+}
+
 // Appends a binding.
 pub fn bind(work: &mut [u8], l: Lists, name: usize, slot: Slot) -> Lists
     ensures { λ r. ⌜ ((lv : Level) (tg : Target) (p : List ℕ) → (
@@ -284,33 +300,12 @@ pub fn bind(work: &mut [u8], l: Lists, name: usize, slot: Slot) -> Lists
     }
     put16(work, at, name);
     put_slot(work, at + 2, slot);
+    note(work, name, wide32(count), at);
     ends.bindings = end as u32;
     ends.binding_count = count + 1;
     let mut r = l;
     r.ends = ends;
     r
-}
-
-// What was found, from the one number that the loop carries: its position + 1, or 0 if nothing was found.
-fn place(found: usize) -> Found
-    ensures { λ r. ⌜ r ≡ placeOf found ⌝ }
-{
-    if found == 0 {
-        return Found::Nothing;
-    }
-    Found::Just(found - 1)
-}
-
-// The binding at p if it has the name, else what was found before it.
-fn later(bytes: &[u8], p: usize, name: usize, found: usize) -> usize
-    requires { ⌜ p + 2 ≤ length (now bytes) ⌝ }
-    ensures { λ r. ⌜ placeOf r ≡ later (now (bytes .entry)) p name (placeOf found) ⌝ }
-{
-    if word_at(bytes, p) == name {
-        p + 1
-    } else {
-        found
-    }
 }
 
 // The bytes after the kind of a slot that is no field.
@@ -341,7 +336,7 @@ fn field_end(bytes: &[u8], p: usize) -> usize
     p + n
 }
 
-// Where the binding at p ends, or 0 where none is read: one number, by few tests, since the search asks for it at each record.
+// Where the binding at p ends, or 0 where none is read.
 fn end_at(bytes: &[u8], p: usize) -> usize
     requires { ⌜ p ≤ length (now bytes) ⌝ }
     ensures { λ r. ⌜ r ≡ endOf (stepAt (now (bytes .entry)) binding p) ⌝ }
@@ -364,25 +359,36 @@ fn end_at(bytes: &[u8], p: usize) -> usize
     p + n
 }
 
-// The last binding of a name among records one after another, up to the first that is none.
-fn find(bytes: &[u8], name: usize) -> Found
-    ensures shows { λ r. ⌜ (
-        let records = now (bytes .entry) in
-        SeenAt records (Constant.lookup (bindingsIn (length records) records) name) r
-        ) ⌝ }
-    ensures place { λ r. ⌜ r ≡ lastPlace (now (bytes .entry)) name ⌝ }
+// Whether a binding of the name stands at p.
+fn named_at(bytes: &[u8], p: usize, name: usize) -> bool
+    ensures { λ r. ⌜ r ≡ namedAt (now (bytes .entry)) p name ⌝ }
 {
-    let mut found: usize = 0;
-    let mut p: usize = 0;
-    while p < bytes.len() {
-        let q = end_at(bytes, p);
-        if q == 0 {
-            return place(found);
-        }
-        found = later(bytes, p, name, found);
-        p = q;
+    if bytes.len() < p {
+        return false;
     }
-    place(found)
+    if end_at(bytes, p) == 0 {
+        return false;
+    }
+    word_at(bytes, p) == name
+}
+
+// Where the record of a name's binding begins, if the walks have bound the name: as the tables have it.
+fn made_place(work: &[u8], count: usize, name: usize) -> Found
+    ensures shows { λ r. ⌜ (
+        let bytes = now (work .entry) in
+        SeenAt bytes (madeSlot bytes count name) r
+        ) ⌝ }
+    ensures place { λ r. ⌜ r ≡ madePlace (now (work .entry)) count name ⌝ }
+{
+    let n = word_in(work, NAMES + 2 * (name % NAME_LIMIT));
+    if n >= count {
+        return Found::Nothing;
+    }
+    let p = word_in(work, PLACES + 2 * n);
+    if named_at(work, p, name) {
+        return Found::Just(p);
+    }
+    Found::Nothing
 }
 
 fn register_at(bytes: &[u8], p: usize) -> Address
@@ -430,42 +436,16 @@ fn slot_at(bytes: &[u8], at: usize) -> SlotView
     }
 }
 
-// How far two bytes are from a name's two: 0 where they are the name's.
-fn apart(a: u8, b: u8, low: u8, high: u8) -> u8
-    ensures { λ r. ⌜ r ≡ apart a b low high ⌝ }
-{
-    (a ^ low) | (b ^ high)
-}
-
-// How near two bytes side by side come to a name's two: 0 where these stand somewhere. One byte to carry and no branch, so that the
-// loop becomes vector code.
-fn nearest(bytes: &[u8], low: u8, high: u8) -> u8
-    ensures { λ r. ⌜ r ≡ nearest (now (bytes .entry)) low high (length (now (bytes .entry)) - 1) ⌝ }
-{
-    let mut near: u8 = 255;
-    let mut i: usize = 1;
-    while i < bytes.len() {
-        let x = apart(bytes[i - 1], bytes[i], low, high);
-        near = least(x, near);
-        i += 1;
-    }
-    near
-}
-
-// The slot of a name's last entry among the records. Most names have none, and then their two bytes seldom stand anywhere: no record
-// is read.
-fn made_slot(bytes: &[u8], name: usize) -> MaybeSlotView
+// The slot that the walks have bound a name to.
+fn made_slot(work: &[u8], count: usize, name: usize) -> MaybeSlotView
     ensures shows { λ r. ⌜ (
-        let records = now (bytes .entry) in
-        SeenSlot records (Constant.lookup (bindingsIn (length records) records) name) r
+        let bytes = now (work .entry) in
+        SeenSlot bytes (madeSlot bytes count name) r
         ) ⌝ }
-    ensures view { λ r. ⌜ r ≡ viewAt (now (bytes .entry)) (lastPlace (now (bytes .entry)) name) ⌝ }
+    ensures view { λ r. ⌜ r ≡ viewAt (now (work .entry)) (madePlace (now (work .entry)) count name) ⌝ }
 {
-    if nearest(bytes, (name % 256) as u8, (name / 256 % 256) as u8) != 0 {
-        return MaybeSlotView::Nothing;
-    }
-    if let Found::Just(p) = find(bytes, name) {
-        MaybeSlotView::Just(slot_at(bytes, p))
+    if let Found::Just(p) = made_place(work, count, name) {
+        MaybeSlotView::Just(slot_at(work, p))
     } else {
         MaybeSlotView::Nothing
     }
@@ -576,23 +556,7 @@ fn own_slot(file: &[u8], index: &[u16], name: usize) -> MaybeSlot
     }
 }
 
-// Where the bindings end, within the work area.
-fn made_end(work: &[u8], l: Lists) -> usize
-    ensures { λ r. ⌜ (
-        let bytes = now (work .entry) in
-        let end = l .ends .bindings in
-        (take r bytes ≡ take end bytes) × (r ≤ length bytes) × (r ≡ min end (length bytes))
-        ) ⌝ }
-{
-    let ends = l.ends;
-    let end = wide32(ends.bindings);
-    if end <= work.len() {
-        return end;
-    }
-    work.len()
-}
-
-// The slot of a name's last entry: of those that the walks have made, else of the file's own.
+// The slot of a name: the one that the walks have bound it to, else the file's own.
 pub fn lookup(file: &[u8], index: &[u16], work: &[u8], l: Lists, name: usize) -> MaybeSlot
     requires { ⌜ AcceptedFile (now file) (now index) ⌝ }
     ensures { λ r. ⌜ ((lv : Level) (tg : Target) (p : List ℕ) → (
@@ -601,10 +565,10 @@ pub fn lookup(file: &[u8], index: &[u16], work: &[u8], l: Lists, name: usize) ->
         IsSlot (ops T .lookup before name) r
         )) ⌝ }
 {
-    let end = made_end(work, l);
-    let bytes = &work[..end];
-    if let MaybeSlotView::Just(v) = made_slot(bytes, name) {
-        fitted(file, index, bytes, v)
+    let ends = l.ends;
+    let count = wide32(ends.binding_count);
+    if let MaybeSlotView::Just(v) = made_slot(work, count, name) {
+        fitted(file, index, work, v)
     } else {
         own_slot(file, index, name)
     }

@@ -129,6 +129,11 @@ module _ (T : Tables) where
         ∙ by-test₂ (λ (a b : Option ℕ). a ≡ b) (isConstant T n) (λ c. refl)
         (λ c. leaf-same (nodeAt T n) n (folded T) (sym (ap (λ (b : Bool). elim b [ true ↦ Bs.Nothing | false ↦ baseOf (nodeAt T n) ]) c) ∙ e))
 
+    -- and so is one for which the nodes below it do not count
+    pub other-is : (n : ℕ) → ((f : ℕ → Option ℕ) → foldedNode T (λ base. none) n (nodeAt T n) ≡ foldedNode T f n (nodeAt T n)) → leafConst T n ≡ folded T n
+    unfolding leafConst
+    other-is n h = by-test₂ (λ (a b : Option ℕ). a ≡ b) (isConstant T n) (λ c. refl) (λ c. h (folded T)) ∙ sym (folded-step n)
+
     up-same : (node : Node) (n : ℕ) (f : ℕ → Option ℕ) (read : Read) (b : ℕ) → baseOf node ≡ Bs.Just read b → (f b whenSome λ c. upBy T c node) ≡ foldedNode T f n node
     unfolding baseOf upBy foldedNode
     up-same (Node.Int bytes) n f read b e = absurd (let z : _≡_ {A = ℕ} 0 1 = cc in omega arith)

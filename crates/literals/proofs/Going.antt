@@ -19,7 +19,7 @@ use Rattle.tables.specs.declared.Found.the-variants as Fo
 use Rattle.field_cases.specs.Pieces.{patternsOf, fieldsFor, noField, Pieced}
 use Rattle.field_cases.specs.declared.Piece.{Piece}
 
-none-left : {A : Type 0} (l : List A) → length l ≤ 0 → l ≡ []
+pub none-left : {A : Type 0} (l : List A) → length l ≤ 0 → l ≡ []
 none-left [] h = refl
 none-left (x ∷ l) h = absurd (omega arith)
 

@@ -6,3 +6,7 @@ pub mod Seen
 pub mod Steps
 -- A record's fields in turn, and the levels.
 pub mod Going
+-- What is met hangs on no limit.
+pub mod Same
+-- A file without a constant.
+pub mod Constants

@@ -1,11 +1,11 @@
--- From what the code sees of a node, a type or a constant to the constant that a pattern stands for, and to the step that it takes.
+-- From what the code sees of a node or a type to the constant that a pattern stands for, and to the step that it takes.
 use Prim.Native.Nat.{ℕ, zero, suc, _+_, _*_, _≤_, _<_}
 use mathlib.Core.Path.{_≡_, refl, sym, ap, ap₂, _∙_, subst}
 use mathlib.Core.Bool.{Bool, true, false}
 use mathlib.Core.List.{List, [], _∷_}
 use mathlib.Core.Option.{Option, none, some, Option·getD}
 use native.Mathlib.Omega.{arith}
-use types.Run.{OneOf, miss}
+use types.Run.{OneOf, hit, miss}
 use denote.Enum.Declared.{tagOf}
 use lib.Dec.{eqb}
 use lib.ListN.{length, getD}
@@ -33,23 +33,21 @@ use Rattle.views.specs.declared.Alternative.{Alternative}
 use Rattle.fields.specs.Found.{nameOption, hoistedName}
 use Rattle.tables.specs.Tables.{foundOption, alternativeOption, SeenRun}
 use Rattle.tables.specs.declared.Run.{Run}
+use Rattle.tables.proofs.Tags.{record-is, record-not}
 use Rattle.tables.specs.declared.Run.the-variants as Ru
 use Rattle.tables.specs.declared.Found.{Found}
 use Rattle.tables.specs.declared.Found.the-variants as Fo
 use Rattle.tables.specs.declared.MaybeAlternative.{MaybeAlternative}
 use Rattle.tables.specs.declared.MaybeAlternative.the-variants as Ma
-use Rattle.constant.specs.Sizes.{viewOf, constView}
-use Rattle.constant.specs.declared.Const.{Const}
-use Rattle.constant.specs.declared.Const.the-variants as Co
-use Rattle.constant.proofs.Const as Consts
-use Rattle.constant.proofs.Known.{known-nothing}
 use Rattle.field_cases.specs.Pieces.{patternsOf, openFields, fieldsFor, noField, Pieced}
 use Rattle.field_cases.specs.declared.Piece.{Piece}
+use Rattle.field_cases.proofs.Opens.{run-inside}
+use Rattle.resolve.proofs.Steps.{Lower}
 use Rattle.literals.specs.Chains.{upBy, constUp, leafConst}
 use Rattle.literals.specs.Steps.{broughtBy, broughtStep, chosenStep, payloadStep, recordStep, standingStep, fieldStep, Met}
 use Rattle.literals.specs.declared.Step.{Step}
 use Rattle.literals.specs.declared.Step.the-variants as St
-use Rattle.literals.proofs.Chains.{leaf-other, pattern-constant}
+use Rattle.literals.proofs.Chains.{leaf-other, other-is, pattern-constant}
 
 -- the Const of a hoisted node, by the name that was found
 pub hoisted-by : (T : Tables) (n : ℕ) (o : Option ℕ) → o ≡ hoistedName T n → (o whenSome constBound (T .bindings)) ≡ hoistedConst T n
@@ -101,6 +99,27 @@ no-access T c f (Nv.Fact p b) w = refl
 no-access T c f Nv.Arith w = refl
 no-access T c f Nv.Error w = refl
 
+-- only an Access has the constant of another node
+no-read : (T : Tables) (n : ℕ) (f : List ℕ) (g : ℕ → Option ℕ) (v : NodeView) → OneOf (0 ∷ 1 ∷ 2 ∷ 3 ∷ 4 ∷ 5 ∷ 6 ∷ 7 ∷ 8 ∷ 10 ∷ 11 ∷ 12 ∷ 13 ∷ 14 ∷ 15 ∷ 16 ∷ []) (tagOf NodeViews.the-type v) → foldedNode T (λ base. none) n (nodeOf f v) ≡ foldedNode T g n (nodeOf f v)
+unfolding foldedNode
+no-read T n f g (Nv.Int at) w = refl
+no-read T n f g (Nv.Str x) w = refl
+no-read T n f g (Nv.Bytes k at) w = refl
+no-read T n f g (Nv.Var x) w = refl
+no-read T n f g Nv.Wildcard w = refl
+no-read T n f g Nv.Never w = refl
+no-read T n f g (Nv.Prefix x) w = refl
+no-read T n f g (Nv.Fuzzy x d a) w = refl
+no-read T n f g (Nv.Record k at) w = refl
+no-read T n f g (Nv.Access x b) w = absurd (miss (0 ∷ 1 ∷ 2 ∷ 3 ∷ 4 ∷ 5 ∷ 6 ∷ 7 ∷ 8 ∷ 10 ∷ 11 ∷ 12 ∷ 13 ∷ 14 ∷ 15 ∷ 16 ∷ []) 9 tt w)
+no-read T n f g (Nv.Value b) w = refl
+no-read T n f g (Nv.Select x b) w = refl
+no-read T n f g Nv.Disjunction w = refl
+no-read T n f g Nv.Subquery w = refl
+no-read T n f g (Nv.Fact p b) w = refl
+no-read T n f g Nv.Arith w = refl
+no-read T n f g Nv.Error w = refl
+
 module _ (f : List ℕ) (T : Tables) (n : ℕ) (v : NodeView) (s : SeenNode f (nodeAt T n) v) where
   pub leaf-var : isConstant T n ≡ false → (x : ℕ) → v ≡ Nv.Var x → (r : Option ℕ) → r ≡ constBound (T .bindings) x → r ≡ leafConst T n
   unfolding foldedNode
@@ -120,19 +139,8 @@ module _ (f : List ℕ) (T : Tables) (n : ℕ) (v : NodeView) (s : SeenNode f (n
   unfolding constUp
   up-other c w = no-access T c f v w ∙ ap (upBy T c) (s .is)
 
--- whether a constant has bytes
-module _ (T : Tables) (n t : ℕ) (c : Const) (e : c ≡ constView T n t) where
-  pub lacks-nothing : c ≡ Co.Nothing → true ≡ lacksBytes (ConstantRules.constant T n t)
-  unfolding lacksBytes
-  lacks-nothing q = sym (ap lacksBytes (known-nothing T n t (sym e ∙ q)))
-
-  pub lacks-other : OneOf (1 ∷ 2 ∷ 3 ∷ []) (tagOf Consts.the-type c) → false ≡ lacksBytes (ConstantRules.constant T n t)
-  unfolding lacksBytes constView
-  lacks-other w = go (ConstantRules.constant T n t) refl
-    where
-      go : (o : Option ConstantRules.Const) → ConstantRules.constant T n t ≡ o → false ≡ lacksBytes o
-      go none q = absurd (miss (1 ∷ 2 ∷ 3 ∷ []) 0 tt (subst (λ (x : Const). OneOf (1 ∷ 2 ∷ 3 ∷ []) (tagOf Consts.the-type x)) (e ∙ ap (viewOf T n t) q) w))
-      go (some k) q = refl
+  pub folded-other : Lower T → OneOf (0 ∷ 1 ∷ 2 ∷ 3 ∷ 4 ∷ 5 ∷ 6 ∷ 7 ∷ 8 ∷ 10 ∷ 11 ∷ 12 ∷ 13 ∷ 14 ∷ 15 ∷ 16 ∷ []) (tagOf NodeViews.the-type v) → (r : Option ℕ) → r ≡ leafConst T n → r ≡ folded T n
+  folded-other low w r e = e ∙ other-is T low n (λ g. subst (λ (x : Node). foldedNode T (λ base. none) n x ≡ foldedNode T g n x) (s .is) (no-read T n f g v w))
 
 -- a constant that is brought to a type
 module _ (f : List ℕ) (T : Tables) (c t : ℕ) (a : Run) (pairs : SeenRun f (patternAt f) 4 (recordFields (nodeAt T c)) a) where
@@ -211,6 +219,56 @@ module _ (f : List ℕ) (T : Tables) (n t : ℕ) (a : Run) (pairs : SeenRun f (p
   pub step-written : (k at : ℕ) → a ≡ Ru.Just k at → (r : Step) → r ≡ recordStep T n (run (patternAt f) 4 k at) (typeAt T t) → r ≡ fieldStep T n t
   unfolding fieldStep
   step-written k at e r q = q ∙ ap stepBy (subst (SeenRun f (patternAt f) 4 (recordFields (nodeAt T n))) e pairs .is)
+
+-- the kinds but for Record, but for Access, and but for both
+abbrev noRecord : List ℕ
+noRecord = 0 ∷ 1 ∷ 2 ∷ 3 ∷ 4 ∷ 5 ∷ 6 ∷ 7 ∷ 9 ∷ 10 ∷ 11 ∷ 12 ∷ 13 ∷ 14 ∷ 15 ∷ 16 ∷ []
+
+abbrev noAccess : List ℕ
+noAccess = 0 ∷ 1 ∷ 2 ∷ 3 ∷ 4 ∷ 5 ∷ 6 ∷ 7 ∷ 8 ∷ 10 ∷ 11 ∷ 12 ∷ 13 ∷ 14 ∷ 15 ∷ 16 ∷ []
+
+abbrev neither : List ℕ
+neither = 0 ∷ 1 ∷ 2 ∷ 3 ∷ 4 ∷ 5 ∷ 6 ∷ 7 ∷ 10 ∷ 11 ∷ 12 ∷ 13 ∷ 14 ∷ 15 ∷ 16 ∷ []
+
+neither-is : (v : NodeView) → OneOf neither (tagOf NodeViews.the-type v) → OneOf noRecord (tagOf NodeViews.the-type v) × OneOf noAccess (tagOf NodeViews.the-type v)
+neither-is (Nv.Int at) w = (hit noRecord 0 tt, hit noAccess 0 tt)
+neither-is (Nv.Str x) w = (hit noRecord 1 tt, hit noAccess 1 tt)
+neither-is (Nv.Bytes k at) w = (hit noRecord 2 tt, hit noAccess 2 tt)
+neither-is (Nv.Var x) w = (hit noRecord 3 tt, hit noAccess 3 tt)
+neither-is Nv.Wildcard w = (hit noRecord 4 tt, hit noAccess 4 tt)
+neither-is Nv.Never w = (hit noRecord 5 tt, hit noAccess 5 tt)
+neither-is (Nv.Prefix x) w = (hit noRecord 6 tt, hit noAccess 6 tt)
+neither-is (Nv.Fuzzy x d a) w = (hit noRecord 7 tt, hit noAccess 7 tt)
+neither-is (Nv.Record k at) w = absurd (miss neither 8 tt w)
+neither-is (Nv.Access x b) w = absurd (miss neither 9 tt w)
+neither-is (Nv.Value b) w = (hit noRecord 10 tt, hit noAccess 10 tt)
+neither-is (Nv.Select x b) w = (hit noRecord 11 tt, hit noAccess 11 tt)
+neither-is Nv.Disjunction w = (hit noRecord 12 tt, hit noAccess 12 tt)
+neither-is Nv.Subquery w = (hit noRecord 13 tt, hit noAccess 13 tt)
+neither-is (Nv.Fact p b) w = (hit noRecord 14 tt, hit noAccess 14 tt)
+neither-is Nv.Arith w = (hit noRecord 15 tt, hit noAccess 15 tt)
+neither-is Nv.Error w = (hit noRecord 16 tt, hit noAccess 16 tt)
+
+-- a pattern at a type, by its view
+module _ (f : List ℕ) (T : Tables) (n t : ℕ) (v : NodeView) (s : SeenNode f (nodeAt T n) v) where
+  pub seen-inside : (k at : ℕ) → v ≡ Nv.Record k at → at + 4 * k ≤ length f
+  seen-inside k at e = run-inside f (patternAt f) 4 _ _ (record-is f _ v s v refl k at e .0) k at refl
+
+  pub seen-written : (k at : ℕ) → v ≡ Nv.Record k at → (r : Step) → r ≡ recordStep T n (run (patternAt f) 4 k at) (typeAt T t) → r ≡ fieldStep T n t
+  seen-written k at e r q = step-written f T n t (Ru.Just k at) (record-is f _ v s v refl k at e .0) k at refl r q
+
+  by-constant : OneOf noRecord (tagOf NodeViews.the-type v) → (o : Option ℕ) → o ≡ folded T n → (r : Step) → r ≡ standingStep T t o → r ≡ fieldStep T n t
+  by-constant w o e r q = step-standing f T n t Ru.Nothing (record-not f _ v s v refl w .0) refl r (q ∙ ap (standingStep T t) e)
+
+  pub seen-access : (x b : ℕ) → v ≡ Nv.Access x b → (o : Option ℕ) → o ≡ folded T n → (r : Step) → r ≡ standingStep T t o → r ≡ fieldStep T n t
+  seen-access x b e = by-constant (subst (λ (v : NodeView). OneOf noRecord (tagOf NodeViews.the-type v)) (sym e) (hit noRecord 9 tt))
+
+  module _ (low : Lower T) (w : OneOf neither (tagOf NodeViews.the-type v)) where
+    pub seen-constant : (o : Option ℕ) → o ≡ leafConst T n → o ≡ folded T n
+    seen-constant o e = folded-other f T n v s low (neither-is v w .1) o e
+
+    pub seen-other : (o : Option ℕ) → o ≡ leafConst T n → (r : Step) → r ≡ standingStep T t o → r ≡ fieldStep T n t
+    seen-other o e = by-constant (neither-is v w .0) o (seen-constant o e)
 
 -- no pattern has the name
 nothing-there : (x : ℕ) → fieldPattern [] x ≡ none

@@ -3,7 +3,7 @@
 ghost use mathlib.Core.Path.{_≡_};
 ghost use mathlib.Core.Bool.{true};
 ghost use mathlib.Core.List.{[]};
-ghost use mathlib.Core.Option.{Option·getD};
+ghost use mathlib.Core.Option.{Option·getD, some};
 ghost use Prim.Native.Nat.{ℕ, _+_, _*_, _≤_, _<_};
 ghost use lib.ListN.{length, take};
 ghost use Rattle.rules.specs.File.{typeAt, isConstant, recordTy};
@@ -15,10 +15,10 @@ ghost use Rattle.views.specs.Views.{run, patternAt, alternativeAt, levelEntryAt
 ghost use Rattle.accepted_file.specs.AcceptedFile.{AcceptedFile};
 ghost use Rattle.tables.specs.Tables.{foundOption};
 ghost use Rattle.field_cases.specs.Pieces.{patternsOf, fieldsFor};
+ghost use Rattle.literals.specs.Constants.{hasConstant};
 ghost use Rattle.literals.specs.Chains.{leafConst, constUp, climbConst};
 ghost use Rattle.literals.specs.Steps.{broughtStep, payloadStep, recordStep, standingStep, fieldStep, went, StepIn, Met};
-use constant::Const;
-use constant::constant;
+use constant::has_bytes;
 use field_cases::pairs_of;
 use field_cases::piece_at;
 use field_cases::pieces;
@@ -31,10 +31,13 @@ use resolve::constant_node;
 use resolve::descend;
 use resolve::read_of;
 use tables::Found;
+use tables::MET;
 use tables::MaybeAlternative;
 use tables::Run;
 use tables::alternative_of;
 use tables::const_of;
+use tables::is_constant;
+use tables::recall_any;
 use tables::record_ty;
 use views::NodeView;
 use views::TypeView;
@@ -122,8 +125,8 @@ fn folded_long(file: &[u8], index: &[u16], node: usize) -> Found
     climb(file, index, &trail, chain.passed, end)
 }
 
-// The constant that a pattern stands for. Nearly every chain of reads is short, and is done with a short trail.
-fn folded(file: &[u8], index: &[u16], node: usize) -> Found
+// The constant that a read stands for. Nearly every chain of reads is short, and is done with a short trail.
+fn folded_read(file: &[u8], index: &[u16], node: usize) -> Found
     requires { ⌜ AcceptedFile (now file) (now index) ⌝ }
     ensures { λ r. ⌜ foundOption r ≡ folded (tablesOf (now (file .entry))) node ⌝ }
 {
@@ -136,18 +139,26 @@ fn folded(file: &[u8], index: &[u16], node: usize) -> Found
     climb(file, index, &trail, chain.passed, end)
 }
 
+// The constant that a pattern stands for: of all patterns only an Access has that of another node.
+fn folded(file: &[u8], index: &[u16], node: usize) -> Found
+    requires { ⌜ AcceptedFile (now file) (now index) ⌝ }
+    ensures { λ r. ⌜ foundOption r ≡ folded (tablesOf (now (file .entry))) node ⌝ }
+{
+    if let NodeView::Access(x, n) = node_of(file, index, node) {
+        folded_read(file, index, node)
+    } else {
+        leaf_const(file, index, node)
+    }
+}
+
 // Whether a type gives a constant no bytes.
-fn lacks_bytes(file: &[u8], index: &[u16], node: usize, ty: usize) -> bool
+pub fn lacks_bytes(file: &[u8], index: &[u16], node: usize, ty: usize) -> bool
     requires { ⌜ AcceptedFile (now file) (now index) ⌝ }
     requires { ⌜ isConstant (tablesOf (now file)) node ≡ true ⌝ }
     requires { ⌜ ty < length (tablesOf (now file) .types) ⌝ }
     ensures { λ r. ⌜ r ≡ lacksBytes (constant (tablesOf (now (file .entry))) node ty) ⌝ }
 {
-    if let Const::Nothing = constant(file, index, node, ty) {
-        true
-    } else {
-        false
-    }
+    !has_bytes(file, index, node, ty)
 }
 
 // A constant that is brought to a type otherwise than as a Record written at a Union: a Record at a Record is opened.
@@ -205,30 +216,29 @@ fn written(file: &[u8], index: &[u16], node: usize, ty: usize, n: usize, at: usi
     }
 }
 
-// A pattern that is no Record: what it stands for.
-fn standing(file: &[u8], index: &[u16], node: usize, ty: usize) -> Step
+// A pattern that is no Record, by the constant that it stands for.
+fn standing(file: &[u8], index: &[u16], found: Found, ty: usize) -> Step
     requires { ⌜ AcceptedFile (now file) (now index) ⌝ }
+    requires { ⌜ ((c : ℕ) → foundOption found ≡ some c → isConstant (tablesOf (now file)) c ≡ true) ⌝ }
     requires { ⌜ ty < length (tablesOf (now file) .types) ⌝ }
-    ensures { λ r. ⌜ (
-        let T = tablesOf (now (file .entry)) in
-        r ≡ standingStep T ty (folded T node)
-        ) ⌝ }
+    ensures { λ r. ⌜ r ≡ standingStep (tablesOf (now (file .entry))) ty (foundOption found) ⌝ }
 {
-    match folded(file, index, node) {
+    match found {
         Found::Nothing => Step::Known(false),
         Found::Just(c) => brought(file, index, c, ty),
     }
 }
 
-// A pattern at a type.
+// A pattern at a type. Its kind is looked at once: a Record is opened, an Access is read along its chain, any other stands by itself.
 fn step_at(file: &[u8], index: &[u16], node: usize, ty: usize) -> Step
     requires { ⌜ AcceptedFile (now file) (now index) ⌝ }
     requires { ⌜ ty < length (tablesOf (now file) .types) ⌝ }
     ensures { λ r. ⌜ r ≡ fieldStep (tablesOf (now (file .entry))) node ty ⌝ }
 {
-    match pairs_of(file, index, node) {
-        Run::Nothing => standing(file, index, node, ty),
-        Run::Just(n, at) => written(file, index, node, ty, n, at),
+    match node_of(file, index, node) {
+        NodeView::Record(n, at) => written(file, index, node, ty, n, at),
+        NodeView::Access(_, _) => standing(file, index, folded_read(file, index, node), ty),
+        _ => standing(file, index, leaf_const(file, index, node), ty),
     }
 }
 
@@ -249,7 +259,7 @@ fn go_on(file: &[u8], index: &[u16], s: Step, ty: usize) -> bool
     }
 }
 
-// Any field of a Record at a Record type.
+// Any field of a Record at a Record type, unless it is remembered whether any is met.
 fn any_field(file: &[u8], index: &[u16], node: usize, ty: usize) -> bool
     requires { ⌜ AcceptedFile (now file) (now index) ⌝ }
     requires { ⌜ ty < length (tablesOf (now file) .types) ⌝ }
@@ -259,6 +269,12 @@ fn any_field(file: &[u8], index: &[u16], node: usize, ty: usize) -> bool
         ) ⌝ }
 {
     let opened = pieces(file, index, node, ty);
+    if opened.count == 0 {
+        return false;
+    }
+    if let Found::Just(fate) = recall_any(file, index, node, ty) {
+        return fate == MET;
+    }
     let mut i: usize = 0;
     while i < opened.count {
         let p = piece_at(file, index, node, ty, opened, i);
@@ -272,6 +288,19 @@ fn any_field(file: &[u8], index: &[u16], node: usize, ty: usize) -> bool
         }
     }
     false
+}
+
+// Whether a constant is met that is brought to a type otherwise than as a Record written at a Union.
+pub fn brought_meets(file: &[u8], index: &[u16], node: usize, ty: usize) -> bool
+    requires { ⌜ AcceptedFile (now file) (now index) ⌝ }
+    requires { ⌜ isConstant (tablesOf (now file)) node ≡ true ⌝ }
+    requires { ⌜ ty < length (tablesOf (now file) .types) ⌝ }
+    ensures { λ r. ⌜ (
+        let T = tablesOf (now (file .entry)) in
+        r ≡ broughtMeets T (meets T) node ty
+        ) ⌝ }
+{
+    go_on(file, index, brought(file, index, node, ty), ty)
 }
 
 // Any field of a constant Record that is brought to a record key as a whole.
@@ -349,7 +378,23 @@ pub fn level_meets(file: &[u8], index: &[u16], k: usize) -> bool
     key(file, index, e.node, p.key)
 }
 
-// Whether any level does.
+// Whether any node of the file is constant.
+fn has_constant(file: &[u8], index: &[u16]) -> bool
+    requires { ⌜ AcceptedFile (now file) (now index) ⌝ }
+    ensures { λ r. ⌜ r ≡ hasConstant (tablesOf (now (file .entry))) ⌝ }
+{
+    let n = count_of(file, index, file::NODES);
+    let mut k: usize = 0;
+    while k < n {
+        if is_constant(file, index, k) {
+            return true;
+        }
+        k += 1;
+    }
+    false
+}
+
+// Whether any level does: where no node is constant, no constant is brought anywhere.
 pub fn levels_meet(file: &[u8], index: &[u16]) -> bool
     requires { ⌜ AcceptedFile (now file) (now index) ⌝ }
     ensures { λ r. ⌜ (
@@ -357,6 +402,9 @@ pub fn levels_meet(file: &[u8], index: &[u16]) -> bool
         r ≡ levelsMeet T (T .levels)
         ) ⌝ }
 {
+    if !has_constant(file, index) {
+        return false;
+    }
     let n = count_of(file, index, file::LEVELS);
     let mut k: usize = 0;
     while k < n {

@@ -10,13 +10,13 @@ use lib.ListN.{length}
 use lib.Seq.{sets, slice}
 use Rattle.rules.specs.Base.{both}
 use Rattle.rules.proofs.Cases.{by-test, true≢false}
-use Rattle.state.specs.State.{Counts, Target}
-use Rattle.state.specs.Levels.{pageRest, paged, pageWord, joinParts, partsFrom, fromPage}
+use Rattle.state.specs.State.{Counts, Target, wordIn}
+use Rattle.state.specs.Levels.{pageRest, paged, joinParts, partsFrom, fromPage}
 use Rattle.records.specs.Records.{put}
 use Rattle.records.proofs.Stores.{put-sets}
 
 -- what one step makes of the plan
-joined-one : (n : ℕ) (page : List ℕ) (p t m : ℕ) (plan plan₁ plan₂ : List ℕ) (size to : ℕ) → size ≡ pageWord page (p + 1) → to ≡ p + 3 + size → plan₁ ≡ put plan m (slice to (to + 2) page) → plan₂ ≡ put plan₁ t (slice (p + 3) to page)
+joined-one : (n : ℕ) (page : List ℕ) (p t m : ℕ) (plan plan₁ plan₂ : List ℕ) (size to : ℕ) → size ≡ wordIn page (p + 1) → to ≡ p + 3 + size → plan₁ ≡ put plan m (slice to (to + 2) page) → plan₂ ≡ put plan₁ t (slice (p + 3) to page)
     → joinParts n page (to + 2) (t + size) (m + 2) plan₂ ≡ joinParts (suc n) page p t m plan
 unfolding joinParts
 joined-one n page p t m plan plan₁ plan₂ size to es et e₁ e₂ =
@@ -36,7 +36,7 @@ module _ (page : List ℕ) (n : ℕ) (plan₀ : List ℕ) (text node : ℕ) wher
   pub joining-start : Joining 0 0 text node plan₀
   joining-start = record { left = ap (λ (k : ℕ). joinParts k page 0 text node plan₀) (let z : n - 0 ≡ n = omega arith in z); near = omega arith; texts = omega arith; nodes = omega arith; size = refl }
 
-  pub joining-more : (i p t m : ℕ) (plan : List ℕ) → Joining i p t m plan → i < n → (size to : ℕ) (plan₁ plan₂ : List ℕ) → (size ≡ pageWord page (p + 1)) × (size < 65536) → to ≡ p + 3 + size → plan₁ ≡ put plan m (slice to (to + 2) page) → plan₂ ≡ put plan₁ t (slice (p + 3) to page) → length plan₂ ≡ length plan → Joining (i + 1) (to + 2) (t + size) (m + 2) plan₂
+  pub joining-more : (i p t m : ℕ) (plan : List ℕ) → Joining i p t m plan → i < n → (size to : ℕ) (plan₁ plan₂ : List ℕ) → (size ≡ wordIn page (p + 1)) × (size < 65536) → to ≡ p + 3 + size → plan₁ ≡ put plan m (slice to (to + 2) page) → plan₂ ≡ put plan₁ t (slice (p + 3) to page) → length plan₂ ≡ length plan → Joining (i + 1) (to + 2) (t + size) (m + 2) plan₂
   joining-more i p t m plan j h size to plan₁ plan₂ es et e₁ e₂ el =
       let more : n - i ≡ suc (n - (i + 1)) = omega (arith, h) in
       record {

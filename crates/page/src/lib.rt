@@ -1,15 +1,13 @@
 // A level from the page to the plan. A level's walk writes its parts to the page, each by itself, and its residuals, before it is known
 // where they stand in the plan.
 ghost use mathlib.Core.Path.{_≡_};
-ghost use Prim.Native.Nat.{_≤_, _<_};
-ghost use lib.ListN.{getD};
+ghost use Prim.Native.Nat.{_<_};
 ghost use Rattle.state.specs.Levels as StateLevels;
-ghost use Rattle.state.specs.Levels.{paged, pageWord, joinParts, partsFrom, fromPage};
-ghost use Rattle.records.specs.Records.{reach};
+ghost use Rattle.state.specs.Levels.{paged, joinParts, partsFrom, fromPage};
 ghost use Rattle.seek.specs.Seek.{countsOf, targetOf};
-use file::wide;
 use plan_lists::copy_run;
 use records::wide32;
+use records::word_in;
 use seek::Counts;
 use seek::Target;
 
@@ -38,20 +36,6 @@ pub fn is_paged(c: Counts) -> bool
         return false;
     }
     wide32(c.rest) <= PAGE - PAGE_REST
-}
-
-fn byte_or_zero(page: &[u8], p: usize) -> usize
-    ensures { λ r. ⌜ (r ≡ getD (now (page .entry)) p 0) × (r < 256) ⌝ }
-{
-    if p < page.len() { wide(page[p]) } else { 0 }
-}
-
-// A u16 of the page.
-fn word_in(page: &[u8], p: usize) -> usize
-    requires { ⌜ p ≤ reach ⌝ }
-    ensures { λ r. ⌜ (r ≡ pageWord (now (page .entry)) p) × (r < 65536) ⌝ }
-{
-    byte_or_zero(page, p) + 256 * byte_or_zero(page, p + 1)
 }
 
 // The first n parts of the page, all of them bytes, joined in the plan: their texts from `text` on, their nodes from `node` on.

@@ -4,14 +4,16 @@ ghost use mathlib.Core.Path.{_≡_};
 ghost use mathlib.Core.Bool.{true, false};
 ghost use mathlib.Core.List.{List, [], _∷_, _++_};
 ghost use Prim.Native.Nat.{ℕ, _+_, _*_, _≤_, _<_};
-ghost use lib.ListN.{length};
+ghost use lib.ListN.{length, getD};
 ghost use Rattle.rules.specs.Limits.{stepLimit};
 ghost use Rattle.rules.specs.Constant.{unionTag};
 ghost use Rattle.rules.specs.Events.{Narrowing};
 ghost use Rattle.rules.specs.Plan as Plan;
+ghost use Rattle.state.specs.State.{wordIn};
 ghost use Rattle.paths.specs.Paths.{pathOf};
 ghost use Rattle.views.specs.Views.{anchorOf};
 ghost use Rattle.records.specs.Records.{put, reach, longestPath, writtenAt, behind, movedTo, headOf, apartOf, cut};
+use file::wide;
 use file::wide16;
 use paths::Address;
 use paths::FieldPath;
@@ -29,6 +31,20 @@ pub fn wide32(x: u32) -> usize
     ensures { λ r. ⌜ (r ≡ x) × (r < 4294967296) ⌝ }
 {
     x as usize
+}
+
+fn byte_or_zero(bytes: &[u8], p: usize) -> usize
+    ensures { λ r. ⌜ (r ≡ getD (now (bytes .entry)) p 0) × (r < 256) ⌝ }
+{
+    if p < bytes.len() { wide(bytes[p]) } else { 0 }
+}
+
+// The word at p, its lower byte first; past the end bytes are 0.
+pub fn word_in(bytes: &[u8], p: usize) -> usize
+    requires { ⌜ p ≤ reach ⌝ }
+    ensures { λ r. ⌜ (r ≡ wordIn (now (bytes .entry)) p) × (r < 65536) ⌝ }
+{
+    byte_or_zero(bytes, p) + 256 * byte_or_zero(bytes, p + 1)
 }
 
 // Writes a byte, or nothing where the buffer has ended.

@@ -717,9 +717,9 @@ fn resolve_long(file: &[u8], index: &[u16], work: &mut [u8], node: usize, lists:
     ascend(file, index, work, &trail, chain.passed, end)
 }
 
-// Where a pattern's value lives. A chain of reads may be as long as a file has nodes, so it is walked by loops, down and up again;
-// nearly every chain is short, and is done with a short trail.
-pub fn resolve(file: &[u8], index: &[u16], work: &mut [u8], node: usize, lists: Lists) -> Answer
+// A chain of reads may be as long as a file has nodes, so it is walked by loops, down and up again; nearly every chain is short, and is
+// done with a short trail.
+fn resolve_chain(file: &[u8], index: &[u16], work: &mut [u8], node: usize, lists: Lists) -> Answer
     requires { ⌜ AcceptedFile (now file) (now index) ⌝ }
     ensures { λ r. ⌜ (
         let T = tablesOf (now (file .entry)) in
@@ -733,4 +733,54 @@ pub fn resolve(file: &[u8], index: &[u16], work: &mut [u8], node: usize, lists: 
     }
     let end = leaf_answer(file, index, work, chain.node, lists);
     ascend(file, index, work, &trail, chain.passed, end)
+}
+
+// A field of what a variable is bound to, past a reference: mostly a row, whose field is found with no path at hand.
+fn bound_field(
+    file: &[u8],
+    index: &[u16],
+    work: &mut [u8],
+    node: usize,
+    slot: Slot,
+    name: usize,
+    lists: Lists,
+) -> Answer
+    requires { ⌜ AcceptedFile (now file) (now index) ⌝ }
+    requires { ⌜ TidyRoom (tablesOf (now file)) slot ⌝ }
+    ensures { λ r. ⌜ (
+        let T = tablesOf (now (file .entry)) in
+        let before = now (work .entry) in
+        let after = now (work .exit) in
+        Answers (fieldPast T node name (slotOf slot)) lists before r after
+        ) ⌝ }
+{
+    let kind = slot.kind;
+    if let SlotKind::Row(a, p) = kind {
+        return gives(row_field(file, index, a, p, name), lists);
+    }
+    if let SlotKind::Value(a, t) = kind {
+        return field_of_value(file, index, work, node, t, lists);
+    }
+    field_slot(file, index, work, node, slot, name, lists)
+}
+
+// Where a pattern's value lives. Nearly every read is one of a variable's fields, and needs no trail.
+pub fn resolve(file: &[u8], index: &[u16], work: &mut [u8], node: usize, lists: Lists) -> Answer
+    requires { ⌜ AcceptedFile (now file) (now index) ⌝ }
+    ensures { λ r. ⌜ (
+        let T = tablesOf (now (file .entry)) in
+        Answers (ResolveRules.resolve (ops T) T node) lists (now (work .entry)) r (now (work .exit))
+        ) ⌝ }
+{
+    let NodeView::Access(x, n) = node_of(file, index, node) else {
+        return resolve_chain(file, index, work, node, lists);
+    };
+    let NodeView::Var(y) = node_of(file, index, n) else {
+        return resolve_chain(file, index, work, node, lists);
+    };
+    let found = lookup(file, index, work, lists, y);
+    if !found.some {
+        return gives(nothing(), lists);
+    }
+    bound_field(file, index, work, node, found.slot, x, lists)
 }

@@ -22,7 +22,6 @@ use Rattle.rules.specs.Demand3.{Adds, number}
 use Rattle.rules.proofs.Cases.{by-test, true≢false, both-left, both-right}
 use Rattle.rules.proofs.Alone.{walk-keeps}
 use Rattle.rules.proofs.Lists.{AddsTo, adds-keeps}
-use Rattle.rules.proofs.Numbers.{Bounded}
 use Rattle.rules.proofs.Runs.{goes-key}
 use Rattle.rules.proofs.Sound.{BindingOk, Sound}
 use Rattle.rules.proofs.ReaderTables.{PathWithin}
@@ -34,7 +33,7 @@ use Rattle.state.proofs.Mem.{Mem, mem-back}
 use Rattle.state.proofs.Sizes.{summary, weight, Sane}
 use Rattle.state.proofs.Growth.{built, met, listSize, Grew, grew-keeps}
 use Rattle.state.proofs.Rel.{partsPut, planAs, Good, Rel, of-good}
-use Rattle.state.proofs.Sim.{Name, numbers, simulates}
+use Rattle.state.proofs.Sim.{Name, Numbered, numbers, simulates}
 use Rattle.state.proofs.Frame.{leveled, level-written, level-end, level-weight}
 use Rattle.state.proofs.Paged.{page-length, from-page}
 
@@ -72,12 +71,12 @@ pub record After (T : Tables) (base : List ℕ) (l : Lists) (front : List ℕ) (
   pub live : w .state .over ≡ false → Between T base l front w
   pub dead : w .state .over ≡ true → min planLimit (length base) < long
 
-module _ (T : Tables) (S : Sound T) (bounded : Bounded T) where
+module _ (T : Tables) (S : Sound T) (numbered : Numbered T) where
   -- two runs of an entry's walk
   walk-related : (entry : LevelEntry) → EntryOk T entry → (t : Target) (base : List ℕ) (l : Lists) → Each (BindingOk T) (l .bindings) → (c : State) → Rel T t base (freshWalk l) c → Rel T t base (walkLevel T entry l) (walked T entry c)
   unfolding walkLevel walked
   walk-related entry ok t base l fit c r =
-      goes-key T S PathWithin Name (numbers T bounded) (ops T) (λ s. s .over) (entry .address) (Grew T) (Rel T t base) (grew-keeps T) (simulates T t base S bounded (entry .address) (ok .address))
+      goes-key T S PathWithin Name (numbers T numbered) (ops T) (λ s. s .over) (entry .address) (Grew T) (Rel T t base) (grew-keeps T) (simulates T t base S numbered (entry .address) (ok .address))
       (entry .node) (predicateAt T (entry .predicate) .key) (freshWalk l) c (S .keys (entry .predicate) (ok .predicate)) fit r .rel
 
   module _ (base : List ℕ) (entry : LevelEntry) (ok : EntryOk T entry) (l : Lists) (fit : Each (BindingOk T) (l .bindings)) (front : List ℕ) where

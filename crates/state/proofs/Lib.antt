@@ -11,6 +11,7 @@ pub mod Growth
 -- The memory and the written rules' walk, side by side.
 pub mod Rel
 pub mod Fitting
+pub mod Names
 pub mod Sim
 -- A level in the plan, the list of levels, and the whole plan.
 pub mod Frame

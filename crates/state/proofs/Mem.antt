@@ -2,24 +2,28 @@
 use mathlib.Core.Bool.{Bool, true, false}
 use mathlib.Core.List.{List, [], _∷_, _++_, append-nil, append-assoc}
 use mathlib.Core.Path.{_≡_, refl, sym, ap, ap₂, _∙_, subst}
-use Prim.Native.Nat.{ℕ, _+_, _-_, _*_, _≤_}
+use Prim.Native.Nat.{ℕ, _+_, _-_, _*_, _≤_, _<_}
 use native.Mathlib.Omega.{arith}
 use borrow.Author.Tests.{eqb-true, eqb-false, eq-eqb, ne-eqb}
 use lib.Dec.{eqb}
-use lib.ListN.{length, take, drop, length-append}
+use lib.ListN.{length, take, drop, length-append, take-append-drop}
 use lib.Seq.{sets, slice, length-sets, slice-empty, take-at, take-append-seam, drop-append-seam}
 use Rattle.rules.specs.Base.{Each, done, concatMap}
 use Rattle.rules.specs.File.{Tables, Binding}
+use mathlib.Core.Option.{Option, none}
+use Rattle.rules.specs.Limits.{nameLimit}
+use Rattle.rules.specs.File.{Slot}
 use Rattle.rules.specs.Constant.{lookup}
 use Rattle.rules.specs.Events.{Select, Diagnostic, Lists}
 use Rattle.rules.specs.Plan as Plan
 use Rattle.rules.specs.Demand3.{Adds}
-use Rattle.rules.proofs.Each.{each-snoc}
+use Rattle.rules.proofs.Each.{each-all, each-snoc}
 use Rattle.rules.proofs.RoundTrip.{BindingNumbers}
-use Rattle.state.specs.State.{Ends, ends, noEnds, bindingsAt, constrainedAt, selectsAt, diagnosticsAt, bindingsIn, backwards}
-use Rattle.state.proofs.Seqs.{concatMap-append, concatMap-snoc, length-snoc, slice-front, length-stride, slice-sets-at, slice-sets-past, slice-sets-before}
+use Rattle.state.specs.State.{Ends, ends, noEnds, bindingsAt, constrainedAt, selectsAt, diagnosticsAt, numberAt, placeAt, noted, madeSlot, backwards}
+use Rattle.state.specs.Ops.{orElse}
+use Rattle.state.proofs.Seqs.{concatMap-append, concatMap-snoc, length-snoc, slice-front, length-stride, length-least, slice-sets-at, slice-sets-past, slice-sets-before}
 use Rattle.state.proofs.Backwards.{backwards-append, backwards-one, backwards-below, backwards-above, backwards-length}
-use Rattle.state.proofs.Made.{made-back}
+use Rattle.state.proofs.Made.{Named, binding-length, lookup-append, neither, not-among, named-front, named-past, named-next, made-is}
 
 -- a list that grows up from `start` and ends at `end` has the records xs
 pub record Up {A : Type 0} (encode : A → List ℕ) (start end : ℕ) (xs : List A) (work : List ℕ) : Type 0 where
@@ -133,7 +137,7 @@ pub diagnostic-length : (d : Diagnostic) → length (Plan.diagnostic d) ≡ 3
 unfolding Plan.diagnostic Plan.u16
 diagnostic-length d = refl
 
--- the lists of a walk, beyond the file's own bindings; the two lists of a run do not meet
+-- the lists of a walk, beyond the file's own bindings; the two lists of a run do not meet, and the tables lead to the new bindings
 pub record Mem (T : Tables) (l : Lists) (e : Ends) (work : List ℕ) : Type 0 where
   pub new : List Binding
   pub bindings-are : l .bindings ≡ T .bindings ++ new
@@ -147,6 +151,8 @@ pub record Mem (T : Tables) (l : Lists) (e : Ends) (work : List ℕ) : Type 0 wh
   pub first : e .bindings ≤ e .constrained
   pub second : e .selects ≤ e .diagnostics
   pub room : 65536 ≤ length work
+  pub names : Each (λ b. b .name < nameLimit) new
+  pub tables : Named work 0 0 new
 
 -- past the file's own bindings
 pub new-is : (T : Tables) (l : Lists) (new : List Binding) → l .bindings ≡ T .bindings ++ new → new ≡ drop (length (T .bindings)) (l .bindings)
@@ -172,6 +178,8 @@ mem-none T work h =
       first = omega arith;
       second = omega arith;
       room = h;
+      names = done;
+      tables = tt;
     }
 
 module _ (T : Tables) (l : Lists) (e : Ends) (work : List ℕ) (m : Mem T l e work) where
@@ -191,23 +199,52 @@ module _ (T : Tables) (l : Lists) (e : Ends) (work : List ℕ) (m : Mem T l e wo
     down-below Plan.diagnostic 3 diagnostic-length diagnosticsAt (e .diagnostics) (l .diagnostics) work at bytes (m .diagnostics) (omega (arith, h, m .selects .ends, m .second)),
   )
 
-  pub mem-bind : (b : Binding) → BindingNumbers b → e .bindings + length (Plan.binding b) ≤ e .constrained → Mem T (lists (l .bindings ++ (b ∷ [])) (l .constrained) (l .selects) (l .diagnostics)) (ends (e .bindings + length (Plan.binding b)) (e .bindingCount + 1) (e .constrained) (e .selects) (e .selectCount) (e .diagnostics)) (sets work (e .bindings) (Plan.binding b))
-  mem-bind b n h =
+  -- a list of the runs, after a binding was noted
+  up-noted : {A : Type 0} (encode : A → List ℕ) (start end : ℕ) (xs : List A) (w : List ℕ) (x n at : ℕ) → end ≤ diagnosticsAt → Up encode start end xs w → Up encode start end xs (noted x n at w)
+  unfolding noted numberAt placeAt
+  up-noted encode start end xs w x n at h r =
+      up-past encode start end xs (sets w (numberAt x) (Plan.u16 n)) (placeAt n) (Plan.u16 at) (up-past encode start end xs w (numberAt x) (Plan.u16 n) r (omega arith)) (omega arith)
+
+  down-noted : {A : Type 0} (encode : A → List ℕ) (width : ℕ) (each : (y : A) → length (encode y) ≡ width) (top low : ℕ) (xs : List A) (w : List ℕ) (x n at : ℕ) → top ≤ diagnosticsAt → Down encode width top low xs w → Down encode width top low xs (noted x n at w)
+  unfolding noted numberAt placeAt
+  down-noted encode width each top low xs w x n at h r =
+      down-above encode width each top low xs (sets w (numberAt x) (Plan.u16 n)) (placeAt n) (Plan.u16 at) (down-above encode width each top low xs w (numberAt x) (Plan.u16 n) r (omega arith)) (omega arith)
+
+  noted-room : (w : List ℕ) (x n at : ℕ) → 65536 ≤ length w → 65536 ≤ length (noted x n at w)
+  unfolding noted
+  noted-room w x n at h = omega (arith, h, length-sets (sets w (numberAt x) (Plan.u16 n)) (placeAt n) (Plan.u16 at), length-sets w (numberAt x) (Plan.u16 n))
+
+  -- the binding's number and its place, as the memory has them
+  noted-as : (b : Binding) (w : List ℕ) → noted (b .name) (length (m .new)) (length (concatMap Plan.binding (m .new))) w ≡ noted (b .name) (e .bindingCount) (e .bindings) w
+  noted-as b w =
+      let at : length (concatMap Plan.binding (m .new)) ≡ e .bindings = omega (arith, m .bindings .ends) in
+      λ i. noted (b .name) (sym (m .bindingCount) i) (at i) w
+
+  pub mem-bind : (b : Binding) → BindingNumbers b → b .name < nameLimit → lookup (l .bindings) (b .name) ≡ none → e .bindings + length (Plan.binding b) ≤ e .constrained → Mem T (lists (l .bindings ++ (b ∷ [])) (l .constrained) (l .selects) (l .diagnostics)) (ends (e .bindings + length (Plan.binding b)) (e .bindingCount + 1) (e .constrained) (e .selects) (e .selectCount) (e .diagnostics)) (noted (b .name) (e .bindingCount) (e .bindings) (sets work (e .bindings) (Plan.binding b)))
+  mem-bind b n small unbound h =
+      let w = sets work (e .bindings) (Plan.binding b) in
       let other = second-kept (e .bindings) (Plan.binding b) (omega (arith, h, m .constrained .ends)) in
       record {
         new = m .new ++ (b ∷ []);
         bindings-are = ap (λ x. x ++ (b ∷ [])) (m .bindings-are) ∙ append-assoc (T .bindings) (m .new) (b ∷ []);
         numbers = each-snoc (m .numbers) n;
-        bindings = up-more Plan.binding bindingsAt (e .bindings) (m .new) b work (m .bindings) (omega (arith, h, m .constrained .ends, m .room));
+        bindings = up-noted Plan.binding bindingsAt _ _ w (b .name) _ _ (omega (arith, h, m .constrained .ends)) (up-more Plan.binding bindingsAt (e .bindings) (m .new) b work (m .bindings) (omega (arith, h, m .constrained .ends, m .room)));
         bindingCount = omega (arith, m .bindingCount, length-append (m .new) (b ∷ []));
-        constrained = down-below Plan.u16 2 u16-length constrainedAt (e .constrained) (l .constrained) work (e .bindings) (Plan.binding b) (m .constrained) h;
-        selects = other .0;
+        constrained = down-noted Plan.u16 2 u16-length constrainedAt _ _ w (b .name) _ _ (omega arith) (down-below Plan.u16 2 u16-length constrainedAt (e .constrained) (l .constrained) work (e .bindings) (Plan.binding b) (m .constrained) h);
+        selects = up-noted Plan.select selectsAt _ _ w (b .name) _ _ (omega (arith, m .second, m .diagnostics .ends)) (other .0);
         selectCount = m .selectCount;
-        diagnostics = other .1;
+        diagnostics = down-noted Plan.diagnostic 3 diagnostic-length diagnosticsAt _ _ w (b .name) _ _ (omega arith) (other .1);
         first = h;
         second = m .second;
-        room = still-room (e .bindings) (Plan.binding b);
+        room = noted-room w (b .name) (e .bindingCount) (e .bindings) (still-room (e .bindings) (Plan.binding b));
+        names = each-snoc (m .names) small;
+        tables = subst (λ (k : List ℕ). Named k 0 0 (m .new ++ (b ∷ []))) (noted-as b w)
+            (named-next w (m .new) b (m .names) (not-among (b .name) (m .new) unbound-new) small (omega (arith, h, m .bindings .ends, m .constrained .ends, binding-length b)) (omega (arith, h, m .bindings .ends, m .constrained .ends, binding-length b, length-least Plan.binding 5 (each-all (m .new) binding-length))) (still-room (e .bindings) (Plan.binding b))
+            (named-past work (e .bindings) (Plan.binding b) (m .new) (omega (arith, h, m .constrained .ends)) (m .tables)));
       }
+    where
+      unbound-new : lookup (m .new) (b .name) ≡ none
+      unbound-new = neither (b .name) _ _ (sym (lookup-append (b .name) (T .bindings) (m .new)) ∙ ap (λ (bs : List Binding). lookup bs (b .name)) (sym (m .bindings-are)) ∙ unbound) .0
 
   pub mem-constrain : (x : ℕ) → e .bindings + length (Plan.u16 x) ≤ e .constrained → Mem T (lists (l .bindings) (l .constrained ++ (x ∷ [])) (l .selects) (l .diagnostics)) (ends (e .bindings) (e .bindingCount) (e .constrained - length (Plan.u16 x)) (e .selects) (e .selectCount) (e .diagnostics)) (sets work (e .constrained - length (Plan.u16 x)) (Plan.u16 x))
   mem-constrain x h =
@@ -226,6 +263,8 @@ module _ (T : Tables) (l : Lists) (e : Ends) (work : List ℕ) (m : Mem T l e wo
         first = omega (arith, h);
         second = m .second;
         room = still-room at (Plan.u16 x);
+        names = m .names;
+        tables = named-past work at (Plan.u16 x) (m .new) (omega (arith, h, m .constrained .ends)) (m .tables);
       }
 
   pub mem-select : (s : Select) → e .selects + length (Plan.select s) ≤ e .diagnostics → Mem T (lists (l .bindings) (l .constrained) (l .selects ++ (s ∷ [])) (l .diagnostics)) (ends (e .bindings) (e .bindingCount) (e .constrained) (e .selects + length (Plan.select s)) (e .selectCount + 1) (e .diagnostics)) (sets work (e .selects) (Plan.select s))
@@ -244,6 +283,8 @@ module _ (T : Tables) (l : Lists) (e : Ends) (work : List ℕ) (m : Mem T l e wo
         first = m .first;
         second = h;
         room = still-room (e .selects) (Plan.select s);
+        names = m .names;
+        tables = named-past work (e .selects) (Plan.select s) (m .new) (omega (arith, h, m .diagnostics .ends)) (m .tables);
       }
 
   pub mem-report : (d : Diagnostic) → e .selects + length (Plan.diagnostic d) ≤ e .diagnostics → Mem T (lists (l .bindings) (l .constrained) (l .selects) (l .diagnostics ++ (d ∷ []))) (ends (e .bindings) (e .bindingCount) (e .constrained) (e .selects) (e .selectCount) (e .diagnostics - length (Plan.diagnostic d))) (sets work (e .diagnostics - length (Plan.diagnostic d)) (Plan.diagnostic d))
@@ -263,14 +304,16 @@ module _ (T : Tables) (l : Lists) (e : Ends) (work : List ℕ) (m : Mem T l e wo
         first = m .first;
         second = omega (arith, h);
         room = still-room at (Plan.diagnostic d);
+        names = m .names;
+        tables = named-past work at (Plan.diagnostic d) (m .new) (omega (arith, h, m .diagnostics .ends)) (m .tables);
       }
 
-  -- what is read back
-  pub mem-made : bindingsIn (length (slice bindingsAt (e .bindings) work)) (slice bindingsAt (e .bindings) work) ≡ m .new
-  mem-made = ap (λ (bytes : List ℕ). bindingsIn (length bytes) bytes) (m .bindings .holds) ∙ made-back _ (m .numbers) (omega arith)
-
-  pub mem-lookup : (x : ℕ) → lookup (T .bindings ++ bindingsIn (length (slice bindingsAt (e .bindings) work)) (slice bindingsAt (e .bindings) work)) x ≡ lookup (l .bindings) x
-  mem-lookup x = ap (λ (new : List Binding). lookup (T .bindings ++ new) x) mem-made ∙ ap (λ (bs : List Binding). lookup bs x) (sym (m .bindings-are))
+  -- what the tables lead to
+  pub mem-lookup : (x : ℕ) → orElse (madeSlot work (e .bindingCount) x) (lookup (T .bindings) x) ≡ lookup (l .bindings) x
+  mem-lookup x =
+      ap (λ (o : Option Slot). orElse o (lookup (T .bindings) x)) (ap (λ (n : ℕ). madeSlot work n x) (m .bindingCount) ∙ made-is work x (drop (e .bindings) work) (m .numbers) (m .tables) (sym (take-append-drop (e .bindings) work) ∙ ap (λ (bytes : List ℕ). bytes ++ drop (e .bindings) work) (m .bindings .holds)))
+      ∙ sym (lookup-append x (T .bindings) (m .new))
+      ∙ ap (λ (bs : List Binding). lookup bs x) (sym (m .bindings-are))
 
 -- how far the diagnostics have come down tells how many there are
 pub same-reported : (T : Tables) (l l′ : Lists) (e e′ : Ends) (work work′ : List ℕ) → Mem T l e work → Mem T l′ e′ work′ → eqb (e .diagnostics) (e′ .diagnostics) ≡ eqb (length (l .diagnostics)) (length (l′ .diagnostics))
@@ -302,6 +345,8 @@ mem-back T l l′ e e′ work work′ m m′ a =
       first = m .first;
       second = m .second;
       room = m′ .room;
+      names = m .names;
+      tables = named-front work′ 0 0 (m .new) (a .bindings) (subst (Named work′ 0 0) added (m′ .tables));
     }
   where
     -- what the walk has bound

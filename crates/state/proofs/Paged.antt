@@ -12,9 +12,9 @@ use Rattle.rules.specs.Base.{both, all, concatMap}
 use Rattle.rules.specs.Placement.{SeekKeyPart, Part, Residual, SeekBuilder}
 use Rattle.rules.specs.Plan as Plan
 use Rattle.rules.proofs.Cases.{by-test, true≢false, both-left, both-right, leb-le}
-use Rattle.state.specs.State.{Target, Level}
+use Rattle.state.specs.State.{Target, Level, wordIn}
 use Rattle.state.specs.Ops.{partText, isBytes, partPut}
-use Rattle.state.specs.Levels.{joins, joining, partsAt, nodesAt, restAt, pageRest, pageLength, paging, paged, pageWord, joinParts, partsFrom, fromPage, writingAt}
+use Rattle.state.specs.Levels.{joins, joining, partsAt, nodesAt, restAt, pageRest, pageLength, paging, paged, joinParts, partsFrom, fromPage, writingAt}
 use Rattle.state.proofs.Seqs.{slice-sets-past, slice-sets-at, length-snoc, slice-middle}
 use Rattle.state.proofs.Sizes.{textOf, plainPart, summary}
 use Rattle.state.proofs.Rel.{countsOf, partsPut, planAs}
@@ -35,8 +35,8 @@ module _ (page front bytes node rest : List ℕ) (size : length bytes < 65536) (
   byte-at : (k n : ℕ) → k ≡ length front + n → getD page k 0 ≡ getD form n 0
   byte-at k n e = (λ i. getD (is i) (e i) 0) ∙ getD-append-add front form n 0
 
-  size-is : pageWord page (length front + 1) ≡ length bytes
-  unfolding pageWord
+  size-is : wordIn page (length front + 1) ≡ length bytes
+  unfolding wordIn
   size-is = omega (arith, byte-at (length front + 1) 1 refl, byte-at (length front + 1 + 1) 2 (omega arith), size)
 
   head-off : (x y : List ℕ) → front ++ (0 ∷ length bytes % 256 ∷ length bytes / 256 % 256 ∷ (x ++ y)) ≡ (front ++ (0 ∷ length bytes % 256 ∷ length bytes / 256 % 256 ∷ x)) ++ y
@@ -101,8 +101,8 @@ module _ (page : List ℕ) (before : List Part) (p : Part) (parts : List Part) (
       ∙ ap (λ (l : List ℕ). holds .front ++ (l ++ concatMap Plan.part parts ++ holds .back)) (form-of (p .key) (Plan.u16 (p .node)) (all-head p parts plain))
       ∙ ap (λ (l : List ℕ). holds .front ++ (0 ∷ size % 256 ∷ size / 256 % 256 ∷ l)) (regroup (textOf p) (Plan.u16 (p .node)) (concatMap Plan.part parts) (holds .back))
 
-  first-size : pageWord page (at + 1) ≡ size
-  first-size = ap (λ (k : ℕ). pageWord page (k + 1)) (sym (holds .begins)) ∙ size-is page (holds .front) (textOf p) (Plan.u16 (p .node)) rest short two is-form
+  first-size : wordIn page (at + 1) ≡ size
+  first-size = ap (λ (k : ℕ). wordIn page (k + 1)) (sym (holds .begins)) ∙ size-is page (holds .front) (textOf p) (Plan.u16 (p .node)) rest short two is-form
 
   first-text : slice (at + 3) (at + 3 + size) page ≡ textOf p
   first-text = ap (λ (k : ℕ). slice (k + 3) (k + 3 + size) page) (sym (holds .begins)) ∙ text-is page (holds .front) (textOf p) (Plan.u16 (p .node)) rest short two is-form

@@ -91,11 +91,11 @@ module _ {A B : Type 0} (f : A → List B) where
   length-stride n h [] = sym (mul-zero n)
   length-stride n h (x ∷ xs) = omega (arith, length-append (f x) (concatMap f xs), h x, length-stride n h xs, mul-suc n (length xs))
 
-  -- entries that are not empty
-  pub length-least : {xs : List A} → Each (λ x. 1 ≤ length (f x)) xs → length xs ≤ length (concatMap f xs)
+  -- entries that are at least n long
+  pub length-least : (n : ℕ) {xs : List A} → Each (λ x. n ≤ length (f x)) xs → n * length xs ≤ length (concatMap f xs)
   unfolding concatMap
-  length-least done = omega arith
-  length-least (more {x} {xs} h hs) = omega (arith, length-append (f x) (concatMap f xs), length-least hs)
+  length-least n done = omega (arith, mul-zero n)
+  length-least n (more {x} {xs} h hs) = omega (arith, length-append (f x) (concatMap f xs), length-least n hs, mul-suc n (length xs))
 
   -- what is left after the first n entries is no longer than with more at the end
   pub length-drop-append : (n : ℕ) (xs ys : List A) → length (concatMap f (drop n xs)) ≤ length (concatMap f (drop n (xs ++ ys)))

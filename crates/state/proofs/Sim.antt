@@ -1,7 +1,7 @@
 -- The memory's run of a level's walk and the written rules' run of it, side by side: related states end in related states.
 use mathlib.Core.Bool.{false}
 use mathlib.Core.List.{List, [], _∷_, _++_, append-assoc}
-use mathlib.Core.Option.{some}
+use mathlib.Core.Option.{none, some}
 use mathlib.Core.Path.{_≡_, refl, sym, ap, _∙_, subst, subst₂}
 use Prim.Native.Nat.{ℕ, _+_, _≤_, _<_}
 use native.Mathlib.Nat.{add-zero}
@@ -9,7 +9,9 @@ use native.Mathlib.Omega.{arith}
 use lib.ListN.{length, drop}
 use lib.Seq.{drop-append-seam}
 use Rattle.rules.specs.Base.{Each, concatMap}
-use Rattle.rules.specs.File.{Tables, FieldTy, Alternative, Ty, FieldPath, Slot, Binding, typeAt, nodeAt, recordTy, unionTy, payload}
+use Rattle.rules.specs.File.{Tables, FieldTy, Alternative, Ty, Node, FieldPath, Slot, Binding, typeAt, nodeAt, recordTy, unionTy, payload}
+use Rattle.rules.specs.Limits.{nameLimit}
+use Rattle.rules.specs.Constant.{lookup}
 use Rattle.rules.specs.Events.{Code, Select, Diagnostic, Narrowing, Event, Lists, Walk, bind, constrained, select, report, emit, brings}
 use Rattle.rules.specs.Walk.{narrowing}
 use Rattle.rules.specs.Placement.{SeekBuilder, place}
@@ -18,10 +20,10 @@ use Rattle.rules.specs.Plan as Plan
 use Rattle.rules.proofs.Cases.{some≢none, some-injective}
 use Rattle.rules.proofs.Each.{each-imply, each-getD, each-all}
 use Rattle.rules.proofs.Keeps.{narrow, skip}
-use Rattle.rules.proofs.Numbers.{TypeNumbers, NodeNumbers, Bounded}
+use Rattle.rules.proofs.Numbers.{TypeNumbers, Bounded}
 use Rattle.rules.proofs.RoundTrip.{PathNumbers, BindingNumbers}
 use Rattle.rules.proofs.Runs.{Numbers, Stands, Sim}
-use Rattle.state.specs.State.{Target, State, unless, made}
+use Rattle.state.specs.State.{Target, State, unless}
 use Rattle.rules.proofs.Sound.{Sound}
 use Rattle.rules.proofs.ReaderTables.{PathWithin, first-within, then-within}
 use Rattle.state.specs.Ops as Ops
@@ -36,15 +38,16 @@ use Rattle.state.proofs.Growth.{built, met, built-emit, met-emit, listS
 use Rattle.state.proofs.Rel.{Good, RelAt, Rel, rel-stays, rel-unless, rel-append, rel-down, rel-counted, rel-fall, rel-bound, rel-close, rel-narrowing}
 
 abbrev pub Name : ℕ → Type 0
-Name x = x < 65536
+Name x = x < nameLimit
+
+-- the numbers of an accepted file: within their fields, and every Var's a name
+pub record Numbered (T : Tables) : Type 0 where
+  pub within : Bounded T
+  pub names : (n x : ℕ) → nodeAt T n ≡ Node.Var x → Name x
 
 type-numbers : (T : Tables) → Bounded T → (t : ℕ) → TypeNumbers (typeAt T t)
 unfolding typeAt
 type-numbers T b t = each-getD t (b .types) tt
-
-node-numbers : (T : Tables) → Bounded T → (n : ℕ) → NodeNumbers (nodeAt T n)
-unfolding nodeAt
-node-numbers T b n = each-getD n (b .nodes) tt
 
 record-few : (ty : Ty) (fs : List FieldTy) → TypeNumbers ty → recordTy ty ≡ some fs → length fs < 256
 unfolding recordTy
@@ -64,15 +67,16 @@ union-discs (Ty.Fact p) alts h e = absurd (some≢none alts (sym e))
 union-discs (Ty.Record fs) alts h e = absurd (some≢none alts (sym e))
 union-discs (Ty.Union as′) alts h e = subst (λ (x : List Alternative). Each (λ a. a .disc < 4294967296) x) (some-injective as′ alts e) h
 
-pub numbers : (T : Tables) → Bounded T → Numbers T PathWithin Name
+pub numbers : (T : Tables) → Numbered T → Numbers T PathWithin Name
 unfolding payload
-numbers T b =
+numbers T numbered =
+    let b = numbered .within in
     record {
       scalar = first-within 0 (omega arith);
       first = λ t i fs e l. first-within i (omega (arith, record-few (typeAt T t) fs (type-numbers T b t) e));
       next = λ p t i fs h e l. then-within p i h (omega (arith, record-few (typeAt T t) fs (type-numbers T b t) e));
       tag = λ p t alts h e. each-imply (λ a d. then-within p (a .disc) h d) (union-discs (typeAt T t) alts (type-numbers T b t) e);
-      names = λ n x e. subst NodeNumbers e (node-numbers T b n);
+      names = numbered .names;
     }
 
 -- what a list would take with one entry more, where it has no room
@@ -86,16 +90,16 @@ select-length s = omega arith
 
 module _ (T : Tables) (t : Target) (base : List ℕ) where
   -- The four lists.
-  rel-bind : (x : ℕ) (slot : Slot) (w : Walk) (c : State) → BindingNumbers (record { name = x; slot = slot }) → Rel T t base w c → Rel T t base (bind x slot w) (Ops.bind x slot c)
+  rel-bind : (x : ℕ) (slot : Slot) (w : Walk) (c : State) → BindingNumbers (record { name = x; slot = slot }) → Name x → lookup (w .lists .bindings) x ≡ none → Rel T t base w c → Rel T t base (bind x slot w) (Ops.bind x slot c)
   unfolding bind Ops.bind listSize
-  rel-bind x slot w c numbers r =
+  rel-bind x slot w c numbers small unbound r =
       rel-unless T t base w (bind x slot w) c _ (grew-bind T x slot w) r λ e g s.
       let b : Binding = record { name = x; slot = slot } in
       let m = g .mem in
-      rel-counted T t base (bind x slot w .lists) (met w) (built T w) c _ (c .ends .bindings) (c .ends .constrained) (Plan.binding b) _
-      (omega (arith, m .bindingCount, length-least Plan.binding (each-all (m .new) binding-length), m .bindings .ends, m .first, m .constrained .ends))
-      (rel-append T t base (bind x slot w .lists) (met w) (built T w) c (c .ends .bindings) (c .ends .constrained) (Plan.binding b) _ e s
-      (λ h. record { mem = mem-bind T (w .lists) (c .ends) (c .work) m b numbers h; level = g .level; target = g .target; plan = g .plan })
+      rel-counted T t base (bind x slot w .lists) (met w) (built T w) c _ (c .ends .bindings) (c .ends .constrained) (Plan.binding b) _ _
+      (omega (arith, m .bindingCount, length-least Plan.binding 5 (each-all (m .new) binding-length), m .bindings .ends, m .first, m .constrained .ends))
+      (rel-append T t base (bind x slot w .lists) (met w) (built T w) c (c .ends .bindings) (c .ends .constrained) (Plan.binding b) _ _ e s
+      (λ h. record { mem = mem-bind T (w .lists) (c .ends) (c .work) m b numbers small unbound h; level = g .level; target = g .target; plan = g .plan })
       (λ h. omega (arith, h, m .bindings .ends, m .constrained .ends, length-snoc Plan.binding (m .new) b, ap (λ (bs : List Binding). length (concatMap Plan.binding bs)) (new-after T (w .lists) (m .new) (b ∷ []) (m .bindings-are)))))
 
   rel-constrained : (x : ℕ) (w : Walk) (c : State) → Rel T t base w c → Rel T t base (constrained x w) (Ops.constrained x c)
@@ -112,9 +116,9 @@ module _ (T : Tables) (t : Target) (base : List ℕ) where
       rel-unless T t base w (select a p d w) c _ (grew-select T a p d w) r λ e g s.
       let k : Select = record { address = a; path = p; disc = d } in
       let m = g .mem in
-      rel-counted T t base (select a p d w .lists) (met w) (built T w) c _ (c .ends .selects) (c .ends .diagnostics) (Plan.select k) _
-      (omega (arith, m .selectCount, length-least Plan.select (each-all (w .lists .selects) select-length), m .selects .ends, m .second, m .diagnostics .ends))
-      (rel-append T t base (select a p d w .lists) (met w) (built T w) c (c .ends .selects) (c .ends .diagnostics) (Plan.select k) _ e s
+      rel-counted T t base (select a p d w .lists) (met w) (built T w) c _ (c .ends .selects) (c .ends .diagnostics) (Plan.select k) _ _
+      (omega (arith, m .selectCount, length-least Plan.select 1 (each-all (w .lists .selects) select-length), m .selects .ends, m .second, m .diagnostics .ends))
+      (rel-append T t base (select a p d w .lists) (met w) (built T w) c (c .ends .selects) (c .ends .diagnostics) (Plan.select k) _ _ e s
       (λ h. record { mem = mem-select T (w .lists) (c .ends) (c .work) m k h; level = g .level; target = g .target; plan = g .plan })
       (λ h. omega (arith, h, m .selects .ends, m .diagnostics .ends, length-snoc Plan.select (w .lists .selects) k)))
 
@@ -175,17 +179,17 @@ module _ (T : Tables) (t : Target) (base : List ℕ) where
       rel-close T t base (w .lists) (met w) (built T w) c e g m (r .sane .clean) s
 
   -- All of it, for a level whose address is within its field.
-  pub simulates : Sound T → Bounded T → (address : ℕ) → address < 65536 → Sim T PathWithin Name (ops T) (λ c. c .over) address (Grew T) (Rel T t base)
-  unfolding made
-  simulates S bounded address h =
+  pub simulates : Sound T → Numbered T → (address : ℕ) → address < 65536 → Sim T PathWithin Name (ops T) (λ c. c .over) address (Grew T) (Rel T t base)
+  unfolding Ops.boundSlot
+  simulates S numbered address h =
       record {
         idle = stopped T;
         stays = λ w w′ c e g r. rel-stays T t base w w′ c e (g) r;
         lookups = λ w c f e r x. ap (Ops.checkedSlot T) (mem-lookup T (w .lists) (c .ends) (c .work) (r .live e .mem) x) ∙ all-fitting T S (w .lists .bindings) f x;
         reported = λ w w′ c c′ e e′ r r′. same-reported T (w .lists) (w′ .lists) (c .ends) (c′ .ends) (c .work) (c′ .work) (r .live e .mem) (r′ .live e′ .mem);
         constant-is = λ w c r n ty. refl;
-        fields = λ x ty p w c e n s r. rel-bind x (Slot.Field address p ty) w c (record { name = n; slot = (h, path-numbers p ty s, omega (arith, bounded .few-types, s .fits .in-types)) }) r;
-        keys = λ x ty w c e n l r. rel-bind x (Slot.Key address ty) w c (record { name = n; slot = (h, omega (arith, bounded .few-types)) }) r;
+        fields = λ x ty p w c e n s r. rel-bind x (Slot.Field address p ty) w c (record { name = omega (arith, n); slot = (h, path-numbers p ty s, omega (arith, numbered .within .few-types, s .fits .in-types)) }) n e r;
+        keys = λ x ty w c e n l r. rel-bind x (Slot.Key address ty) w c (record { name = omega (arith, n); slot = (h, omega (arith, numbered .within .few-types)) }) n e r;
         constrains = rel-constrained;
         selects = λ n p d w c s r. rel-select n p d w c r;
         reports = rel-report;

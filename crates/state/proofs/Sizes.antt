@@ -137,7 +137,7 @@ pub summary-fits : (n : ℕ) (b : SeekBuilder) → Sane n b → weight b ≤ pla
 unfolding fits joinedBytes partBytes summary weight partSize
 summary-fits n b s h =
     let f = parts-few (b .parts) (omega arith) in
-    let r = length-least Plan.residual (each-all (b .residuals) (λ x. omega (arith, residual-length x))) in
+    let r = length-least Plan.residual 1 (each-all (b .residuals) (λ x. omega (arith, residual-length x))) in
     both-true (leb (weight b) planLimit) _ (le-leb _ _ h)
     (both-true (leb (length (concatMap Plan.part (b .parts))) 65536) _ (le-leb _ _ (f .small))
     (both-true (leb n 65535) _ (le-leb n 65535 (omega (arith, s .counted, f .few, r, most-one (b .range), most-one (b .guide))))

@@ -27,13 +27,15 @@ use Rattle.rules.proofs.Cases.{by-test, true≢false, pick}
 use Rattle.rules.proofs.Each.{each-both}
 use Rattle.rules.proofs.Alone.{walk-keeps}
 use Rattle.rules.proofs.Lists.{AddsTo, adds-keeps, Onwards}
-use Rattle.rules.proofs.Numbers.{Bounded, bounded as read-bounded}
+use Rattle.rules.proofs.Numbers.{bounded as read-bounded}
 use Rattle.rules.proofs.Sound.{BindingOk, Sound, Passed, passed-all, sound}
 use Rattle.state.specs.State.{State, state, stop, constrainedAt, diagnosticsAt, backwards}
 use Rattle.state.specs.Levels.{pageLength, Written, writtenTo, level, levels, constrainedCount, diagnosticCount, lists, finished, started, unpaged, compiled, writtenOutcome}
 use Rattle.state.proofs.Seqs.{sets-append, slice-sets-at, concatMap-append, length-drop-append}
 use Rattle.state.proofs.Mem.{Mem, mem-none, down-low, u16-length, diagnostic-length, new-is}
 use Rattle.state.proofs.Growth.{listSize}
+use Rattle.state.proofs.Names.{var-names}
+use Rattle.state.proofs.Sim.{Numbered}
 use Rattle.state.proofs.Leveled.{EntryOk, Between, After, ends-level}
 
 -- The plan's bytes after its levels: the four lists.
@@ -119,7 +121,7 @@ written-short : (room : ℕ) (bytes : List ℕ) → length bytes ≤ min planLim
 unfolding Compile.written
 written-short room bytes h = by-test (λ (r : Outcome). r ≡ Outcome.planned bytes) (leb (length bytes) (min planLimit room)) (λ q. refl) (λ q. absurd (true≢false (sym (le-leb (length bytes) (min planLimit room) h) ∙ q)))
 
-module _ (T : Tables) (S : Sound T) (bounded : Bounded T) (base : List ℕ) where
+module _ (T : Tables) (S : Sound T) (numbered : Numbered T) (base : List ℕ) where
   next-fit : (entry : LevelEntry) → EntryOk T entry → (l : Lists) → Each (BindingOk T) (l .bindings) → Each (BindingOk T) (walkLevel T entry l .lists .bindings)
   next-fit entry ok l fit = walk-keeps T S AddsTo (adds-keeps T) entry (ok .predicate) l fit .1
 
@@ -156,7 +158,7 @@ module _ (T : Tables) (S : Sound T) (bounded : Bounded T) (base : List ℕ) wher
       let fit′ = next-fit entry ok l fit in
       subst (After T base (left T l′ entries) (front ++ levelsBytes T l (entry ∷ entries)) (length front + length (levelsBytes T l (entry ∷ entries)) + listSize T (left T l′ entries))) (sym (levels-live T entry entries w o))
       (after-next l′ (left T l′ entries) front (Plan.levelBytes (Plan.planLevel (LevelsRules.level T entry l))) (levelsBytes T l′ entries) entries (level T entry w)
-      (ends-level T S bounded base entry ok l fit front w o b)
+      (ends-level T S numbered base entry ok l fit front w o b)
       (λ e b′. ends-levels oks l′ fit′ (front ++ Plan.levelBytes (Plan.planLevel (LevelsRules.level T entry l))) (level T entry w) e b′)
       (left-size oks l′ fit′))
 
@@ -226,15 +228,15 @@ unfolding LevelsRules.starting
 fit-start T S = S .bindings
 
 -- For every accepted file, work area and plan buffer: the rules' plan, or refusal 15 exactly where it is longer than a plan may be or than the buffer.
-pub exact : (T : Tables) → Passed T → Bounded T → (work plan : List ℕ) → 65536 ≤ length work → writtenOutcome (compiled T work plan) ≡ Compile.written (length plan) (Plan.planBytes (Plan.plan T))
+pub exact : (T : Tables) → Passed T → Numbered T → (work plan : List ℕ) → 65536 ≤ length work → writtenOutcome (compiled T work plan) ≡ Compile.written (length plan) (Plan.planBytes (Plan.plan T))
 unfolding compiled unpaged writtenOutcome
-exact T passed bounded work plan room = go (ended .state .over) refl ∙ ap (Compile.written (length plan)) (sym (plan-is T))
+exact T passed numbered work plan room = go (ended .state .over) refl ∙ ap (Compile.written (length plan)) (sym (plan-is T))
   where
     S : Sound T
     S = sound T passed
 
     entries : Each (EntryOk T) (T .levels)
-    entries = each-both (λ l p a. record { predicate = p; address = a }) (S .levels) (bounded .levels)
+    entries = each-both (λ l p a. record { predicate = p; address = a }) (S .levels) (numbered .within .levels)
 
     start : Lists
     start = LevelsRules.starting T
@@ -246,13 +248,13 @@ exact T passed bounded work plan room = go (ended .state .over) refl ∙ ap (Com
     ended = levels T (T .levels) (started T work plan)
 
     after : After T plan (left T start (T .levels)) (front ++ levelsBytes T start (T .levels)) (length front + length (levelsBytes T start (T .levels)) + listSize T (left T start (T .levels))) ended
-    after = ends-levels T S bounded plan entries start (fit-start T S) front (started T work plan) (live-start T work plan) (between-start T work plan room)
+    after = ends-levels T S numbered plan entries start (fit-start T S) front (started T work plan) (live-start T work plan) (between-start T work plan room)
 
     go : (o : Bool) → ended .state .over ≡ o → writtenOutcome (finished ended) ≡ Compile.written (length plan) (front ++ levelsBytes T start (T .levels) ++ listBytes T (left T start (T .levels)))
     go true e =
-        finish-over T S bounded plan ended _ e
+        finish-over T S numbered plan ended _ e
         (omega (arith, after .dead e, list-size T (left T start (T .levels)), length-append front (levelsBytes T start (T .levels)), length-append (front ++ levelsBytes T start (T .levels)) (listBytes T (left T start (T .levels)))))
-    go false e = finish T S bounded plan (left T start (T .levels)) (front ++ levelsBytes T start (T .levels)) ended e (after .live e)
+    go false e = finish T S numbered plan (left T start (T .levels)) (front ++ levelsBytes T start (T .levels)) ended e (after .live e)
 
 -- the call on bytes that are read and accepted, in memory that is large enough
 pub accepted-outcome : (bytes : List ℕ) (T : Tables) (rest : List ℕ) → Read.file bytes ≡ Read.got T rest → fault checks T ≡ none → (room area : ℕ) → length bytes ≤ fileLimit → workLimit ≤ area → Compile.outcome bytes room area ≡ Compile.walked room T
@@ -274,5 +276,5 @@ mistyped-file bytes T rest reads accepted room area short large m =
 pub exact-file : (bytes : List ℕ) → Each Byte bytes → (T : Tables) (rest : List ℕ) → Read.file bytes ≡ Read.got T rest → fault checks T ≡ none → (work plan : List ℕ) → length bytes ≤ fileLimit → workLimit ≤ length work → LevelsRules.anyMistyped (LevelsRules.levels T) ≡ false → writtenOutcome (compiled T work plan) ≡ Compile.outcome bytes (length plan) (length work)
 unfolding Compile.walked
 exact-file bytes b T rest reads accepted work plan short large m =
-    exact T (passed-all T accepted) (read-bounded bytes b T rest reads) work plan large
+    exact T (passed-all T accepted) (record { within = read-bounded bytes b T rest reads; names = var-names bytes T rest reads (passed-all T accepted) }) work plan large
     ∙ sym (accepted-outcome bytes T rest reads accepted (length plan) (length work) short large ∙ pick (LevelsRules.anyMistyped (LevelsRules.levels T)) false _ _ m)

@@ -3,7 +3,7 @@ use mathlib.Core.Bool.{Bool, true, false}
 use mathlib.Core.List.{List, [], _∷_, _++_}
 use mathlib.Core.Option.{Option, none, some}
 use Prim.Native.Nat.{ℕ, zero, suc, _+_, _-_, _*_, _/_, min}
-use lib.ListN.{length, take, getD, replicate}
+use lib.ListN.{length, take, replicate}
 use lib.Dec.{leb}
 use lib.Seq.{sets, slice}
 use Rattle.rules.specs.Base.{both}
@@ -14,7 +14,7 @@ use Rattle.rules.specs.Placement.{Range, RangeEdge}
 use Rattle.rules.specs.Plan as Plan
 use Rattle.rules.specs.Compile.{Outcome}
 use Rattle.state.specs.State.{Ends, Counts, Level, newLevel, Target, noTarget, State, state, noEnds, stop, bindingsAt, constrainedAt}
-use Rattle.state.specs.State.{selectsAt, diagnosticsAt, backwards, joinedBytes}
+use Rattle.state.specs.State.{selectsAt, diagnosticsAt, wordIn, backwards, joinedBytes}
 use Rattle.state.specs.Ops.{ops}
 
 -- The four seeks, as numbers of the plan: 0 Prefix, 1 Composite, 2 PrefixRange, 3 Bounded.
@@ -92,15 +92,11 @@ paging = record { joining = false; partsAt = 0; nodesAt = 0; restAt = pageRest }
 unfoldable pub paged : Counts → Bool
 paged c = both (leb (c .parted) pageRest) (leb (c .rest) (pageLength - pageRest))
 
--- a u16 of the page
-unfoldable pub pageWord : List ℕ → ℕ → ℕ
-pageWord page p = getD page p 0 + 256 * getD page (p + 1) 0
-
 -- The parts of the page from p on, n of them and all bytes, joined in the plan: their texts from `text` on, their nodes from `node` on.
 unfoldable pub joinParts : ℕ → List ℕ → ℕ → ℕ → ℕ → List ℕ → List ℕ
 joinParts zero page p text node plan = plan
 joinParts (suc n) page p text node plan =
-    let size = pageWord page (p + 1) in
+    let size = wordIn page (p + 1) in
     let to = p + 3 + size in
     joinParts n page (to + 2) (text + size) (node + 2) (sets (sets plan node (slice to (to + 2) page)) text (slice (p + 3) to page))
 
@@ -223,6 +219,6 @@ writtenOutcome w = elim (w .state .over) [ true ↦ Outcome.refused 15 | false �
 
 unfoldable pub openLevels : Unit {0}
 unfolding seekNumber seekOf joins joining head rangeOrEdges middle tail partsAt nodesAt middleAt restAt tailAt levelEnd paging paged
-    pageWord joinParts partsFrom fromPage begin walked frame withPlan writingAt placed ended level levels constrainedCount diagnosticCount
+    joinParts partsFrom fromPage begin walked frame withPlan writingAt placed ended level levels constrainedCount diagnosticCount
     lists finished started unpaged compiled writtenOutcome
 openLevels = tt

@@ -14,32 +14,35 @@ use Rattle.rules.specs.Constant.{lookup, constant, unionTag, term}
 use Rattle.rules.specs.Events.{Code, Narrowing, Ops}
 use Rattle.rules.specs.Placement.{SeekKeyPart, Part, Guide, Edges, rangeAt, foldFrom}
 use Rattle.rules.specs.Plan as Plan
-use Rattle.state.specs.State.{Ends, ends, Counts, counts, Level, Target, State, state, stop, unless, made, fits}
+use Rattle.state.specs.State.{Ends, ends, Counts, counts, Level, Target, State, state, stop, unless, noted, madeSlot, fits}
 
--- A record at a place of the work area, if there is room for it, and the ends with its list's moved.
-unfoldable pub stored : Bool → ℕ → List ℕ → Ends → State → State
-stored room at bytes moved s =
+-- A record at a place of the work area, if there is room for it, with what else is noted there, and the ends with its list's moved.
+unfoldable pub stored : Bool → ℕ → List ℕ → (List ℕ → List ℕ) → Ends → State → State
+stored room at bytes also moved s =
     elim room [
-      | true ↦ state (s .over) moved (s .level) (s .target) (sets (s .work) at bytes) (s .plan)
+      | true ↦ state (s .over) moved (s .level) (s .target) (also (sets (s .work) at bytes)) (s .plan)
       | false ↦ stop s
     ]
 
--- At the end of a list that grows up: where the list ends, how far the run's other list has come down, the record.
-unfoldable pub append : ℕ → ℕ → List ℕ → (ℕ → Ends) → State → State
-append at limit bytes move s = stored (leb (at + length bytes) limit) at bytes (move (at + length bytes)) s
+-- At the end of a list that grows up: where the list ends, how far the run's other list has come down, the record, what else is noted.
+unfoldable pub append : ℕ → ℕ → List ℕ → (List ℕ → List ℕ) → (ℕ → Ends) → State → State
+append at limit bytes also move s = stored (leb (at + length bytes) limit) at bytes also (move (at + length bytes)) s
 
 -- Before the newest record of a list that grows down: where that begins, where the run's other list ends, the record.
 unfoldable pub appendDown : ℕ → ℕ → List ℕ → (ℕ → Ends) → State → State
-appendDown at limit bytes move s = stored (leb (limit + length bytes) at) (at - length bytes) bytes (move (at - length bytes)) s
+appendDown at limit bytes move s =
+    stored (leb (limit + length bytes) at) (at - length bytes) bytes (λ work. work) (move (at - length bytes)) s
 
 -- a record of a list that is counted; its count stays below what its field holds, as it does in every run that has room
-unfoldable pub appendCounted : ℕ → ℕ → ℕ → List ℕ → (ℕ → Ends) → State → State
-appendCounted count at limit bytes move s = elim (leb count 65534) [ true ↦ append at limit bytes move s | false ↦ stop s ]
+unfoldable pub appendCounted : ℕ → ℕ → ℕ → List ℕ → (List ℕ → List ℕ) → (ℕ → Ends) → State → State
+appendCounted count at limit bytes also move s =
+    elim (leb count 65534) [ true ↦ append at limit bytes also move s | false ↦ stop s ]
 
 unfoldable pub bind : ℕ → Slot → State → State
 bind x slot s =
     let e = s .ends in
     unless (appendCounted (e .bindingCount) (e .bindings) (e .constrained) (Plan.binding (record { name = x; slot = slot }))
+    (noted x (e .bindingCount) (e .bindings))
     (λ end. ends end (e .bindingCount + 1) (e .constrained) (e .selects) (e .selectCount) (e .diagnostics))) s
 
 unfoldable pub constrained : ℕ → State → State
@@ -52,7 +55,7 @@ unfoldable pub select : ℕ → FieldPath → ℕ → State → State
 select address path disc s =
     let e = s .ends in
     let form = Plan.select (record { address = address; path = path; disc = disc }) in
-    unless (appendCounted (e .selectCount) (e .selects) (e .diagnostics) form
+    unless (appendCounted (e .selectCount) (e .selects) (e .diagnostics) form (λ work. work)
     (λ end. ends (e .bindings) (e .bindingCount) (e .constrained) end (e .selectCount + 1) (e .diagnostics))) s
 
 unfoldable pub report : ℕ → Code → State → State
@@ -249,12 +252,21 @@ unfoldable pub checkedSlot : Tables → Option Slot → Option Slot
 checkedSlot T none = none
 checkedSlot T (some slot) = elim (roomy T slot) [ true ↦ some slot | false ↦ none ]
 
--- The file's own bindings, then those that the walks have made; `constant` needs the file's alone (rules, proofs/Consts.antt). `brings`
--- notes nothing: what it would note hangs on the tables alone, and is decided before any level is walked (rules, proofs/Literals.antt).
+-- what is there, or else another
+abbrev pub orElse : Option Slot → Option Slot → Option Slot
+orElse none other = other
+orElse (some slot) other = some slot
+
+-- a name's slot: the walks' own, or else the file's
+unfoldable pub boundSlot : Tables → State → ℕ → Option Slot
+boundSlot T s x = orElse (madeSlot (s .work) (s .ends .bindingCount) x) (lookup (T .bindings) x)
+
+-- `constant` needs the file's bindings alone (rules, proofs/Consts.antt). `brings` notes nothing: what it would note hangs on the tables
+-- alone, and is decided before any level is walked (rules, proofs/Literals.antt).
 abbrev pub ops : Tables → Ops State
 ops T =
     record {
-      lookup = λ s x. checkedSlot T (lookup (T .bindings ++ made s) x);
+      lookup = λ s x. checkedSlot T (boundSlot T s x);
       constant = λ s n t. constant T n t;
       reported = λ s. s .ends .diagnostics;
       bind = bind;
@@ -271,5 +283,5 @@ ops T =
 unfoldable pub openOps : Unit {0}
 unfolding stored append appendDown appendCounted bind constrained select report recount fall relevel narrowed grow putMade partText
     isBytes withPart partAt partForm nodeAt partPut putPart putResidual narrowPart withRange narrowPrefix attachable withGuide
-    narrowFuzzy narrowOwn narrowing narrow skip closed close closer withEdges boundLevel bound roomy checkedSlot
+    narrowFuzzy narrowOwn narrowing narrow skip closed close closer withEdges boundLevel bound roomy checkedSlot boundSlot
 openOps = tt

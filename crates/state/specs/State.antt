@@ -2,20 +2,21 @@
 -- in the plan.
 use mathlib.Core.Bool.{Bool, true, false}
 use mathlib.Core.List.{List, [], _∷_, _++_}
-use mathlib.Core.Option.{Option, none}
-use Prim.Native.Nat.{ℕ, zero, suc, _+_, _-_, _*_}
-use lib.ListN.{length}
-use lib.Dec.{leb}
-use lib.Seq.{slice}
+use mathlib.Core.Option.{Option, none, some}
+use Prim.Native.Nat.{ℕ, zero, suc, _+_, _-_, _*_, _%_}
+use lib.ListN.{length, getD, drop}
+use lib.Dec.{eqb, ltb, leb}
+use lib.Seq.{sets, slice}
 use Rattle.rules.specs.Base.{both}
-use Rattle.rules.specs.Limits.{planLimit}
-use Rattle.rules.specs.File.{Binding}
+use Rattle.rules.specs.Limits.{planLimit, nameLimit}
+use Rattle.rules.specs.File.{Slot, Binding}
 use Rattle.rules.specs.Read as Read
+use Rattle.rules.specs.Plan as Plan
 use Rattle.rules.specs.Placement.{Guide, Range, Edges}
 
 -- Where the four lists begin in the work area. Two runs hold them, each as long as a plan may be, and the two lists of a run grow towards
 -- each other: bindings up and constrained names down in the first, selects up and diagnostics down in the second. Where two lists would
--- meet, they do not fit a plan. What lies past the second run is free.
+-- meet, they do not fit a plan.
 abbrev pub bindingsAt : ℕ
 bindingsAt = 0
 
@@ -27,6 +28,30 @@ selectsAt = 16384
 
 abbrev pub diagnosticsAt : ℕ
 diagnosticsAt = 32768
+
+-- Past the runs two tables of two-byte words tell where a name was bound: for each name the number of its binding among those that the
+-- walks have made, and for each of these where its record begins. An entry counts only if it is the number of a binding, and the record
+-- that it leads to has the name. So the tables may hold anything at first, and nothing is cleared where lists go back to what they were.
+abbrev pub namesAt : ℕ
+namesAt = 32768
+
+abbrev pub placesAt : ℕ
+placesAt = 33792
+
+-- where the tables have a name's entry, and the n-th binding's
+unfoldable pub numberAt : ℕ → ℕ
+numberAt x = namesAt + 2 * (x % nameLimit)
+
+unfoldable pub placeAt : ℕ → ℕ
+placeAt n = placesAt + 2 * n
+
+-- the word at p, its lower byte first; past the end bytes are 0
+unfoldable pub wordIn : List ℕ → ℕ → ℕ
+wordIn bytes p = getD bytes p 0 + 256 * getD bytes (p + 1) 0
+
+-- the work area after the n-th binding was noted: of the name x, with its record at `at`
+unfoldable pub noted : ℕ → ℕ → ℕ → List ℕ → List ℕ
+noted x n at work = sets (sets work (numberAt x) (Plan.u16 n)) (placeAt n) (Plan.u16 at)
 
 -- How far each list has come in the work area: where one that grows up ends, where the newest record of one that grows down begins; of the
 -- two lists whose records differ in length also how many there are.
@@ -111,14 +136,16 @@ stop s = state true (s .ends) (s .level) (s .target) (s .work) (s .plan)
 unfoldable pub unless : (State → State) → State → State
 unless f s = elim (s .over) [ true ↦ s | false ↦ f s ]
 
--- The bindings that records of the rule file's form hold.
-unfoldable pub bindingsIn : ℕ → List ℕ → List Binding
-bindingsIn zero bytes = []
-bindingsIn (suc n) bytes = elim (Read.binding bytes) [ Read.got b rest ↦ b ∷ bindingsIn n rest | Read.refused k ↦ [] ]
+-- the slot of a binding that was read, if it has the name
+unfoldable pub slotNamed : ℕ → Read.Read Binding → Option Slot
+slotNamed x (Read.got b rest) = elim (eqb (b .name) x) [ true ↦ some (b .slot) | false ↦ none ]
+slotNamed x (Read.refused k) = none
 
--- those that the walks have made so far
-unfoldable pub made : State → List Binding
-made s = let bytes = slice bindingsAt (s .ends .bindings) (s .work) in bindingsIn (length bytes) bytes
+-- the slot that the walks have bound a name to, by the tables; `count` is how many bindings they have made
+unfoldable pub madeSlot : List ℕ → ℕ → ℕ → Option Slot
+madeSlot work count x =
+    let n = wordIn work (numberAt x) in
+    elim (ltb n count) [ true ↦ slotNamed x (Read.binding (drop (wordIn work (placeAt n)) work)) | false ↦ none ]
 
 -- The first n records of a list that grew down from `top`, each of `width` bytes.
 unfoldable pub backwards : ℕ → ℕ → ℕ → List ℕ → List ℕ
@@ -142,5 +169,5 @@ fits l =
     (both (leb (l .counts .parts) 65535) (leb (l .counts .residuals) 65535))))
 
 unfoldable pub openState : Unit {0}
-unfolding noEnds newLevel noTarget stop unless bindingsIn made backwards joinedBytes partBytes fits
+unfolding numberAt placeAt wordIn noted noEnds newLevel noTarget stop unless slotNamed madeSlot backwards joinedBytes partBytes fits
 openState = tt

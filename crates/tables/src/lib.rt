@@ -1,7 +1,8 @@
 // What stands in the tables under a number or a name.
 ghost use mathlib.Core.Path.{_≡_};
 ghost use Prim.Native.Nat.{_+_, _*_, _≤_, _<_};
-ghost use lib.ListN.{length};
+ghost use lib.ListN.{length, getD};
+ghost use Rattle.rules.specs.Limits.{nodeLimit, typeLimit};
 ghost use Rattle.rules.specs.File.{typeAt, nodeAt, varName, recordTy, unionTy, isConstant};
 ghost use Rattle.rules.specs.Constant as Constant;
 ghost use Rattle.rules.specs.Constant.{fieldPattern, constBound, standsFor};
@@ -9,10 +10,13 @@ ghost use Rattle.file.specs.Sections as Sections;
 ghost use Rattle.file.specs.Tables.{Indexed, tablesOf, lastBinding};
 ghost use Rattle.views.specs.Views.{run, startAt, typeView, fieldAt, alternativeAt, patternAt};
 ghost use Rattle.accepted_file.specs.AcceptedFile.{AcceptedFile};
+ghost use Rattle.accepted_file.specs.Fates.{digit, recalled};
 ghost use Rattle.tables.specs.Tables.{foundOption, alternativeOption, fieldsIn, alternativesIn, boundIn, SeenRun, SeenSlot};
+ghost use Rattle.tables.specs.Recalled.{recalledAny, quietIn};
 use file::CONSTANTS;
 use file::LAST_BINDINGS;
 use file::NAMES;
+use file::NODES;
 use file::wide16;
 use views::Alternative;
 use views::NodeView;
@@ -24,6 +28,22 @@ use views::count_of;
 use views::field_pattern_at;
 use views::node_at;
 use views::type_at;
+
+// Where an index that remembers has the rows' numbers of the nodes, and the rows, of ROW_WORDS words each.
+pub const ROWS: usize = 7754;
+
+pub const FATES: usize = 9802;
+
+pub const ROW_WORDS: usize = 64;
+
+// The four fates of a constant at a type.
+pub const MET: usize = 0;
+
+pub const HEARD: usize = 1;
+
+pub const QUIET: usize = 2;
+
+pub const BYTES: usize = 3;
 
 // The number that a search found.
 pub enum Found {
@@ -188,5 +208,73 @@ pub fn folded(file: &[u8], index: &[u16], node: usize) -> usize
         m
     } else {
         node
+    }
+}
+
+// The fate at place j of a word: two bits each, the first the lowest.
+pub fn digit(word: usize, j: usize) -> usize
+    ensures { λ r. ⌜ r ≡ digit j word ⌝ }
+{
+    let mut w = word;
+    let mut left = j;
+    while left > 0 {
+        w = w / 4;
+        left -= 1;
+    }
+    w % 4
+}
+
+// A word of the index, 0 past its end.
+fn word_or_zero(index: &[u16], at: usize) -> usize
+    ensures { λ r. ⌜ r ≡ getD (now (index .entry)) at 0 ⌝ }
+    ensures small { λ r. ⌜ r < 65536 ⌝ }
+{
+    if at < index.len() {
+        wide16(index[at])
+    } else {
+        0
+    }
+}
+
+// What the index remembers of node n at type t.
+pub fn recall(index: &[u16], n: usize, t: usize) -> Found
+    requires { ⌜ (n ≤ nodeLimit) × (t ≤ typeLimit) ⌝ }
+    ensures { λ r. ⌜ foundOption r ≡ recalled (now (index .entry)) n t ⌝ }
+{
+    let row = word_or_zero(index, ROWS + n);
+    if row == 0 {
+        return Found::Nothing;
+    }
+    let at = FATES + ROW_WORDS * (row - 1) + t / 8;
+    let word = word_or_zero(index, at);
+    Found::Just(digit(word, t % 8))
+}
+
+// The same of any number: what is no node's is not remembered.
+pub fn recall_any(file: &[u8], index: &[u16], n: usize, t: usize) -> Found
+    requires { ⌜ Indexed (now file) (now index) ⌝ }
+    requires { ⌜ t < length (tablesOf (now file) .types) ⌝ }
+    ensures { λ r. ⌜ foundOption r ≡ recalledAny (tablesOf (now (file .entry))) (now (index .entry)) n t ⌝ }
+{
+    if n < count_of(file, index, NODES) {
+        recall(index, n, t)
+    } else {
+        Found::Nothing
+    }
+}
+
+// Whether the index remembers of a constant that it gives nothing but a skip at a type.
+pub fn is_quiet(file: &[u8], index: &[u16], n: usize, t: usize) -> bool
+    requires { ⌜ AcceptedFile (now file) (now index) ⌝ }
+    requires { ⌜ t < length (tablesOf (now file) .types) ⌝ }
+    ensures { λ r. ⌜ r ≡ quietIn (tablesOf (now (file .entry))) (now (index .entry)) n t ⌝ }
+{
+    let Found::Just(fate) = recall_any(file, index, n, t) else {
+        return false;
+    };
+    if fate == QUIET {
+        is_constant(file, index, n)
+    } else {
+        false
     }
 }

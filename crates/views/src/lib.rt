@@ -175,7 +175,7 @@ pub fn count_of(file: &[u8], index: &[u16], s: usize) -> usize
 
 // Where record t of section s starts.
 fn start_of(index: &[u16], s: usize, t: usize) -> usize
-    requires { ⌜ (length (now index) ≡ indexLength) × (s < sectionCount) × (t < limitOf s) ⌝ }
+    requires { ⌜ (indexLength ≤ length (now index)) × (s < sectionCount) × (t < limitOf s) ⌝ }
     ensures { λ r. ⌜ r ≡ startAt (now (index .entry)) s t ⌝ }
 {
     wide16(index[base(s) + 1 + t])

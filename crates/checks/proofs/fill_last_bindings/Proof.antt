@@ -1,9 +1,10 @@
+use denote.Ref.{now}
 use native.Mathlib.Omega.{arith}
-use mathlib.Core.Path.{sym, _∙_}
+use mathlib.Core.Path.{_∙_}
 use Prim.Native.Nat.{_-_}
 use borrow.Author.Needs.{needs}
 use Rattle.checks.proofs.Fill.{names-few, bindings-few, name-few}
-use Rattle.checks.proofs.Last.{Written, written-none, written-more, written-all}
+use Rattle.checks.proofs.Last.{Written, cleared-length, written-none, written-more, written-all}
 use Rattle.checks.proofs.fill_last_bindings.Statement.{statement}
 use Rattle.checks.proofs.fill_last_bindings.Tie as tie
 use Rattle.checks.proofs.fill_last_bindings.Reads as reads
@@ -60,7 +61,7 @@ loop-again : tie.Need-loop-again Inv-loop μ-loop
 loop-again c = written-more _ _ _ _ (c .before .before .before .loop .inv) _ (omega (arith, c .before .before .before .before .before .before .before .before .count-of2 .ensures, c .before .before .loop-test .taken)) (c .binding-name .ensures)
 
 same-length : tie.Need-same-length Inv-loop μ-loop
-same-length c = c .before .loop .inv .indexed .long ∙ sym (c .before .before .before .before .before .before .before .before .before .before .before .before .pre .0 .long)
+same-length c = c .before .loop .inv .long ∙ cleared-length (now (c .before .before .before .before .before .before .before .before .before .before .before .before .args .index)) _ (c .before .before .before .before .before .before .before .before .count-of .result) (c .before .before .before .before .clear-last-bindings .ensures)
 
 returns : tie.Need-returns Inv-loop μ-loop
 returns c = written-all _ _ _ _ (c .before .loop .inv) (omega (arith, c .before .before .before .before .before .before .count-of2 .ensures, c .loop-test .left)) _ _ (c .before .before .before .before .before .before .before .before .count-of .ensures) (c .before .before .before .before .clear-last-bindings .ensures)

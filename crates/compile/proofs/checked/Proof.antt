@@ -1,6 +1,6 @@
-use mathlib.Core.Path.{sym, _∙_}
+use mathlib.Core.Path.{refl, sym, _∙_}
 use Rattle.endings.proofs.Ends.{bytes}
-use Rattle.compile.proofs.Verdicts.{ready, accepted-outcome, refused-outcome, file-decides, refused-memory, left-by}
+use Rattle.compile.proofs.Verdicts.{own-length, ready, accepted-outcome, refused-outcome, file-decides, refused-memory, left-by}
 use borrow.Author.Needs.{needs}
 use Rattle.compile.proofs.checked.Statement.{statement}
 use Rattle.compile.proofs.checked.Tie as tie
@@ -14,14 +14,15 @@ verify-requires c κs = search needs
 enum-told : tie.Need-enum-told
 enum-told c = search needs
 
-slice-aggregate-accepted : tie.Need-slice-aggregate-accepted
-slice-aggregate-accepted c = search needs
+slice-aggregate-walked : tie.Need-slice-aggregate-walked
+slice-aggregate-walked c = search needs
 
-accepted-requires : tie.Need-accepted-requires
-accepted-requires c κs =
+walked-requires : tie.Need-walked-requires
+walked-requires c κs =
     let v = c .before .before .before .before .before .before .verify in
     let q = c .before .before .before .enum-told .given .1 in
-    ready _ _ _ (v .ensures .0) q (v .ensures .1 .1 q)
+    let l = own-length (v .last .1 .0) _ (v .kept .1 .0) refl in
+    (ready _ _ _ l (v .ensures .0) q (v .ensures .1 .1 q), l)
 
 enum-known-n : tie.Need-enum-known-n
 enum-known-n c = search needs
@@ -39,8 +40,8 @@ returns c =
     let v = t .before .before .before .verify in
     let s = t .before .before .before .before .before .before .before in
     let q = t .enum-told .given .1 in
-    let e = a .accepted .ensures in
-    (e .0 ∙ accepted-outcome _ _ (bytes _ (λ i. s .shared-slice-known .given i .fits)) (ready _ _ _ (v .ensures .0) q (v .ensures .1 .1 q)) _ _ (s .before .pre .0) (s .before .pre .1), (e .1 .0, left-by _ _ _ _ _ _ (e .1 .1) (sym q ∙ v .ensures .0)))
+    let e = a .walked .ensures in
+    (e .0 ∙ accepted-outcome _ _ (bytes _ (λ i. s .shared-slice-known .given i .fits)) (ready _ _ _ (own-length (v .last .1 .0) _ (v .kept .1 .0) refl) (v .ensures .0) q (v .ensures .1 .1 q)) _ _ (s .before .pre .0) (s .before .pre .1), (e .1 .0, left-by _ _ _ _ _ _ (e .1 .1) (sym q ∙ v .ensures .0)))
 
 returns-2 : tie.Need-returns-2
 returns-2 c =
@@ -56,8 +57,8 @@ checked-spec =
     slice-aggregate-verify
     verify-requires
     enum-told
-    slice-aggregate-accepted
-    accepted-requires
+    slice-aggregate-walked
+    walked-requires
     enum-known-n
     same-length
     same-length-2

@@ -17,7 +17,7 @@ use Rattle.key.proofs.+field+inject+matched+partial.Proof.Base.{μ-fiel
 use Rattle.key.proofs.+field+inject+matched+partial.Proof.Field.{field-returns, field-way-of-requires, field-enum-told, field-inject-requires, field-enum-told-2, field-skip-requires, field-enum-known-code, field-diagnose-requires, field-enum-told-3, field-ranged-requires, field-enum-told-4, field-known-requires, field-is-nothing-requires, field-partial-requires, field-same-length, field-same-length-2, field-returns-2, field-narrow-requires, field-enum-known-x, field-lists-requires, field-lookup-requires, field-matched-requires, field-same-length-3, field-same-length-4, field-returns-3, field-captured-requires, field-enum-told-5, field-lists-requires-2, field-resolve-requires, field-listed-requires, field-matched-requires-2, field-same-length-5, field-same-length-6, field-returns-4, field-pairs-of-requires, field-enum-told-6, field-partial-requires-2, field-same-length-7, field-same-length-8, field-returns-5, field-enum-told-7, field-unresolved-requires, field-same-length-9, field-same-length-10, field-returns-6, field-returns-7, field-same-length-11, field-returns-8, field-same-length-12, field-same-length-13, field-returns-9, field-same-length-14, field-returns-10, field-same-length-15, field-same-length-16, field-returns-11, field-same-length-17, field-returns-12}
 use Rattle.key.proofs.+field+inject+matched+partial.Proof.Inject.{inject-choose-requires, inject-enum-known-choice, inject-enum-told, inject-same-length, inject-same-length-2, inject-returns, inject-payload-requires, inject-tag-requires, inject-field-requires, inject-closer-requires, inject-same-length-3, inject-same-length-4, inject-returns-2}
 use Rattle.key.proofs.+field+inject+matched+partial.Proof.Matched.{matched-enum-known-kind, matched-meet-requires, matched-same-length, matched-same-length-2, matched-returns, matched-known-requires, matched-is-nothing-requires, matched-partial-requires, matched-same-length-3, matched-same-length-4, matched-returns-2, matched-narrow-requires, matched-same-length-5, matched-returns-3}
-use Rattle.key.proofs.+field+inject+matched+partial.Proof.Partial.{partial-Inv-loop, partial-μ-loop, partial-pieces-requires, partial-skip-requires, partial-loop-holds, partial-piece-at-requires, partial-cast-step, partial-add-i, partial-enum-known-pattern, partial-then-requires, partial-field-requires, partial-loop-less, partial-loop-again, partial-enum-told, partial-loop-less-2, partial-loop-again-2, partial-same-length, partial-same-length-2, partial-returns}
+use Rattle.key.proofs.+field+inject+matched+partial.Proof.Partial.{partial-Inv-loop, partial-μ-loop, partial-pieces-requires, partial-skip-requires, partial-is-quiet-requires, partial-returns, partial-loop-holds, partial-piece-at-requires, partial-cast-step, partial-add-i, partial-enum-known-pattern, partial-then-requires, partial-field-requires, partial-loop-less, partial-loop-again, partial-enum-told, partial-loop-less-2, partial-loop-again-2, partial-same-length, partial-same-length-2, partial-returns-2}
 
 pub +field+inject+matched+partial-spec : {M : Type 1} → statement M
 +field+inject+matched+partial-spec =
@@ -122,6 +122,8 @@ pub +field+inject+matched+partial-spec : {M : Type 1} → statement M
     partial-μ-loop
     (partial-pieces-requires t)
     (partial-skip-requires t)
+    (partial-is-quiet-requires t)
+    (partial-returns t)
     (partial-loop-holds t)
     (partial-piece-at-requires t)
     (partial-cast-step t)
@@ -136,4 +138,4 @@ pub +field+inject+matched+partial-spec : {M : Type 1} → statement M
     (partial-loop-again-2 t)
     (partial-same-length t)
     (partial-same-length-2 t)
-    (partial-returns t)
+    (partial-returns-2 t)

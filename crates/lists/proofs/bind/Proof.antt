@@ -4,12 +4,13 @@ use Rattle.rules.specs.Plan as Plan
 use Rattle.records.proofs.Stores.{next}
 use Rattle.state.specs.Ops as Ops
 use Rattle.lists.proofs.Appends.{over, not-over, stops, appended, no-room, counted, too-many}
-use Rattle.lists.proofs.Forms.{binding-end}
+use Rattle.lists.proofs.Forms.{binding-end, noted-after}
 use borrow.Author.Needs.{needs}
 use Rattle.lists.proofs.bind.Statement.{statement}
 use Rattle.lists.proofs.bind.Tie as tie
 use Rattle.lists.proofs.bind.Reads as reads
 use Rattle.lists.proofs.bind.Lts as lts
+use Rattle.lists.proofs.note.Reads as note-reads
 use Rattle.lists.proofs.put_slot.Reads as put-slot-reads
 use Rattle.lists.proofs.slot_size.Reads as slot-size-reads
 use Rattle.lists.proofs.stopped.Reads as stopped-reads
@@ -25,7 +26,7 @@ stopped-requires c κs = search needs
 
 returns-2 : tie.Need-returns-2
 unfolding Ops.bind
-returns-2 c = λ lv tg p. stops _ _ _ _ _ _ _ (c .before .before .before .if1 .left) (c .stopped .ensures) (too-many _ _ _ _ _ _ (c .before .if2 .taken))
+returns-2 c = λ lv tg p. stops _ _ _ _ _ _ _ (c .before .before .before .if1 .left) (c .stopped .ensures) (too-many _ _ _ _ _ _ _ (c .before .if2 .taken))
 
 wide32-requires : tie.Need-wide32-requires
 wide32-requires c κs = search needs
@@ -49,8 +50,8 @@ returns-3 : tie.Need-returns-3
 unfolding Ops.bind
 returns-3 c = λ lv tg p.
     stops _ _ _ _ _ _ _ (c .before .before .before .before .before .before .before .if1 .left) (c .stopped2 .ensures)
-    (counted _ _ _ _ _ _ _ (omega (arith, c .before .before .before .before .before .if2 .left))
-    (no-room _ _ _ _ _ _ _ _ (c .before .before .before .before .wide32 .ensures .0) (binding-end _ _ _ _ (c .before .before .before .slot-size .ensures .0)) (c .before .before .wide322 .ensures .0) (c .before .if3 .taken)))
+    (counted _ _ _ _ _ _ _ _ (omega (arith, c .before .before .before .before .before .if2 .left))
+    (no-room _ _ _ _ _ _ _ _ _ (c .before .before .before .before .wide32 .ensures .0) (binding-end _ _ _ _ (c .before .before .before .slot-size .ensures .0)) (c .before .before .wide322 .ensures .0) (c .before .if3 .taken)))
 
 put16-requires : tie.Need-put16-requires
 put16-requires c κs = search needs
@@ -60,6 +61,12 @@ add-put-slot c = search needs
 
 put-slot-requires : tie.Need-put-slot-requires
 put-slot-requires c κs = search needs
+
+wide32-requires-3 : tie.Need-wide32-requires-3
+wide32-requires-3 c κs = search needs
+
+note-requires : tie.Need-note-requires
+note-requires c κs = search needs
 
 cast-ends : tie.Need-cast-ends
 cast-ends c = search needs
@@ -73,10 +80,10 @@ same-length c = search needs
 returns-4 : tie.Need-returns-4
 unfolding Ops.bind Plan.binding Plan.u16
 returns-4 c = λ lv tg p.
-    not-over _ _ _ (c .before .before .before .before .before .before .before .before .before .before .before .before .before .before .if1 .left)
-    (counted _ _ _ _ _ _ _ (omega (arith, c .before .before .before .before .before .before .before .before .before .before .before .before .if2 .left))
-    (appended _ _ _ _ _ _ _ _ (c .before .before .before .before .before .before .before .before .before .before .before .wide32 .ensures .0) (binding-end _ _ (c .before .before .before .before .before .before .before .before .before .before .before .before .before .before .before .before .args .name) _ (c .before .before .before .before .before .before .before .before .before .before .slot-size .ensures .0)) (c .before .before .before .before .before .before .before .before .before .wide322 .ensures .0) _ (c .before .before .before .before .before .before .before .before .if3 .left)
-    (next _ _ _ _ _ _ _ (c .before .before .before .before .before .before .put16 .ensures) (c .before .before .put-slot .ensures) refl)))
+    not-over _ _ _ (c .before .before .before .before .before .before .before .before .before .before .before .before .before .before .before .before .before .before .before .if1 .left)
+    (counted _ _ _ _ _ _ _ _ (omega (arith, c .before .before .before .before .before .before .before .before .before .before .before .before .before .before .before .before .before .if2 .left))
+    (appended _ _ _ _ _ _ _ _ _ (c .before .before .before .before .before .before .before .before .before .before .before .before .before .before .before .before .wide32 .ensures .0) (binding-end _ _ (c .before .before .before .before .before .before .before .before .before .before .before .before .before .before .before .before .before .before .before .before .before .args .name) _ (c .before .before .before .before .before .before .before .before .before .before .before .before .before .before .before .slot-size .ensures .0)) (c .before .before .before .before .before .before .before .before .before .before .before .before .before .before .wide322 .ensures .0) _ (c .before .before .before .before .before .before .before .before .before .before .before .before .before .if3 .left)
+    (noted-after _ _ _ _ _ _ _ _ (c .before .before .note .ensures) (next _ _ _ _ _ _ _ (c .before .before .before .before .before .before .before .before .before .before .before .put16 .ensures) (c .before .before .before .before .before .before .before .put-slot .ensures) refl) (c .before .before .before .wide323 .ensures .0) (c .before .before .before .before .before .before .before .before .before .before .before .before .before .before .before .before .wide32 .ensures .0))))
 
 pub bind-spec : {M : Type 1} → statement M
 bind-spec =
@@ -95,6 +102,8 @@ bind-spec =
     put16-requires
     add-put-slot
     put-slot-requires
+    wide32-requires-3
+    note-requires
     cast-ends
     add-ends
     same-length

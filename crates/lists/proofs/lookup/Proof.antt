@@ -1,5 +1,3 @@
-use mathlib.Core.Path.{sym}
-use lib.Seq.{length-take-le}
 use Rattle.slots.proofs.Tidy.{slot-as}
 use Rattle.lists.proofs.Finds.{view-inside, of-made, of-file}
 use borrow.Author.Needs.{needs}
@@ -8,15 +6,12 @@ use Rattle.lists.proofs.lookup.Tie as tie
 use Rattle.lists.proofs.lookup.Reads as reads
 use Rattle.lists.proofs.lookup.Lts as lts
 use Rattle.lists.proofs.fitted.Reads as fitted-reads
-use Rattle.lists.proofs.made_end.Reads as made-end-reads
 use Rattle.lists.proofs.made_slot.Reads as made-slot-reads
 use Rattle.lists.proofs.own_slot.Reads as own-slot-reads
+use Rattle.records.proofs.wide32.Reads as wide32-reads
 
-made-end-requires : tie.Need-made-end-requires
-made-end-requires c κs = search needs
-
-slice-aggregate-bytes : tie.Need-slice-aggregate-bytes
-slice-aggregate-bytes c = sym (length-take-le _ _ (c .before .made-end .ensures .1))
+wide32-requires : tie.Need-wide32-requires
+wide32-requires c κs = search needs
 
 made-slot-requires : tie.Need-made-slot-requires
 made-slot-requires c κs = search needs
@@ -34,17 +29,16 @@ own-slot-requires : tie.Need-own-slot-requires
 own-slot-requires c κs = search needs
 
 returns : tie.Need-returns
-returns c = λ lv tg p. slot-as (c .fitted .ensures) (of-made _ _ lv tg _ p _ (c .before .before .before .before .before .before .made-end .result) (c .before .before .before .before .before .before .made-end .ensures .0) _ (c .before .before .before .before .made-slot .ensures .0) _ (c .before .before .v .given .1))
+returns c = λ lv tg p. slot-as (c .fitted .ensures) (of-made _ _ lv tg _ p _ _ (c .before .before .before .before .before .wide32 .ensures .0) _ (c .before .before .before .before .made-slot .ensures .0) _ (c .before .before .v .given .1))
 
 returns-2 : tie.Need-returns-2
-returns-2 c = λ lv tg p. slot-as (c .own-slot .ensures) (of-file _ _ lv tg _ p _ (c .before .before .before .before .before .made-end .result) (c .before .before .before .before .before .made-end .ensures .0) _ (c .before .before .before .made-slot .ensures .0) (c .before .enum-told .given .1))
+returns-2 c = λ lv tg p. slot-as (c .own-slot .ensures) (of-file _ _ lv tg _ p _ _ (c .before .before .before .before .wide32 .ensures .0) _ (c .before .before .before .made-slot .ensures .0) (c .before .enum-told .given .1))
 
 pub lookup-spec : {M : Type 1} → statement M
 lookup-spec =
     tie.close
     (tie.spec
-    made-end-requires
-    slice-aggregate-bytes
+    wide32-requires
     made-slot-requires
     enum-known-v
     fitted-requires

@@ -27,7 +27,7 @@ stopped-requires c κs = search needs
 
 returns-2 : tie.Need-returns-2
 unfolding Ops.select
-returns-2 c = λ lv tg p. stops _ _ _ _ _ _ _ (c .before .before .before .if1 .left) (c .stopped .ensures) (too-many _ _ _ _ _ _ (c .before .if2 .taken))
+returns-2 c = λ lv tg p. stops _ _ _ _ _ _ _ (c .before .before .before .if1 .left) (c .stopped .ensures) (too-many _ _ _ _ _ _ _ (c .before .if2 .taken))
 
 wide32-requires : tie.Need-wide32-requires
 wide32-requires c κs = search needs
@@ -51,8 +51,8 @@ returns-3 : tie.Need-returns-3
 unfolding Ops.select
 returns-3 c = λ lv tg p.
     stops _ _ _ _ _ _ _ (c .before .before .before .before .before .before .before .if1 .left) (c .stopped2 .ensures)
-    (counted _ _ _ _ _ _ _ (omega (arith, c .before .before .before .before .before .if2 .left))
-    (no-room _ _ _ _ _ _ _ _ (c .before .before .before .before .wide32 .ensures .0) (select-end _ _ _ _ _ (c .before .before .before .path-size .ensures .0)) (c .before .before .wide322 .ensures .0) (c .before .if3 .taken)))
+    (counted _ _ _ _ _ _ _ _ (omega (arith, c .before .before .before .before .before .if2 .left))
+    (no-room _ _ _ _ _ _ _ _ _ (c .before .before .before .before .wide32 .ensures .0) (select-end _ _ _ _ _ (c .before .before .before .path-size .ensures .0)) (c .before .before .wide322 .ensures .0) (c .before .if3 .taken)))
 
 wide16-requires : tie.Need-wide16-requires
 wide16-requires c κs = search needs
@@ -83,8 +83,8 @@ unfolding Ops.select Plan.select Plan.u16
 returns-4 c = λ lv tg p.
     let a = c .before .before .before .before .before .before .before .before .before .before .before .before .before .before .before .before .before .before .before .before .before .args in
     not-over _ _ _ (c .before .before .before .before .before .before .before .before .before .before .before .before .before .before .before .before .before .before .before .if1 .left)
-    (counted _ _ _ _ _ _ _ (omega (arith, c .before .before .before .before .before .before .before .before .before .before .before .before .before .before .before .before .before .if2 .left))
-    (appended _ _ _ _ _ _ _ _ (c .before .before .before .before .before .before .before .before .before .before .before .before .before .before .before .before .wide32 .ensures .0) (select-end _ _ (a .address .0) (a .disc) _ (c .before .before .before .before .before .before .before .before .before .before .before .before .before .before .before .path-size .ensures .0)) (c .before .before .before .before .before .before .before .before .before .before .before .before .before .before .wide322 .ensures .0) _ (c .before .before .before .before .before .before .before .before .before .before .before .before .before .if3 .left)
+    (counted _ _ _ _ _ _ _ _ (omega (arith, c .before .before .before .before .before .before .before .before .before .before .before .before .before .before .before .before .before .if2 .left))
+    (appended _ _ _ _ _ _ _ _ _ (c .before .before .before .before .before .before .before .before .before .before .before .before .before .before .before .before .wide32 .ensures .0) (select-end _ _ (a .address .0) (a .disc) _ (c .before .before .before .before .before .before .before .before .before .before .before .before .before .before .before .path-size .ensures .0)) (c .before .before .before .before .before .before .before .before .before .before .before .before .before .before .wide322 .ensures .0) _ (c .before .before .before .before .before .before .before .before .before .before .before .before .before .if3 .left)
     (next _ _ _ _ _ _ _ (next _ _ _ _ _ _ _ (word-is _ _ _ _ _ (c .before .before .before .before .before .before .before .before .before .before .put16 .ensures) (c .before .before .before .before .before .before .before .before .before .before .before .wide16 .ensures)) (c .before .before .before .before .before .before .put-path .ensures .2) refl) (c .before .before .put32 .ensures) (omega (arith, c .before .before .before .before .before .before .put-path .ensures .0)))))
 
 pub select-spec : {M : Type 1} → statement M

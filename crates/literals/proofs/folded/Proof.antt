@@ -1,62 +1,42 @@
-use native.Mathlib.Omega.{arith}
-use lib.ListN.{replicate}
 use Rattle.rules.proofs.Sound.{passed-all}
 use Rattle.accepted_file.proofs.Ranges.{nodes-lower}
-use Rattle.resolve.proofs.Chains.{not-filled, passed-within}
-use Rattle.literals.proofs.Chains.{chain-is}
+use Rattle.literals.proofs.Seen.{folded-other}
 use borrow.Author.Needs.{needs}
 use Rattle.literals.proofs.folded.Statement.{statement}
 use Rattle.literals.proofs.folded.Tie as tie
 use Rattle.literals.proofs.folded.Reads as reads
 use Rattle.literals.proofs.folded.Lts as lts
-use Rattle.literals.proofs.climb.Reads as climb-reads
-use Rattle.literals.proofs.folded_long.Reads as folded-long-reads
+use Rattle.literals.proofs.folded_read.Reads as folded-read-reads
 use Rattle.literals.proofs.leaf_const.Reads as leaf-const-reads
-use Rattle.resolve.proofs.descend.Reads as descend-reads
+use Rattle.views.proofs.node_of.Reads as node-of-reads
 
-slice-aggregate-descend : tie.Need-slice-aggregate-descend
-slice-aggregate-descend c = search needs
+node-of-requires : tie.Need-node-of-requires
+node-of-requires c κs = search needs
 
-descend-requires : tie.Need-descend-requires
-descend-requires c κs = search needs
+enum-known-x : tie.Need-enum-known-x
+enum-known-x c = search needs
 
-folded-long-requires : tie.Need-folded-long-requires
-folded-long-requires c κs = search needs
-
-returns : tie.Need-returns
-returns c = search needs
+folded-read-requires : tie.Need-folded-read-requires
+folded-read-requires c κs = search needs
 
 leaf-const-requires : tie.Need-leaf-const-requires
 leaf-const-requires c κs = search needs
 
-slice-aggregate-climb : tie.Need-slice-aggregate-climb
-slice-aggregate-climb c = search needs
-
-climb-requires : tie.Need-climb-requires
-climb-requires c κs =
-    let s = c .before .before .before .before .before .before .before .before .before in
-    let low = nodes-lower _ (passed-all _ (s .pre .accepted)) in
-    let d = c .before .before .before .before .before .descend .ensures in
-    let f = not-filled _ (replicate 8 0) (s .args .node) d (c .before .before .if1 .left) in
-    (s .pre .indexed, passed-within _ low (replicate 8 0) (s .args .node) d f)
+returns : tie.Need-returns
+returns c = search needs
 
 returns-2 : tie.Need-returns-2
 returns-2 c =
-    let s = c .before .before .before .before .before .before .before .before .before .before in
-    let low = nodes-lower _ (passed-all _ (s .pre .accepted)) in
-    let d = c .before .before .before .before .before .before .descend .ensures in
-    let f = not-filled _ (replicate 8 0) (s .args .node) d (c .before .before .before .if1 .left) in
-    chain-is _ low (replicate 8 0) (s .args .node) d f _ _ (c .before .before .leaf-const .ensures) (c .climb .ensures)
+    let s = c .before .before .before .before .before .pre in
+    folded-other _ _ _ _ (c .before .before .node-of .ensures .0) (nodes-lower _ (passed-all _ (s .accepted))) (c .before .match .keys2) _ (c .leaf-const .ensures)
 
 pub folded-spec : {M : Type 1} → statement M
 folded-spec =
     tie.close
     (tie.spec
-    slice-aggregate-descend
-    descend-requires
-    folded-long-requires
-    returns
+    node-of-requires
+    enum-known-x
+    folded-read-requires
     leaf-const-requires
-    slice-aggregate-climb
-    climb-requires
+    returns
     returns-2)

@@ -6,7 +6,7 @@ use Rattle.page.proofs.join_parts.Statement.{statement}
 use Rattle.page.proofs.join_parts.Tie as tie
 use Rattle.page.proofs.join_parts.Reads as reads
 use Rattle.page.proofs.join_parts.Lts as lts
-use Rattle.page.proofs.word_in.Reads as word-in-reads
+use Rattle.records.proofs.word_in.Reads as word-in-reads
 use Rattle.plan_lists.proofs.copy_run.Reads as copy-run-reads
 
 abbrev Inv-loop : tie.InvT-loop

@@ -29,6 +29,7 @@ use Rattle.lists.proofs.lookup.Reads as lookup-reads
 use Rattle.paths.proofs.FieldPath.payload.Reads as payload-reads
 use Rattle.paths.proofs.FieldPath.then.Reads as then-reads
 use Rattle.resolve.proofs.resolve.Reads as resolve-reads
+use Rattle.tables.proofs.is_quiet.Reads as is-quiet-reads
 use Rattle.walk.proofs.Walk.closer.Reads as closer-reads
 use Rattle.walk.proofs.Walk.diagnose.Reads as diagnose-reads
 use Rattle.walk.proofs.Walk.listed.Reads as listed-reads
@@ -82,4 +83,4 @@ abbrev pub matched-claims : ℕ → matched-lts.Claims
 matched-claims t = (meet-reads.Asked, meet-reads.Learnt, known-reads.Asked, known-reads.Learnt, is-nothing-reads.Asked, is-nothing-reads.Learnt, partial-below t, partial.Post, narrow-reads.Asked, narrow-reads.Learnt)
 
 abbrev pub partial-claims : ℕ → partial-lts.Claims
-partial-claims t = (pieces-reads.Asked, pieces-reads.Learnt, skip-reads.Asked, skip-reads.Learnt, piece-at-reads.Asked, piece-at-reads.Learnt, then-reads.Asked, then-reads.Learnt, field-below t, field.Post)
+partial-claims t = (pieces-reads.Asked, pieces-reads.Learnt, skip-reads.Asked, skip-reads.Learnt, is-quiet-reads.Asked, is-quiet-reads.Learnt, piece-at-reads.Asked, piece-at-reads.Learnt, then-reads.Asked, then-reads.Learnt, field-below t, field.Post)

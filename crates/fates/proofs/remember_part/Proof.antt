@@ -1,0 +1,90 @@
+use mathlib.Core.Path.{_≡_, refl, sym, ap, _∙_}
+use native.Mathlib.Omega.{arith}
+use Rattle.file.specs.Tables.{tablesOf}
+use borrow.Author.Tests.{not-true, not-false}
+use Rattle.rules.proofs.Literals.{constant-in}
+use Rattle.accepted_file.proofs.Given.{few-nodes}
+use Rattle.fates.proofs.Parts.{parent-constant, part-full, part-no, part-row}
+use borrow.Author.Needs.{needs}
+use Rattle.fates.proofs.remember_part.Statement.{statement}
+use Rattle.fates.proofs.remember_part.Tie as tie
+use Rattle.fates.proofs.remember_part.Reads as reads
+use Rattle.fates.proofs.remember_part.Lts as lts
+use Rattle.fates.proofs.is_parent.Reads as is-parent-reads
+use Rattle.fates.proofs.put_row.Reads as put-row-reads
+
+-- src/lib.rt:216:9
+returns : tie.Need-returns
+returns c = part-full _ _ _ _ (c .if1 .taken)
+
+-- src/lib.rt:218:9
+is-parent-requires : tie.Need-is-parent-requires
+is-parent-requires c κs = search needs
+
+-- src/lib.rt:219:9
+returns-2 : tie.Need-returns-2
+returns-2 c = part-no _ _ _ _ (sym (c .before .is-parent .ensures) ∙ not-true _ (c .if2 .taken))
+
+-- src/lib.rt:221:5
+put-row-requires : tie.Need-put-row-requires
+put-row-requires c κs =
+    let p = c .before .before .before .before .before .before .before .pre in
+    (p .0, (parent-constant _ _ (sym (c .before .before .is-parent .ensures) ∙ not-false _ (c .before .if2 .left)), (c .before .before .before .if1 .left, p .1)))
+
+-- src/lib.rt:222:26
+add-long : tie.Need-add-long
+add-long c = search needs
+
+-- src/lib.rt:222:25
+cast-long : tie.Need-cast-long
+cast-long c = search needs
+
+-- src/lib.rt:222:10
+add-long-2 : tie.Need-add-long-2
+add-long-2 c =
+    let p = c .before .before .before .before .before .before .before .before .before .before .pre in
+    let k = constant-in _ _ (parent-constant _ _ (sym (c .before .before .before .before .before .is-parent .ensures) ∙ not-false _ (c .before .before .before .before .if2 .left))) in
+    omega (arith, few-nodes _ _ (p .0 .indexed), k)
+
+-- src/lib.rt:222:5
+mul-long : tie.Need-mul-long
+mul-long c =
+    let p = c .before .before .before .before .before .before .before .before .before .before .pre in
+    let k = constant-in _ _ (parent-constant _ _ (sym (c .before .before .before .before .before .is-parent .ensures) ∙ not-false _ (c .before .before .before .before .if2 .left))) in
+    omega (arith, few-nodes _ _ (p .0 .indexed), k)
+
+-- src/lib.rt:222:5
+slice-write-long : tie.Need-slice-write-long
+slice-write-long c =
+    let p = c .before .before .before .before .before .before .before .before .before .before .pre in
+    let k = constant-in _ _ (parent-constant _ _ (sym (c .before .before .before .before .before .is-parent .ensures) ∙ not-false _ (c .before .before .before .before .if2 .left))) in
+    omega (arith, few-nodes _ _ (p .0 .indexed), k, p .1, c .before .before .put-row .kept .1 .1 .0)
+
+-- src/lib.rt:223:5
+add-result : tie.Need-add-result
+add-result c = search needs
+
+-- src/lib.rt:207:1
+same-length : tie.Need-same-length
+same-length c = search needs
+
+-- src/lib.rt:207:1
+returns-3 : tie.Need-returns-3
+returns-3 c = part-row _ _ _ _ (c .before .before .before .before .before .before .if1 .left) (sym (c .before .before .before .before .before .is-parent .ensures) ∙ not-false _ (c .before .before .before .before .if2 .left)) _ (c .before .before .put-row .ensures)
+
+pub remember-part-spec : {M : Type 1} → statement M
+remember-part-spec =
+    tie.close
+    (tie.spec
+    returns
+    is-parent-requires
+    returns-2
+    put-row-requires
+    add-long
+    cast-long
+    add-long-2
+    mul-long
+    slice-write-long
+    add-result
+    same-length
+    returns-3)
