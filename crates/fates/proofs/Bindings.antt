@@ -24,7 +24,8 @@ use Rattle.tables.specs.declared.Run.the-variants as Ru
 use Rattle.tables.specs.declared.MaybeSlotView.the-variants as Ms
 use Rattle.tables.proofs.Searches.{last-slot, const-is, const-not}
 use Rattle.accepted_file.specs.Fates.{rowsBase, fatesBase, rowWords, longLength}
-use Rattle.fates.specs.Rows.{rowOf, withRow, constRecord, withBinding, withBindings, remembering, anyRecord}
+use Rattle.fates.specs.Rows.{constRecord, Kept, kept, withPart, withBinding, withBindings, anyRecord}
+use Rattle.fates.proofs.Parts.{indexSize, part-length}
 
 -- a Const's Record, as the code sees it
 module _ (f : List ℕ) (T : Tables) (b : Binding) (v : BindingView) (s : SeenBinding f b v) where
@@ -90,58 +91,59 @@ module _ (T : Tables) where
     unfolding anyRecord
     searched-all h = sym (s .is ∙ ap (anyRecord T) (none-left (drop k (T .bindings)) (omega (arith, length-drop k (T .bindings)))))
 
--- a row more or less leaves the length
-pub binding-length : (T : Tables) (k : ℕ) (b : Binding) (lx : List ℕ) → length (withBinding T k b lx) ≡ length lx
-unfolding withBinding withRow
-binding-length T k b lx = go (constRecord T b)
+-- one binding
+module _ (T : Tables) (b : Binding) (s : Kept) where
+  pub binding-none : none ≡ constRecord T b → s ≡ withBinding T b s
+  unfolding withBinding
+  binding-none e = ap (λ (o : Option ℕ). elim o [ none ↦ s | some n ↦ withPart T n s ]) e
+
+  pub binding-part : (n : ℕ) → some n ≡ constRecord T b → withPart T n s ≡ withBinding T b s
+  unfolding withBinding
+  binding-part n e = ap (λ (o : Option ℕ). elim o [ none ↦ s | some m ↦ withPart T m s ]) e
+
+binding-length : (T : Tables) (b : Binding) (s : Kept) → length (withBinding T b s .index) ≡ length (s .index)
+unfolding withBinding
+binding-length T b s = go (constRecord T b)
   where
-    go : (o : Option ℕ) → length {A = ℕ} (elim o [ none ↦ lx | some n ↦ withRow T n k lx ]) ≡ length lx
+    go : (o : Option ℕ) → indexSize (elim o [ none ↦ s | some n ↦ withPart T n s ]) ≡ length (s .index)
     go none = refl
-    go (some n) = length-set (sets lx (fatesBase + rowWords * k) (rowOf T n)) (rowsBase + n) (k + 1) ∙ length-sets lx (fatesBase + rowWords * k) (rowOf T n)
+    go (some n) = part-length T n s
 
--- the first k are remembered in lx, which began as sx
-pub record Remembers (T : Tables) (sx lx : List ℕ) (k : ℕ) : Type 0 where
-  pub low : k ≤ length (T .bindings)
-  pub long : length lx ≡ longLength
-  pub is : withBindings T 0 (T .bindings) sx ≡ withBindings T k (drop k (T .bindings)) lx
+bindings-length : (T : Tables) (bs : List Binding) (s : Kept) → length (withBindings T bs s .index) ≡ length (s .index)
+unfolding withBindings
+bindings-length T [] s = refl
+bindings-length T (b ∷ bs) s = bindings-length T bs (withBinding T b s) ∙ binding-length T b s
 
-module _ (T : Tables) (sx : List ℕ) where
-  pub remembers-none : length sx ≡ longLength → Remembers T sx sx 0
+-- the first b bindings are remembered, from s₀ on
+pub record Remembers (T : Tables) (s₀ s : Kept) (b : ℕ) : Type 0 where
+  pub low : b ≤ length (T .bindings)
+  pub long : length (s .index) ≡ longLength
+  pub is : withBindings T (T .bindings) s₀ ≡ withBindings T (drop b (T .bindings)) s
+
+module _ (T : Tables) (s₀ : Kept) where
+  pub remembers-none : length (s₀ .index) ≡ longLength → Remembers T s₀ s₀ 0
   remembers-none l = record { low = omega arith; long = l; is = refl }
 
-  module _ (lx : List ℕ) (k : ℕ) (R : Remembers T sx lx k) where
-    pub remembers-more : k < length (T .bindings) → (jx : List ℕ) → jx ≡ withBinding T k (bindingAt T k) lx → Remembers T sx jx (k + 1)
+  module _ (s : Kept) (b : ℕ) (R : Remembers T s₀ s b) where
+    pub remembers-more : b < length (T .bindings) → (r : Kept) → r ≡ withBinding T (bindingAt T b) s → Remembers T s₀ r (b + 1)
     unfolding withBindings bindingAt
-    remembers-more h jx e =
+    remembers-more h r e =
         record {
           low = omega arith;
-          long = ap length e ∙ binding-length T k (bindingAt T k) lx ∙ R .long;
+          long = ap (λ (x : Kept). length (x .index)) e ∙ binding-length T (bindingAt T b) s ∙ R .long;
           is =
-              R .is ∙ ap (λ (bs : List Binding). withBindings T k bs lx) (drop-cons (T .bindings) k _ h)
-              ∙ ap (λ (i : ℕ). withBindings T (k + 1) (drop i (T .bindings)) (withBinding T k (bindingAt T k) lx)) (sym (add-one k))
-              ∙ ap (withBindings T (k + 1) (drop (k + 1) (T .bindings))) (sym e);
+              R .is ∙ ap (λ (bs : List Binding). withBindings T bs s) (drop-cons (T .bindings) b _ h)
+              ∙ ap (withBindings T (drop (suc b) (T .bindings))) (sym e)
+              ∙ ap (λ (i : ℕ). withBindings T (drop i (T .bindings)) r) (sym (add-one b));
         }
 
-    pub remembers-all : length (T .bindings) ≤ k → lx ≡ withBindings T 0 (T .bindings) sx
+    pub remembers-all : length (T .bindings) ≤ b → s ≡ withBindings T (T .bindings) s₀
     unfolding withBindings
-    remembers-all h = sym (R .is ∙ ap (λ (bs : List Binding). withBindings T k bs lx) (none-left (drop k (T .bindings)) (omega (arith, length-drop k (T .bindings)))))
+    remembers-all h = sym (R .is ∙ ap (λ (bs : List Binding). withBindings T bs s) (none-left (drop b (T .bindings)) (omega (arith, length-drop b (T .bindings)))))
 
-pub bindings-length : (T : Tables) (bs : List Binding) (k : ℕ) (lx : List ℕ) → length (withBindings T k bs lx) ≡ length lx
-unfolding withBindings
-bindings-length T [] k lx = refl
-bindings-length T (b ∷ bs) k lx = bindings-length T bs (k + 1) (withBinding T k b lx) ∙ binding-length T k b lx
-
+-- the index in front
 pub front-length : (ix long sx : List ℕ) → sx ≡ sets long 0 ix → length long ≡ longLength → length sx ≡ longLength
 front-length ix long sx e l = ap length e ∙ length-sets long 0 ix ∙ l
 
--- one binding
-module _ (T : Tables) (k : ℕ) (b : Binding) (lx : List ℕ) where
-  pub binding-none : none ≡ constRecord T b → lx ≡ withBinding T k b lx
-  unfolding withBinding
-  binding-none e = ap (λ (o : Option ℕ). elim o [ none ↦ lx | some n ↦ withRow T n k lx ]) e
-
-  pub binding-row : (n : ℕ) → some n ≡ constRecord T b → (rx : List ℕ) → rx ≡ sets lx (fatesBase + rowWords * k) (rowOf T n) → set rx (rowsBase + n) (k + 1) ≡ withBinding T k b lx
-  unfolding withBinding withRow
-  binding-row n e rx q =
-      ap (λ (r : List ℕ). set r (rowsBase + n) (k + 1)) q
-      ∙ ap (λ (o : Option ℕ). elim o [ none ↦ lx | some m ↦ withRow T m k lx ]) e
+pub bound-long : (T : Tables) (fx sx : List ℕ) (k : ℕ) → kept k sx ≡ withBindings T (T .bindings) (kept 0 fx) → length fx ≡ longLength → length sx ≡ longLength
+bound-long T fx sx k e l = ap (λ (x : Kept). length (x .index)) e ∙ bindings-length T (T .bindings) (kept 0 fx) ∙ l

@@ -23,8 +23,7 @@ use Rattle.tables.specs.declared.Run.{Run}
 use Rattle.tables.specs.declared.Run.the-variants as Ru
 use Rattle.accepted_file.specs.Fates.{rowsBase, fatesBase, rowWords, longLength}
 use Rattle.field_cases.specs.Pieces.{patternsOf}
-use Rattle.fates.proofs.Bindings.{bindings-length}
-use Rattle.fates.specs.Rows.{rowLimit, rowOf, withRow, withBindings, Kept, kept, isParent, withPart, withParts, withHeld, withNodes, remembering}
+use Rattle.fates.specs.Rows.{rowLimit, rowOf, withRow, withBindings, Kept, kept, isParent, rowless, withPart, withParts, withHeld, withNodes, remembering}
 
 none-left : {A : Type 0} (l : List A) → length l ≤ 0 → l ≡ []
 none-left [] h = refl
@@ -88,26 +87,30 @@ module _ (T : Tables) (n k : ℕ) (lx : List ℕ) where
 
   pub part-full : rowLimit ≤ k → kept k lx ≡ withPart T n (kept k lx)
   unfolding withPart
-  part-full h = sym (ap by-test (ap (λ (a : Bool). both a (isParent T n)) (le-ltb k rowLimit h)))
+  part-full h = sym (ap by-test (ap (λ (a : Bool). both a (both (isParent T n) (rowless n (kept k lx)))) (le-ltb k rowLimit h)))
 
   pub part-no : isParent T n ≡ false → kept k lx ≡ withPart T n (kept k lx)
   unfolding withPart
-  part-no e = sym (ap by-test (both-no (ltb k rowLimit) (isParent T n) e))
+  part-no e = sym (ap by-test (both-no (ltb k rowLimit) (both (isParent T n) (rowless n (kept k lx))) (ap (λ (a : Bool). both a (rowless n (kept k lx))) e)))
 
-  pub part-row : k < rowLimit → isParent T n ≡ true → (rx : List ℕ) → rx ≡ sets lx (fatesBase + rowWords * k) (rowOf T n) → kept (k + 1) (set rx (rowsBase + n) (k + 1)) ≡ withPart T n (kept k lx)
-  unfolding withPart withRow
-  part-row h e rx q =
+  pub part-has : (getD lx (rowsBase + n) 0 ≡ 0 → ⊥) → kept k lx ≡ withPart T n (kept k lx)
+  unfolding withPart rowless
+  part-has e = sym (ap by-test (both-no (ltb k rowLimit) (both (isParent T n) (rowless n (kept k lx))) (both-no (isParent T n) (rowless n (kept k lx)) (ne-eqb _ _ e))))
+
+  pub part-row : k < rowLimit → isParent T n ≡ true → getD lx (rowsBase + n) 0 ≡ 0 → (rx : List ℕ) → rx ≡ sets lx (fatesBase + rowWords * k) (rowOf T n) → kept (k + 1) (set rx (rowsBase + n) (k + 1)) ≡ withPart T n (kept k lx)
+  unfolding withPart withRow rowless
+  part-row h e z rx q =
       ap (λ (r : List ℕ). kept (k + 1) (set r (rowsBase + n) (k + 1))) q
-      ∙ sym (ap by-test (ap₂ both (lt-ltb k rowLimit h) e))
+      ∙ sym (ap by-test (ap₂ both (lt-ltb k rowLimit h) (ap₂ both e (eq-eqb _ _ z))))
 
-abbrev indexLength : Kept → ℕ
-indexLength s = length (s .index)
+abbrev pub indexSize : Kept → ℕ
+indexSize s = length (s .index)
 
-part-length : (T : Tables) (n : ℕ) (s : Kept) → length (withPart T n s .index) ≡ length (s .index)
+pub part-length : (T : Tables) (n : ℕ) (s : Kept) → length (withPart T n s .index) ≡ length (s .index)
 unfolding withPart withRow
-part-length T n s = go (both (ltb (s .next) rowLimit) (isParent T n))
+part-length T n s = go (both (ltb (s .next) rowLimit) (both (isParent T n) (rowless n s)))
   where
-    go : (b : Bool) → indexLength (elim b [ true ↦ kept (s .next + 1) (withRow T n (s .next) (s .index)) | false ↦ s ]) ≡ length (s .index)
+    go : (b : Bool) → indexSize (elim b [ true ↦ kept (s .next + 1) (withRow T n (s .next) (s .index)) | false ↦ s ]) ≡ length (s .index)
     go true = length-set (sets (s .index) (fatesBase + rowWords * s .next) (rowOf T n)) (rowsBase + n) (s .next + 1) ∙ length-sets (s .index) (fatesBase + rowWords * s .next) (rowOf T n)
     go false = refl
 
@@ -146,12 +149,12 @@ parts-none T fs s e = sym (ap (λ (l : List FieldPattern). withParts T l s) e)
 -- one node
 module _ (T : Tables) (n : ℕ) (s : Kept) where
   pub held-none : getD (s .index) (rowsBase + n) 0 ≡ 0 → s ≡ withHeld T n s
-  unfolding withHeld
-  held-none e = sym (pick (eqb (getD (s .index) (rowsBase + n) 0) 0) true s (withParts T (patternsOf T n) s) (eq-eqb _ _ e))
+  unfolding withHeld rowless
+  held-none e = sym (pick (rowless n s) true s (withParts T (patternsOf T n) s) (eq-eqb _ _ e))
 
   pub held-parts : (getD (s .index) (rowsBase + n) 0 ≡ 0 → ⊥) → withParts T (patternsOf T n) s ≡ withHeld T n s
-  unfolding withHeld
-  held-parts e = sym (pick (eqb (getD (s .index) (rowsBase + n) 0) 0) false s (withParts T (patternsOf T n) s) (ne-eqb _ _ e))
+  unfolding withHeld rowless
+  held-parts e = sym (pick (rowless n s) false s (withParts T (patternsOf T n) s) (ne-eqb _ _ e))
 
 parts-length : (T : Tables) (fs : List FieldPattern) (s : Kept) → length (withParts T fs s .index) ≡ length (s .index)
 unfolding withParts
@@ -160,29 +163,29 @@ parts-length T (f ∷ fs) s = parts-length T fs (withPart T (f .node) s) ∙ par
 
 held-length : (T : Tables) (n : ℕ) (s : Kept) → length (withHeld T n s .index) ≡ length (s .index)
 unfolding withHeld
-held-length T n s = go (eqb (getD (s .index) (rowsBase + n) 0) 0)
+held-length T n s = go (rowless n s)
   where
-    go : (b : Bool) → indexLength (elim b [ true ↦ s | false ↦ withParts T (patternsOf T n) s ]) ≡ length (s .index)
+    go : (b : Bool) → indexSize (elim b [ true ↦ s | false ↦ withParts T (patternsOf T n) s ]) ≡ length (s .index)
     go true = refl
     go false = parts-length T (patternsOf T n) s
 
--- all nodes, those from n on done
-pub record Held (T : Tables) (sx lx : List ℕ) (k n : ℕ) : Type 0 where
+-- all nodes, those from n on done, from s₀ on
+pub record Held (T : Tables) (s₀ : Kept) (lx : List ℕ) (k n : ℕ) : Type 0 where
   pub low : n ≤ length (T .nodes)
   pub long : length lx ≡ longLength
-  pub is : withNodes T (length (T .nodes)) (kept (length (T .bindings)) sx) ≡ withNodes T n (kept k lx)
+  pub is : withNodes T (length (T .nodes)) s₀ ≡ withNodes T n (kept k lx)
 
-module _ (T : Tables) (sx : List ℕ) where
-  pub held-first : (k n : ℕ) → length sx ≡ longLength → k ≡ length (T .bindings) → n ≡ length (T .nodes) → Held T sx sx k n
-  held-first k n l e q =
+module _ (T : Tables) where
+  pub held-first : (k n : ℕ) (sx : List ℕ) → length sx ≡ longLength → n ≡ length (T .nodes) → Held T (kept k sx) sx k n
+  held-first k n sx l q =
       record {
         low = omega arith;
         long = l;
-        is = ap₂ (λ (m b : ℕ). withNodes T m (kept b sx)) (sym q) (sym e);
+        is = ap (λ (m : ℕ). withNodes T m (kept k sx)) (sym q);
       }
 
-  module _ (lx : List ℕ) (k n : ℕ) (H : Held T sx lx k n) where
-    pub held-more : 0 < n → (r : ℕ) (jx : List ℕ) → kept r jx ≡ withHeld T (n - 1) (kept k lx) → Held T sx jx r (n - 1)
+  module _ (s₀ : Kept) (lx : List ℕ) (k n : ℕ) (H : Held T s₀ lx k n) where
+    pub held-more : 0 < n → (r : ℕ) (jx : List ℕ) → kept r jx ≡ withHeld T (n - 1) (kept k lx) → Held T s₀ jx r (n - 1)
     unfolding withNodes
     held-more h r jx e =
         let m : n ≡ suc (n - 1) = omega arith in
@@ -192,15 +195,8 @@ module _ (T : Tables) (sx : List ℕ) where
           is = H .is ∙ ap (λ (i : ℕ). withNodes T i (kept k lx)) m ∙ ap (withNodes T (n - 1)) (sym e);
         }
 
-    pub held-all : n ≡ 0 → (ix long : List ℕ) → sx ≡ withBindings T 0 (T .bindings) (sets long 0 ix) → lx ≡ remembering T ix long
+    pub held-all : n ≡ 0 → (ix long fx : List ℕ) → fx ≡ sets long 0 ix → s₀ ≡ withBindings T (T .bindings) (kept 0 fx) → lx ≡ remembering T ix long
     unfolding withNodes remembering
-    held-all z ix long e =
+    held-all z ix long fx q e =
         sym (ap (λ (x : Kept). x .index) (H .is ∙ ap (λ (i : ℕ). withNodes T i (kept k lx)) z))
-        ∙ ap (λ (l : List ℕ). withNodes T (length (T .nodes)) (kept (length (T .bindings)) l) .index) e
-
--- the index in front, then the bindings
-pub bound-as : (T : Tables) (ix long fx sx : List ℕ) → fx ≡ sets long 0 ix → sx ≡ withBindings T 0 (T .bindings) fx → sx ≡ withBindings T 0 (T .bindings) (sets long 0 ix)
-bound-as T ix long fx sx e q = q ∙ ap (withBindings T 0 (T .bindings)) e
-
-pub bound-long : (T : Tables) (fx sx : List ℕ) → sx ≡ withBindings T 0 (T .bindings) fx → length fx ≡ longLength → length sx ≡ longLength
-bound-long T fx sx e l = ap length e ∙ bindings-length T (T .bindings) 0 fx ∙ l
+        ∙ ap (λ (x : Kept). withNodes T (length (T .nodes)) x .index) (e ∙ ap (λ (l : List ℕ). withBindings T (T .bindings) (kept 0 l)) q)

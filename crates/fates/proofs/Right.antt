@@ -25,13 +25,13 @@ use Rattle.file.proofs.Accepted.{sets-below, sets-in}
 use Rattle.accepted_file.specs.Fates.{fateBy, fate, digit, inRow, recalled, rowsBase, fatesBase, rowWords, longLength}
 use Rattle.accepted_file.specs.AcceptedFile.{AcceptedFile}
 use Rattle.accepted_file.proofs.Ranges.{ConstOk, bindings-const}
-use Rattle.accepted_file.proofs.Given.{passed, few-names, few-types, few-nodes, few-bindings}
+use Rattle.accepted_file.proofs.Given.{few-names, few-types, few-nodes}
 use Rattle.rules.specs.Base.{both}
 use Rattle.rules.proofs.Cases.{both-left, both-right, ltb-lt}
 use Rattle.rules.proofs.Literals.{constant-in}
 use Rattle.field_cases.specs.Pieces.{patternsOf}
 use Rattle.fates.specs.Rows.{packed, fateOr, wordOf, words, rowOf, withRow, constRecord, withBinding, withBindings, remembering}
-use Rattle.fates.specs.Rows.{rowLimit, Kept, kept, isParent, withPart, withParts, withHeld, withNodes}
+use Rattle.fates.specs.Rows.{rowLimit, Kept, kept, isParent, rowless, withPart, withParts, withHeld, withNodes}
 use Rattle.fates.proofs.Parts.{parent-constant}
 use Rattle.fates.proofs.Packed.{digit-packed, word-at, words-length}
 
@@ -60,23 +60,6 @@ or-small T n t = go (ltb t (length (T .types)))
     go true = fate-small T n t
     go false = omega arith
 
--- the node of a Const that is a Record is a constant
-pub const-is : (T : Tables) (b : Binding) (m : ℕ) → ConstOk T (b .slot) → constRecord T b ≡ some m → (m < length (T .nodes)) × (isConstant T m ≡ true)
-unfolding constRecord constNode
-const-is T b m c e = go (b .slot) c e
-  where
-    by-record : (n : ℕ) (o : Option (List FieldPattern)) → (n < length (T .nodes)) × (isConstant T n ≡ true) → _≡_ {A = Option ℕ} (elim o [ none ↦ none | some fields ↦ some n ]) (some m) → (m < length (T .nodes)) × (isConstant T m ≡ true)
-    by-record n none k q = absurd (some≢none m (sym q))
-    by-record n (some fields) k q = subst (λ (x : ℕ). (x < length (T .nodes)) × (isConstant T x ≡ true)) (some-injective n m q) k
-
-    go : (slot : Slot) → ConstOk T slot → _≡_ {A = Option ℕ} (elim (constNode slot) [ none ↦ none | some n ↦ elim (recordFields (nodeAt T n)) [ none ↦ none | some fields ↦ some n ] ]) (some m) → (m < length (T .nodes)) × (isConstant T m ≡ true)
-    go (Slot.Row a p) k q = absurd (some≢none m (sym q))
-    go (Slot.Key a t) k q = absurd (some≢none m (sym q))
-    go (Slot.Derived a) k q = absurd (some≢none m (sym q))
-    go (Slot.Field a p t) k q = absurd (some≢none m (sym q))
-    go (Slot.Value a t) k q = absurd (some≢none m (sym q))
-    go (Slot.Const n) k q = by-record n (recordFields (nodeAt T n)) k q
-
 -- lx has index ix in front; its rows are numbered below k, and what it remembers is so
 pub record Right (T : Tables) (ix lx : List ℕ) (k : ℕ) : Type 0 where
   pub long : length lx ≡ longLength
@@ -98,9 +81,6 @@ module _ (T : Tables) (ix : List ℕ) (few-t : length (T .types) ≤ typeLimit) 
       }
 
   module _ (lx : List ℕ) (k : ℕ) (R : Right T ix lx k) where
-    pub right-same : Right T ix lx (k + 1)
-    right-same = record { long = R .long; front = R .front; rows = λ n g. let e = R .rows n g in omega arith; right = R .right }
-
     module _ (m : ℕ) (in-nodes : m < length (T .nodes)) (few-k : k < bindingLimit) where
       abbrev base : ℕ
       base = fatesBase + rowWords * k
@@ -190,22 +170,6 @@ module _ (T : Tables) (ix : List ℕ) (few-t : length (T .types) ≤ typeLimit) 
             right = λ n t d h u e. by-node n t d (eqb n m) refl h u e;
           }
 
-    -- one binding more
-    pub right-binding : (b : Binding) → ConstOk T (b .slot) → k < bindingLimit → Right T ix (withBinding T k b lx) (k + 1)
-    unfolding withBinding
-    right-binding b c h = go (constRecord T b) refl
-      where
-        go : (o : Option ℕ) → constRecord T b ≡ o → Right T ix (elim o [ none ↦ lx | some n ↦ withRow T n k lx ]) (k + 1)
-        go none e = right-same
-        go (some m) e = right-row m (const-is T b m c e .0) h
-
-  -- all bindings
-  right-all : {bs : List Binding} → Each (λ b. ConstOk T (b .slot)) bs → (lx : List ℕ) (k : ℕ) → k + length bs ≤ bindingLimit → Right T ix lx k → Right T ix (withBindings T k bs lx) (k + length bs)
-  unfolding withBindings
-  right-all done lx k h R = subst (Right T ix lx) (omega arith) R
-  right-all (more {x = b} {xs = bs} c cs) lx k h R =
-      subst (Right T ix (withBindings T (k + 1) bs (withBinding T k b lx))) (omega arith) (right-all cs (withBinding T k b lx) (k + 1) (omega arith) (right-binding lx k R b c (omega arith)))
-
 -- the parts of what has a row
 abbrev RightKept : Tables → List ℕ → Kept → Type 0
 RightKept T ix s = Right T ix (s .index) (s .next)
@@ -213,12 +177,12 @@ RightKept T ix s = Right T ix (s .index) (s .next)
 module _ (T : Tables) (ix : List ℕ) (few-t : length (T .types) ≤ typeLimit) (few-n : length (T .nodes) ≤ nodeLimit) where
   right-part : (n : ℕ) (s : Kept) → RightKept T ix s → RightKept T ix (withPart T n s)
   unfolding withPart
-  right-part n s R = go (both (ltb (s .next) rowLimit) (isParent T n)) refl
+  right-part n s R = go (both (ltb (s .next) rowLimit) (both (isParent T n) (rowless n s))) refl
     where
-      go : (b : Bool) → both (ltb (s .next) rowLimit) (isParent T n) ≡ b → RightKept T ix (elim b [ true ↦ kept (s .next + 1) (withRow T n (s .next) (s .index)) | false ↦ s ])
+      go : (b : Bool) → both (ltb (s .next) rowLimit) (both (isParent T n) (rowless n s)) ≡ b → RightKept T ix (elim b [ true ↦ kept (s .next + 1) (withRow T n (s .next) (s .index)) | false ↦ s ])
       go true e =
-          right-row T ix few-t few-n (s .index) (s .next) R n (constant-in T n (parent-constant T n (both-right (ltb (s .next) rowLimit) (isParent T n) e)))
-          (ltb-lt (s .next) rowLimit (both-left (ltb (s .next) rowLimit) (isParent T n) e))
+          right-row T ix few-t few-n (s .index) (s .next) R n (constant-in T n (parent-constant T n (both-left (isParent T n) (rowless n s) (both-right (ltb (s .next) rowLimit) _ e))))
+          (ltb-lt (s .next) rowLimit (both-left (ltb (s .next) rowLimit) _ e))
       go false e = R
 
   right-parts : (fs : List FieldPattern) (s : Kept) → RightKept T ix s → RightKept T ix (withParts T fs s)
@@ -228,11 +192,24 @@ module _ (T : Tables) (ix : List ℕ) (few-t : length (T .types) ≤ typeLimit) 
 
   right-held : (n : ℕ) (s : Kept) → RightKept T ix s → RightKept T ix (withHeld T n s)
   unfolding withHeld
-  right-held n s R = go (eqb (getD (s .index) (rowsBase + n) 0) 0)
+  right-held n s R = go (rowless n s)
     where
       go : (b : Bool) → RightKept T ix (elim b [ true ↦ s | false ↦ withParts T (patternsOf T n) s ])
       go true = R
       go false = right-parts (patternsOf T n) s R
+
+  right-binding : (b : Binding) (s : Kept) → RightKept T ix s → RightKept T ix (withBinding T b s)
+  unfolding withBinding
+  right-binding b s R = go (constRecord T b)
+    where
+      go : (o : Option ℕ) → RightKept T ix (elim o [ none ↦ s | some n ↦ withPart T n s ])
+      go none = R
+      go (some n) = right-part n s R
+
+  right-bindings : (bs : List Binding) (s : Kept) → RightKept T ix s → RightKept T ix (withBindings T bs s)
+  unfolding withBindings
+  right-bindings [] s R = R
+  right-bindings (b ∷ bs) s R = right-bindings bs (withBinding T b s) (right-binding b s R)
 
   right-nodes : (n : ℕ) (s : Kept) → RightKept T ix s → RightKept T ix (withNodes T n s)
   unfolding withNodes
@@ -259,17 +236,14 @@ module _ (f ix zeros : List ℕ) (a : AcceptedFile f ix) (short : length ix ≡ 
   lx = remembering T ix zeros
 
   abbrev bound : Kept
-  bound = kept (length (T .bindings)) (withBindings T 0 (T .bindings) (sets zeros 0 ix))
-
-  bound-right : RightKept T ix bound
-  bound-right =
-      subst (Right T ix (bound .index)) (zero-add (length (T .bindings)))
-      (right-all T ix (few-types f ix (a .indexed)) (few-nodes f ix (a .indexed)) (bindings-const T (passed f ix a)) (sets zeros 0 ix) 0 (omega (arith, few-bindings f ix (a .indexed)))
-      (right-none T ix (few-types f ix (a .indexed)) (few-nodes f ix (a .indexed)) zeros short long none-set))
+  bound = withBindings T (T .bindings) (kept 0 (sets zeros 0 ix))
 
   all-right : Right T ix lx (withNodes T (length (T .nodes)) bound .next)
   unfolding remembering
-  all-right = right-nodes T ix (few-types f ix (a .indexed)) (few-nodes f ix (a .indexed)) (length (T .nodes)) bound bound-right
+  all-right =
+      let t = few-types f ix (a .indexed) in
+      let n = few-nodes f ix (a .indexed) in
+      right-nodes T ix t n (length (T .nodes)) bound (right-bindings T ix t n (T .bindings) (kept 0 (sets zeros 0 ix)) (right-none T ix t n zeros short long none-set))
 
   long-indexed : Indexed f lx
   unfolding baseOf limitOf
@@ -310,11 +284,6 @@ module _ (f ix zeros : List ℕ) (a : AcceptedFile f ix) (short : length ix ≡ 
 pub short-recalls : (T : Tables) (ix : List ℕ) → length ix ≡ indexLength → (n t d : ℕ) → recalled ix n t ≡ some d → d ≡ fate T n t
 unfolding recalled inRow
 short-recalls T ix l n t d e = absurd (some≢none d (sym e ∙ ap (λ (r : ℕ). inRow ix r t) (List·getD-eq-default ix 0 {n = rowsBase + n} (omega arith))))
-
--- the Record that a binding of an accepted file is a Const of
-pub binding-const : (f ix : List ℕ) → AcceptedFile f ix → (k n : ℕ) → k < length (tablesOf f .bindings) → some n ≡ constRecord (tablesOf f) (bindingAt (tablesOf f) k) → (n < length (tablesOf f .nodes)) × (isConstant (tablesOf f) n ≡ true)
-unfolding bindingAt
-binding-const f ix a k n h e = const-is (tablesOf f) (bindingAt (tablesOf f) k) n (each-at (bindings-const (tablesOf f) (passed f ix a)) k _ h) (sym e)
 
 zero-at : (n i : ℕ) → _≡_ {A = ℕ} (getD (replicate n 0) i 0) 0
 zero-at zero i = refl

@@ -51,15 +51,6 @@ unfoldable pub constRecord : Tables → Binding → Option ℕ
 constRecord T b =
     elim (constNode (b .slot)) [ none ↦ none | some n ↦ elim (recordFields (nodeAt T n)) [ none ↦ none | some fields ↦ some n ] ]
 
--- with what is remembered of a binding that has number k
-unfoldable pub withBinding : Tables → ℕ → Binding → List ℕ → List ℕ
-withBinding T k b ix = elim (constRecord T b) [ none ↦ ix | some n ↦ withRow T n k ix ]
-
--- with what is remembered of bindings, the first of which has number k
-unfoldable pub withBindings : Tables → ℕ → List Binding → List ℕ → List ℕ
-withBindings T k [] ix = ix
-withBindings T k (b ∷ bs) ix = withBindings T (k + 1) bs (withBinding T k b ix)
-
 -- the index, and the number of its next row
 pub record Kept : Type 0 where
   pub next : ℕ
@@ -72,10 +63,25 @@ kept next index = record { next = next; index = index }
 unfoldable pub isParent : Tables → ℕ → Bool
 isParent T n = elim (recordFields (nodeAt T n)) [ none ↦ false | some fields ↦ both (isConstant T n) (ltb 0 (length fields)) ]
 
--- with the row of a part of a constant, while there are rows left
+-- whether a node has no row yet
+unfoldable pub rowless : ℕ → Kept → Bool
+rowless n s = eqb (getD (s .index) (rowsBase + n) 0) 0
+
+-- with the row of a Record that is constant, if it has none yet and while there are rows left
 unfoldable pub withPart : Tables → ℕ → Kept → Kept
 withPart T n s =
-    elim (both (ltb (s .next) rowLimit) (isParent T n)) [ true ↦ kept (s .next + 1) (withRow T n (s .next) (s .index)) | false ↦ s ]
+    elim (both (ltb (s .next) rowLimit) (both (isParent T n) (rowless n s))) [
+      | true ↦ kept (s .next + 1) (withRow T n (s .next) (s .index))
+      | false ↦ s
+    ]
+
+-- with the row of a binding's Record
+unfoldable pub withBinding : Tables → Binding → Kept → Kept
+withBinding T b s = elim (constRecord T b) [ none ↦ s | some n ↦ withPart T n s ]
+
+unfoldable pub withBindings : Tables → List Binding → Kept → Kept
+withBindings T [] s = s
+withBindings T (b ∷ bs) s = withBindings T bs (withBinding T b s)
 
 unfoldable pub withParts : Tables → List FieldPattern → Kept → Kept
 withParts T [] s = s
@@ -83,7 +89,7 @@ withParts T (f ∷ fs) s = withParts T fs (withPart T (f .node) s)
 
 -- with the rows of a node's parts, if it has a row itself
 unfoldable pub withHeld : Tables → ℕ → Kept → Kept
-withHeld T n s = elim (eqb (getD (s .index) (rowsBase + n) 0) 0) [ true ↦ s | false ↦ withParts T (patternsOf T n) s ]
+withHeld T n s = elim (rowless n s) [ true ↦ s | false ↦ withParts T (patternsOf T n) s ]
 
 -- the same for all nodes below n, the last first: a part is lower than what holds it
 unfoldable pub withNodes : Tables → ℕ → Kept → Kept
@@ -93,7 +99,7 @@ withNodes T (suc n) s = withNodes T n (withHeld T n s)
 -- A longer index, with the index in front: the rows of all bindings, then those of their parts.
 unfoldable pub remembering : Tables → List ℕ → List ℕ → List ℕ
 remembering T ix long =
-    withNodes T (length (T .nodes)) (kept (length (T .bindings)) (withBindings T 0 (T .bindings) (sets long 0 ix))) .index
+    withNodes T (length (T .nodes)) (withBindings T (T .bindings) (kept 0 (sets long 0 ix))) .index
 
 -- whether any of these bindings is a Const that is a Record
 unfoldable pub anyRecord : Tables → List Binding → Bool

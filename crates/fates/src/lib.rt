@@ -1,5 +1,5 @@
-// What each Record that a name is bound to as a Const comes to at each type, remembered in an index that is longer: it is asked for again and
-// again, and never changes.
+// What each Record that a name is bound to as a Const comes to at each type, and each Record in it, remembered in an index that is longer:
+// it is asked for again and again, and never changes.
 ghost use mathlib.Core.Path.{_≡_};
 ghost use mathlib.Core.Bool.{true};
 ghost use Prim.Native.Nat.{ℕ, _+_, _*_, _≤_, _<_};
@@ -160,22 +160,6 @@ fn const_record(file: &[u8], index: &[u16], k: usize) -> Found
     }
 }
 
-// What is remembered of binding k.
-fn remember_binding(file: &[u8], index: &[u16], long: &mut [u16], k: usize)
-    requires { ⌜ AcceptedFile (now file) (now index) ⌝ }
-    requires { ⌜ k < length (tablesOf (now file) .bindings) ⌝ }
-    requires { ⌜ length (now long) ≡ longLength ⌝ }
-    ensures { λ _. ⌜ (
-        let T = tablesOf (now (file .entry)) in
-        now (long .exit) ≡ withBinding T k (bindingAt T k) (now (long .entry))
-        ) ⌝ }
-{
-    if let Found::Just(n) = const_record(file, index, k) {
-        put_row(file, index, long, n, k);
-        long[ROWS + n] = (k + 1) as u16;
-    }
-}
-
 // The index, in front of a longer one.
 fn put_index(index: &[u16], long: &mut [u16])
     requires { ⌜ (length (now index) ≡ indexLength) × (length (now long) ≡ longLength) ⌝ }
@@ -203,7 +187,7 @@ fn is_parent(file: &[u8], index: &[u16], node: usize) -> bool
     }
 }
 
-// The row of a part of a constant, as row k, while there are rows left; the number of the next row.
+// The row of a Record that is constant, as row k, if it has none yet and while there are rows left; the number of the next row.
 fn remember_part(file: &[u8], index: &[u16], long: &mut [u16], node: usize, k: usize) -> usize
     requires { ⌜ AcceptedFile (now file) (now index) ⌝ }
     requires { ⌜ length (now long) ≡ longLength ⌝ }
@@ -216,6 +200,9 @@ fn remember_part(file: &[u8], index: &[u16], long: &mut [u16], node: usize, k: u
         return k;
     }
     if !is_parent(file, index, node) {
+        return k;
+    }
+    if wide16(long[ROWS + node]) != 0 {
         return k;
     }
     put_row(file, index, long, node, k);
@@ -260,21 +247,39 @@ fn remember_held(file: &[u8], index: &[u16], long: &mut [u16], node: usize, k: u
     remember_parts(file, index, long, node, k)
 }
 
-// What is remembered of all bindings.
-fn remember_bindings(file: &[u8], index: &[u16], long: &mut [u16])
+// The row of binding b's Record, if it is a Const of one.
+fn remember_binding(file: &[u8], index: &[u16], long: &mut [u16], b: usize, k: usize) -> usize
+    requires { ⌜ AcceptedFile (now file) (now index) ⌝ }
+    requires { ⌜ (b < length (tablesOf (now file) .bindings)) × (length (now long) ≡ longLength) ⌝ }
+    ensures { λ r. ⌜ (
+        let T = tablesOf (now (file .entry)) in
+        kept r (now (long .exit)) ≡ withBinding T (bindingAt T b) (kept k (now (long .entry)))
+        ) ⌝ }
+{
+    if let Found::Just(n) = const_record(file, index, b) {
+        remember_part(file, index, long, n, k)
+    } else {
+        k
+    }
+}
+
+// The rows of all bindings.
+fn remember_bindings(file: &[u8], index: &[u16], long: &mut [u16]) -> usize
     requires { ⌜ AcceptedFile (now file) (now index) ⌝ }
     requires { ⌜ length (now long) ≡ longLength ⌝ }
-    ensures { λ _. ⌜ (
+    ensures { λ r. ⌜ (
         let T = tablesOf (now (file .entry)) in
-        now (long .exit) ≡ withBindings T 0 (T .bindings) (now (long .entry))
+        kept r (now (long .exit)) ≡ withBindings T (T .bindings) (kept 0 (now (long .entry)))
         ) ⌝ }
 {
     let n = count_of(file, index, BINDINGS);
     let mut k: usize = 0;
-    while k < n {
-        remember_binding(file, index, long, k);
-        k += 1;
+    let mut b: usize = 0;
+    while b < n {
+        k = remember_binding(file, index, long, b, k);
+        b += 1;
     }
+    k
 }
 
 // The index in a longer one, with what is remembered of all bindings and of the Records in them, the last node first: a part is lower than
@@ -288,8 +293,7 @@ pub fn remember(file: &[u8], index: &[u16], long: &mut [u16])
         ) ⌝ }
 {
     put_index(index, long);
-    remember_bindings(file, index, long);
-    let mut k = count_of(file, index, BINDINGS);
+    let mut k = remember_bindings(file, index, long);
     let mut n = count_of(file, index, NODES);
     while n > 0 {
         n -= 1;

@@ -3,6 +3,7 @@ use native.Mathlib.Omega.{arith}
 use borrow.Author.Needs.{needs}
 use Rattle.file.specs.Tables.{tablesOf}
 use Prim.Native.Nat.{_-_}
+use Rattle.fates.specs.Rows.{kept}
 use Rattle.fates.proofs.Bindings.{Remembers, remembers-none, remembers-more, remembers-all}
 use Rattle.fates.proofs.remember_bindings.Statement.{statement}
 use Rattle.fates.proofs.remember_bindings.Tie as tie
@@ -12,40 +13,40 @@ use Rattle.fates.proofs.remember_binding.Reads as remember-binding-read
 use Rattle.views.proofs.count_of.Reads as count-of-reads
 
 abbrev Inv-loop : tie.InvT-loop
-Inv-loop file index long₀ n k₀ long k = Remembers (tablesOf file) long₀ long k
+Inv-loop file index long₀ n k₀ b₀ long k b = Remembers (tablesOf file) (kept 0 long₀) (kept k long) b
 
 abbrev μ-loop : tie.MeasureT-loop
-μ-loop file index long₀ n k₀ long k = n - k
+μ-loop file index long₀ n k₀ b₀ long k b = n - b
 
--- src/lib.rt:272:9
+-- src/lib.rt:275:9
 count-of-requires : tie.Need-count-of-requires Inv-loop μ-loop
 count-of-requires c κs = search needs
 
--- src/lib.rt:274:5
+-- src/lib.rt:278:5
 loop-holds : tie.Need-loop-holds Inv-loop μ-loop
 loop-holds c = remembers-none _ _ (c .before .before .before .before .pre .1)
 
--- src/lib.rt:275:9
+-- src/lib.rt:279:9
 remember-binding-requires : tie.Need-remember-binding-requires Inv-loop μ-loop
 remember-binding-requires c κs = let v = c .before .before in (v .before .before .before .before .before .pre .0, (omega (arith, v .before .count-of .ensures, c .before .loop-test .taken), v .loop .inv .long))
 
--- src/lib.rt:276:9
-add-k : tie.Need-add-k Inv-loop μ-loop
-add-k c = search needs
+-- src/lib.rt:280:9
+add-b : tie.Need-add-b Inv-loop μ-loop
+add-b c = search needs
 
--- src/lib.rt:274:5
+-- src/lib.rt:278:5
 loop-less : tie.Need-loop-less Inv-loop μ-loop
 loop-less c = omega (arith, c .before .before .before .before .loop-test .taken)
 
--- src/lib.rt:274:5
+-- src/lib.rt:278:5
 loop-again : tie.Need-loop-again Inv-loop μ-loop
 loop-again c = let v = c .before .before .before .before .before in remembers-more _ _ _ _ (v .loop .inv) (omega (arith, v .before .count-of .ensures, c .before .before .before .before .loop-test .taken)) _ (c .before .before .remember-binding .ensures)
 
--- src/lib.rt:264:1
+-- src/lib.rt:267:1
 same-length : tie.Need-same-length Inv-loop μ-loop
 same-length c = c .before .loop .inv .long ∙ sym (c .before .before .before .before .before .before .pre .1)
 
--- src/lib.rt:264:1
+-- src/lib.rt:267:1
 returns : tie.Need-returns Inv-loop μ-loop
 returns c = remembers-all _ _ _ _ (c .before .loop .inv) (omega (arith, c .before .before .count-of .ensures, c .loop-test .left))
 
@@ -58,7 +59,7 @@ remember-bindings-spec =
     count-of-requires
     loop-holds
     remember-binding-requires
-    add-k
+    add-b
     loop-less
     loop-again
     same-length
