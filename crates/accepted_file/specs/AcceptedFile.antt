@@ -25,7 +25,8 @@ pub record AcceptedFile (f ix : List ℕ) : Type 0 where
   pub depths : (t : ℕ) → t < length (tablesOf f .types) → getD ix (depthsBase + t) 0 ≡ depth (tablesOf f) t
   pub constants : (n : ℕ) → n < length (tablesOf f .nodes) → getD ix (constantsBase + n) 0 ≡ flag (isConstant (tablesOf f) n)
   pub last-bindings : (x : ℕ) → x < length (tablesOf f .names) → getD ix (lastBindingsBase + x) 0 ≡ lastBinding (tablesOf f) x
-  pub remembered : (n t d : ℕ) → n < length (tablesOf f .nodes) → t < length (tablesOf f .types) → recalled ix n t ≡ some d → d ≡ fate (tablesOf f) n t
+  pub remembered : (n t d : ℕ) → n < length (tablesOf f .nodes) → t < length (tablesOf f .types) →
+      recalled ix n t ≡ some d → d ≡ fate (tablesOf f) n t
 
 -- "a measure of not-constant and node number falls": a constant stands below every node that is none, so that a Var's Const is lower
 unfoldable pub constantRank : Tables → ℕ → ℕ

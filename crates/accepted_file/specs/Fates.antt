@@ -46,8 +46,8 @@ fateBy true false false = fateQuiet
 unfoldable pub fate : Tables → ℕ → ℕ → ℕ
 fate T n t = fateBy (lacksBytes (constant T n t)) (broughtMeets T (meets T) n t) (heard T n t)
 
--- Where an index that remembers has it, past its other areas: for each node the number of its row + 1, or 0 if it has none; then the rows, one
--- for each binding that is a Const. A word of a row holds the fates at eight types, the first in the lowest two bits.
+-- Where an index that remembers has it, past its other areas: for each node the number of its row + 1, or 0 if it has none; then the rows.
+-- A word of a row holds the fates at eight types, the first in the lowest two bits.
 abbrev pub rowsBase : ℕ
 rowsBase = 7754
 

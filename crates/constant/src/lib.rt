@@ -16,6 +16,7 @@ ghost use Rattle.constant.specs.Has.{given, hasBytes, isBytes, RecordAt}
 ghost use Rattle.constant.specs.Plain.{leastByte, plain};
 ghost use Rattle.constant.specs.Sizes.{cap, sizeWith, Small, viewOf, constView, intOnly, strOnly, bytesAlone, sizeOf, wrapped, fieldBytes, payloadBytes, Patterns, Fields, Alternatives};
 use file::least;
+use tables::BYTES;
 use tables::Found;
 use tables::MaybeAlternative;
 use tables::alternative_of;
@@ -47,9 +48,6 @@ pub enum Size {
 
 // Longer than any plan: what is as long or longer counts as this long, so that no sum of lengths overflows.
 pub const CAP: usize = 65536;
-
-// The fate of a constant that has bytes, as the index remembers it.
-const BYTES: usize = 3;
 
 // The sum of two lengths, which stops at CAP.
 pub fn capped(a: usize, b: usize) -> usize
@@ -502,8 +500,8 @@ fn constant_of(file: &[u8], index: &[u16], node: usize, ty: usize, sure: bool) -
     }
 }
 
-// The bytes that a pattern determines at a type, if it determines all of them: where they come from, and how many they are. A Record is asked
-// first whether it has bytes at all, so that texts are looked through only where they are written.
+// The bytes that a pattern determines at a type, if it determines all of them: where they come from, and how many they are. A Record is
+// asked first whether it has bytes at all, so that only what has them is measured.
 pub fn constant(file: &[u8], index: &[u16], node: usize, ty: usize) -> Const
     requires { ⌜ AcceptedFile (now file) (now index) ⌝ }
     requires { ⌜ node < length (tablesOf (now file) .nodes) ⌝ }

@@ -7,31 +7,24 @@ use Rattle.compile.proofs.remembered.Lts as lts
 use Rattle.compile.proofs.accepted.Reads as accepted-reads
 use Rattle.fates.proofs.remember.Reads as remember-reads
 
--- src/lib.rt:71:27
 slice-aggregate-remember : tie.Need-slice-aggregate-remember
 slice-aggregate-remember c = search needs
 
--- src/lib.rt:71:5
 remember-requires : tie.Need-remember-requires
 remember-requires c κs = search needs
 
--- src/lib.rt:72:20
 slice-aggregate-accepted : tie.Need-slice-aggregate-accepted
 slice-aggregate-accepted c = search needs
 
--- src/lib.rt:72:5
 accepted-requires : tie.Need-accepted-requires
 accepted-requires c κs = let s = c .before .before .before .before .before .before .before .before .before .before in remembered-accepted _ _ _ (s .pre .0) (s .pre .1) (c .before .before .before .before .remember .ensures)
 
--- src/lib.rt:56:1
 same-length : tie.Need-same-length
 same-length c = search needs
 
--- src/lib.rt:56:1
 same-length-2 : tie.Need-same-length-2
 same-length-2 c = search needs
 
--- src/lib.rt:56:1
 returns : tie.Need-returns
 returns c = search needs
 

@@ -35,40 +35,32 @@ heard-Inv-loop file index node ty opened i₀ i = Going (heardBelow (tablesOf fi
 abbrev heard-μ-loop : heard-lts.MeasureT-loop
 heard-μ-loop file index node ty opened i₀ i = opened .count - i
 
--- src/lib.rt:46:9
 heard-pieces-requires : (t : ℕ) → heard-lts.Need-pieces-requires (heard-claims t) (heard-at t) heard.Post heard-Inv-loop heard-μ-loop
 heard-pieces-requires t c κs = c .before .before .pre .1
 
--- src/lib.rt:48:9
 heard-returns : (t : ℕ) → heard-lts.Need-returns (heard-claims t) (heard-at t) heard.Post heard-Inv-loop heard-μ-loop
 heard-returns t c = heard-none _ _ _ (omega (arith, c .if1 .taken, count-is _ _ _ _ _ (c .before .before .pieces .ensures .0)))
 
--- src/lib.rt:51:5
 heard-loop-holds : (t : ℕ) → heard-lts.Need-loop-holds (heard-claims t) (heard-at t) heard.Post heard-Inv-loop heard-μ-loop
 heard-loop-holds t c = going-first _ _ _ _
 
--- src/lib.rt:52:13
 heard-piece-at-requires : (t : ℕ) → heard-lts.Need-piece-at-requires (heard-claims t) (heard-at t) heard.Post heard-Inv-loop heard-μ-loop
 heard-piece-at-requires t c κs =
     let p = c .before .before .before .before .before .before .before .before .pre .1 in
     (p .0, (p .1, (c .before .before .before .before .before .pieces .ensures .0, c .if2 .taken)))
 
--- src/lib.rt:55:9
 heard-add-i : (t : ℕ) → heard-lts.Need-add-i (heard-claims t) (heard-at t) heard.Post heard-Inv-loop heard-μ-loop
 heard-add-i t c = omega (arith, c .before .if2 .taken, c .before .before .before .before .before .before .pieces .ensures .1)
 
--- src/lib.rt:56:28
 heard-enum-known-pattern : (t : ℕ) → heard-lts.Need-enum-known-pattern (heard-claims t) (heard-at t) heard.Post heard-Inv-loop heard-μ-loop
 heard-enum-known-pattern t c = search needs
 
--- src/lib.rt:57:16
 heard-heard-requires : (t : ℕ) → heard-lts.Need-heard-requires (heard-claims t) (heard-at t) heard.Post heard-Inv-loop heard-μ-loop
 heard-heard-requires t c κs =
     let s = c .before .before .before .before .before .before .before .before .before .before .before .before in
     let l = c .before .before .before .piece-at .ensures .lower in
     (omega (arith, l .lower, s .pre .0), (s .pre .1 .0, l .known))
 
--- src/lib.rt:58:17
 heard-returns-2 : (t : ℕ) → heard-lts.Need-returns-2 (heard-claims t) (heard-at t) heard.Post heard-Inv-loop heard-μ-loop
 heard-returns-2 t c =
     let v = c .before .before .before .before .before .before .before .before in
@@ -77,11 +69,9 @@ heard-returns-2 t c =
     (going-met _ _ _ _ _ (v .loop .inv) (omega (arith, c .before .before .before .before .before .before .if2 .taken, count-is _ _ _ _ _ (v .before .before .before .pieces .ensures .0))) _ k _ (c .before .before .before .pattern .given .1)
     (λ limit l. sym (c .if3 .taken) ∙ c .before .heard .ensures .is limit (omega (arith, k .lower .lower, l))))
 
--- src/lib.rt:51:5
 heard-loop-less : (t : ℕ) → heard-lts.Need-loop-less (heard-claims t) (heard-at t) heard.Post heard-Inv-loop heard-μ-loop
 heard-loop-less t c = omega (arith, c .before .before .before .before .before .before .if2 .taken)
 
--- src/lib.rt:51:5
 heard-loop-again : (t : ℕ) → heard-lts.Need-loop-again (heard-claims t) (heard-at t) heard.Post heard-Inv-loop heard-μ-loop
 heard-loop-again t c =
     let v = c .before .before .before .before .before .before .before .before in
@@ -92,17 +82,14 @@ heard-loop-again t c =
 heard-enum-told : (t : ℕ) → heard-lts.Need-enum-told (heard-claims t) (heard-at t) heard.Post heard-Inv-loop heard-μ-loop
 heard-enum-told t c = search needs
 
--- src/lib.rt:51:5
 heard-loop-less-2 : (t : ℕ) → heard-lts.Need-loop-less-2 (heard-claims t) (heard-at t) heard.Post heard-Inv-loop heard-μ-loop
 heard-loop-less-2 t c = omega (arith, c .before .before .before .if2 .taken)
 
--- src/lib.rt:51:5
 heard-loop-again-2 : (t : ℕ) → heard-lts.Need-loop-again-2 (heard-claims t) (heard-at t) heard.Post heard-Inv-loop heard-μ-loop
 heard-loop-again-2 t c =
     let v = c .before .before .before .before .before in
     going-missing _ _ _ _ _ (v .loop .inv) (omega (arith, c .before .before .before .if2 .taken, count-is _ _ _ _ _ (v .before .before .before .pieces .ensures .0))) _ (c .before .before .piece-at .ensures) (c .enum-told .given .1)
 
--- src/lib.rt:41:1
 heard-returns-3 : (t : ℕ) → heard-lts.Need-returns-3 (heard-claims t) (heard-at t) heard.Post heard-Inv-loop heard-μ-loop
 heard-returns-3 t c =
     let v = c .before .before in

@@ -18,42 +18,33 @@ Inv-loop file index n k₀ k = Searched (tablesOf file) k
 abbrev μ-loop : tie.MeasureT-loop
 μ-loop file index n k₀ k = n - k
 
--- src/lib.rt:208:9
 count-of-requires : tie.Need-count-of-requires Inv-loop μ-loop
 count-of-requires c κs = search needs
 
--- src/lib.rt:210:5
 loop-holds : tie.Need-loop-holds Inv-loop μ-loop
 loop-holds c = searched-none _
 
--- src/lib.rt:211:33
 const-record-requires : tie.Need-const-record-requires Inv-loop μ-loop
 const-record-requires c κs = (c .before .before .before .before .before .pre, omega (arith, c .before .before .count-of .ensures, c .loop-test .taken))
 
--- src/lib.rt:212:13
 enum-told : tie.Need-enum-told Inv-loop μ-loop
 enum-told c = search needs
 
--- src/lib.rt:212:13
 returns : tie.Need-returns Inv-loop μ-loop
 returns c = searched-found _ _ (c .before .before .before .before .loop .inv) (omega (arith, c .before .before .before .before .before .count-of .ensures, c .before .before .before .loop-test .taken)) _ (sym (ap foundOption (c .enum-told .given .1)) ∙ c .before .before .const-record .ensures)
 
 enum-told-2 : tie.Need-enum-told-2 Inv-loop μ-loop
 enum-told-2 c = search needs
 
--- src/lib.rt:214:9
 add-k : tie.Need-add-k Inv-loop μ-loop
 add-k c = search needs
 
--- src/lib.rt:210:5
 loop-less : tie.Need-loop-less Inv-loop μ-loop
 loop-less c = omega arith
 
--- src/lib.rt:210:5
 loop-again : tie.Need-loop-again Inv-loop μ-loop
 loop-again c = searched-more _ _ (c .before .before .before .before .loop .inv) (omega (arith, c .before .before .before .before .before .count-of .ensures, c .before .before .before .loop-test .taken)) (sym (ap foundOption (c .enum-told2 .given .1)) ∙ c .before .before .const-record .ensures)
 
--- src/lib.rt:201:1
 returns-2 : tie.Need-returns-2 Inv-loop μ-loop
 returns-2 c = searched-all _ _ (c .before .loop .inv) (omega (arith, c .before .before .count-of .ensures, c .loop-test .left))
 

@@ -7,35 +7,27 @@ use Rattle.fates.proofs.const_record.Lts as lts
 use Rattle.field_cases.proofs.pairs_of.Reads as pairs-of-reads
 use Rattle.views.proofs.binding_at.Reads as binding-at-reads
 
--- src/lib.rt:142:9
 binding-at-requires : tie.Need-binding-at-requires
 binding-at-requires c κs = search needs
 
--- src/lib.rt:144:25
 enum-known-s : tie.Need-enum-known-s
 enum-known-s c = search needs
 
--- src/lib.rt:145:9
 returns : tie.Need-returns
 returns c = no-const _ _ _ _ (c .before .binding-at .ensures .0) (c .match .keys2)
 
--- src/lib.rt:147:30
 pairs-of-requires : tie.Need-pairs-of-requires
 pairs-of-requires c κs = search needs
 
--- src/lib.rt:148:9
 enum-told : tie.Need-enum-told
 enum-told c = search needs
 
--- src/lib.rt:150:9
 enum-told-2 : tie.Need-enum-told-2
 enum-told-2 c = search needs
 
--- src/lib.rt:134:1
 returns-2 : tie.Need-returns-2
 returns-2 c = a-record _ _ _ _ (c .before .before .before .before .before .before .binding-at .ensures .0) _ (c .before .before .before .before .s .given .1) _ (c .before .before .pairs-of .ensures .0) _ _ (c .enum-told .given .1)
 
--- src/lib.rt:134:1
 returns-3 : tie.Need-returns-3
 returns-3 c = no-record _ _ _ _ (c .before .before .before .before .before .before .binding-at .ensures .0) _ (c .before .before .before .before .s .given .1) _ (c .before .before .pairs-of .ensures .0) (c .enum-told2 .given .1)
 

@@ -11,31 +11,24 @@ use Rattle.fates.proofs.heard.Reads as heard-reads
 use Rattle.literals.proofs.brought_meets.Reads as brought-meets-reads
 use Rattle.literals.proofs.lacks_bytes.Reads as lacks-bytes-reads
 
--- src/lib.rt:72:9
 lacks-bytes-requires : tie.Need-lacks-bytes-requires
 lacks-bytes-requires c κs = search needs
 
--- src/lib.rt:73:9
 returns : tie.Need-returns
 returns c = fate-bytes _ _ _ (sym (c .before .lacks-bytes .ensures) ∙ not-true _ (c .if1 .taken))
 
--- src/lib.rt:75:8
 brought-meets-requires : tie.Need-brought-meets-requires
 brought-meets-requires c κs = search needs
 
--- src/lib.rt:76:9
 returns-2 : tie.Need-returns-2
 returns-2 c = fate-met _ _ _ (sym (c .before .before .before .lacks-bytes .ensures) ∙ not-false _ (c .before .before .if1 .left)) (sym (c .before .brought-meets .ensures) ∙ c .if2 .taken)
 
--- src/lib.rt:78:8
 heard-requires : tie.Need-heard-requires
 heard-requires c κs = search needs
 
--- src/lib.rt:66:1
 returns-3 : tie.Need-returns-3
 returns-3 c = fate-heard _ _ _ (sym (c .before .before .before .before .before .lacks-bytes .ensures) ∙ not-false _ (c .before .before .before .before .if1 .left)) (sym (c .before .before .before .brought-meets .ensures) ∙ c .before .before .if2 .left) (c .before .before .before .before .before .before .before .before .pre .1 .1) _ (c .before .heard .ensures) (c .if3 .taken)
 
--- src/lib.rt:66:1
 returns-4 : tie.Need-returns-4
 returns-4 c = fate-quiet _ _ _ (sym (c .before .before .before .before .before .lacks-bytes .ensures) ∙ not-false _ (c .before .before .before .before .if1 .left)) (sym (c .before .before .before .brought-meets .ensures) ∙ c .before .before .if2 .left) (c .before .before .before .before .before .before .before .before .pre .1 .1) _ (c .before .heard .ensures) (c .if3 .left)
 

@@ -9,19 +9,15 @@ use Rattle.fates.proofs.fate_or.Lts as lts
 use Rattle.fates.proofs.fate.Reads as fate-reads
 use Rattle.views.proofs.count_of.Reads as count-of-reads
 
--- src/lib.rt:91:12
 count-of-requires : tie.Need-count-of-requires
 count-of-requires c κs = search needs
 
--- src/lib.rt:92:9
 fate-requires : tie.Need-fate-requires
 fate-requires c κs = let p = c .before .before .before .before .pre in (p .0, (p .1, omega (arith, c .before .count-of .ensures, c .if1 .taken)))
 
--- src/lib.rt:86:1
 returns : tie.Need-returns
 returns c = c .fate .ensures ∙ or-in _ _ _ (omega (arith, c .before .before .count-of .ensures, c .before .if1 .taken))
 
--- src/lib.rt:86:1
 returns-2 : tie.Need-returns-2
 returns-2 c = or-past _ _ _ (omega (arith, c .before .count-of .ensures, c .if1 .left))
 

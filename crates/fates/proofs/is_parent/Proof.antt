@@ -11,31 +11,24 @@ use Rattle.fates.proofs.is_parent.Lts as lts
 use Rattle.field_cases.proofs.pairs_of.Reads as pairs-of-reads
 use Rattle.resolve.proofs.constant_node.Reads as constant-node-reads
 
--- src/lib.rt:196:27
 pairs-of-requires : tie.Need-pairs-of-requires
 pairs-of-requires c κs = search needs
 
--- src/lib.rt:196:19
 enum-known-n : tie.Need-enum-known-n
 enum-known-n c = search needs
 
--- src/lib.rt:197:9
 enum-told : tie.Need-enum-told
 enum-told c = search needs
 
--- src/lib.rt:197:9
 returns : tie.Need-returns
 returns c = no-parent _ _ _ _ (c .before .before .pairs-of .ensures .0) (c .enum-told .given .1)
 
--- src/lib.rt:199:8
 constant-node-requires : tie.Need-constant-node-requires
 constant-node-requires c κs = search needs
 
--- src/lib.rt:192:1
 returns-2 : tie.Need-returns-2
 returns-2 c = parent-if _ _ _ _ (c .before .before .before .before .before .pairs-of .ensures .0) _ _ (c .before .before .before .n .given .1) (length-run _ _ _ _) _ refl (sym (c .before .constant-node .ensures) ∙ c .if1 .taken)
 
--- src/lib.rt:192:1
 returns-3 : tie.Need-returns-3
 returns-3 c = parent-not _ _ _ _ (c .before .before .before .before .before .pairs-of .ensures .0) _ _ (c .before .before .before .n .given .1) (sym (c .before .constant-node .ensures) ∙ c .if1 .left)
 

@@ -17,43 +17,33 @@ Inv-loop index long₀ i₀ long i = (length long ≡ longLength) × (sets long�
 abbrev μ-loop : tie.MeasureT-loop
 μ-loop index long₀ i₀ long i = length index - i
 
--- src/lib.rt:176:5
 loop-holds : tie.Need-loop-holds Inv-loop μ-loop
 loop-holds c = (c .pre .1, refl)
 
--- src/lib.rt:177:19
 mul-long : tie.Need-mul-long Inv-loop μ-loop
 mul-long c = search needs
 
--- src/lib.rt:177:19
 shared-slice-read-long : tie.Need-shared-slice-read-long Inv-loop μ-loop
 shared-slice-read-long c = search needs
 
--- src/lib.rt:177:9
 mul-long-2 : tie.Need-mul-long-2 Inv-loop μ-loop
 mul-long-2 c = search needs
 
--- src/lib.rt:177:9
 slice-write-long : tie.Need-slice-write-long Inv-loop μ-loop
 slice-write-long c = let p = c .before .before .before .pre in omega (arith, p .0, c .before .before .loop .inv .0, c .before .loop-test .taken)
 
--- src/lib.rt:178:9
 add-i : tie.Need-add-i Inv-loop μ-loop
 add-i c = search needs
 
--- src/lib.rt:176:5
 loop-less : tie.Need-loop-less Inv-loop μ-loop
 loop-less c = omega (arith, c .before .loop-test .taken)
 
--- src/lib.rt:176:5
 loop-again : tie.Need-loop-again Inv-loop μ-loop
 loop-again c = (simp length-set (c .before .before .loop .inv .0), front-more _ _ _ _ (c .before .loop-test .taken) (c .before .before .loop .inv .1))
 
--- src/lib.rt:171:1
 same-length : tie.Need-same-length Inv-loop μ-loop
 same-length c = c .before .loop .inv .0 ∙ sym (c .before .before .pre .1)
 
--- src/lib.rt:171:1
 returns : tie.Need-returns Inv-loop μ-loop
 returns c = front-all _ _ _ _ (c .loop-test .left) (c .before .loop .inv .1)
 

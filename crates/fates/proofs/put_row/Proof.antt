@@ -20,55 +20,42 @@ Inv-loop file index long₀ node k at q₀ long q = (length long ≡ longLength)
 abbrev μ-loop : tie.MeasureT-loop
 μ-loop file index long₀ node k at q₀ long q = 64 - q
 
--- src/lib.rt:124:22
 mul-at : tie.Need-mul-at Inv-loop μ-loop
 mul-at c = omega arith
 
--- src/lib.rt:124:14
 add-at : tie.Need-add-at Inv-loop μ-loop
 add-at c = omega arith
 
--- src/lib.rt:126:5
 loop-holds : tie.Need-loop-holds Inv-loop μ-loop
 loop-holds c = (c .before .before .before .pre .1 .1 .1, row-none _ _ _ 0 refl)
 
--- src/lib.rt:127:13
 word-requires : tie.Need-word-requires Inv-loop μ-loop
 word-requires c κs = let p = c .before .before .before .before .before .pre in (p .0, (p .1 .0, omega arith))
 
--- src/lib.rt:128:24
 cast-long : tie.Need-cast-long Inv-loop μ-loop
 cast-long c = omega (arith, c .word .ensures .1)
 
--- src/lib.rt:128:14
 add-long : tie.Need-add-long Inv-loop μ-loop
 add-long c = let l = c .before .before .before .before .before .before .pre .1 .1 .0 in omega (arith, l, c .before .loop-test .taken)
 
--- src/lib.rt:128:9
 mul-long : tie.Need-mul-long Inv-loop μ-loop
 mul-long c = let l = c .before .before .before .before .before .before .pre .1 .1 .0 in omega (arith, l, c .before .loop-test .taken)
 
--- src/lib.rt:128:9
 slice-write-long : tie.Need-slice-write-long Inv-loop μ-loop
 slice-write-long c = let l = c .before .before .before .before .before .before .pre .1 .1 .0 in omega (arith, l, c .before .loop-test .taken, c .before .before .loop .inv .0)
 
--- src/lib.rt:129:9
 add-q : tie.Need-add-q Inv-loop μ-loop
 add-q c = omega (arith, c .before .loop-test .taken)
 
--- src/lib.rt:126:5
 loop-less : tie.Need-loop-less Inv-loop μ-loop
 loop-less c = omega (arith, c .before .loop-test .taken)
 
--- src/lib.rt:126:5
 loop-again : tie.Need-loop-again Inv-loop μ-loop
 loop-again c = (simp length-set (c .before .before .loop .inv .0), row-more _ _ _ _ _ _ (c .before .loop-test .taken) (c .word .ensures .0) (c .before .before .loop .inv .1))
 
--- src/lib.rt:115:1
 same-length : tie.Need-same-length Inv-loop μ-loop
 same-length c = c .before .loop .inv .0 ∙ sym (c .before .before .before .before .before .pre .1 .1 .1)
 
--- src/lib.rt:115:1
 returns : tie.Need-returns Inv-loop μ-loop
 unfolding rowOf
 returns c = row-all _ _ _ _ _ (c .loop-test .left) (c .before .loop .inv .1)

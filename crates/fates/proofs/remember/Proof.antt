@@ -21,45 +21,35 @@ Inv-loop file index long₀ k₀ n₀ long k n = Held (tablesOf file) (kept k₀
 abbrev μ-loop : tie.MeasureT-loop
 μ-loop file index long₀ k₀ n₀ long k n = n
 
--- src/lib.rt:295:5
 put-index-requires : tie.Need-put-index-requires Inv-loop μ-loop
 put-index-requires c κs = c .before .before .before .before .pre .1
 
--- src/lib.rt:296:9
 remember-bindings-requires : tie.Need-remember-bindings-requires Inv-loop μ-loop
 remember-bindings-requires c κs = let s = c .before .before .before .before .before .before .before .before in (s .pre .0, front-length (now (s .args .index)) (now (s .args .long)) _ (c .before .before .before .put-index .ensures) (s .pre .1 .1))
 
--- src/lib.rt:297:9
 count-of-requires : tie.Need-count-of-requires Inv-loop μ-loop
 count-of-requires c κs = search needs
 
--- src/lib.rt:298:5
 loop-holds : tie.Need-loop-holds Inv-loop μ-loop
 loop-holds c =
     let s = c .before .before .before .before .before .before .before .before .before .before .before .before in
     held-first _ _ _ _ (bound-long _ _ _ _ (c .before .before .before .remember-bindings .ensures) (front-length (now (s .args .index)) (now (s .args .long)) _ (c .before .before .before .before .before .before .before .put-index .ensures) (s .pre .1 .1))) (c .count-of .ensures)
 
--- src/lib.rt:299:9
 sub-n : tie.Need-sub-n Inv-loop μ-loop
 sub-n c = omega arith
 
--- src/lib.rt:300:9
 remember-held-requires : tie.Need-remember-held-requires Inv-loop μ-loop
 remember-held-requires c κs = let v = c .before .before in (v .before .before .before .before .before .before .before .before .before .before .before .before .before .pre .0, (omega (arith, v .loop .inv .low, c .before .loop-test .taken), v .loop .inv .long))
 
--- src/lib.rt:298:5
 loop-less : tie.Need-loop-less Inv-loop μ-loop
 loop-less c = omega (arith, c .before .before .before .before .loop-test .taken)
 
--- src/lib.rt:298:5
 loop-again : tie.Need-loop-again Inv-loop μ-loop
 loop-again c = let v = c .before .before .before .before .before in held-more _ _ _ _ _ (v .loop .inv) (c .before .before .before .before .loop-test .taken) _ _ (c .before .before .remember-held .ensures)
 
--- src/lib.rt:287:1
 same-length : tie.Need-same-length Inv-loop μ-loop
 same-length c = c .before .loop .inv .long ∙ sym (c .before .before .before .before .before .before .before .before .before .before .before .before .before .before .pre .1 .1)
 
--- src/lib.rt:287:1
 returns : tie.Need-returns Inv-loop μ-loop
 returns c =
     let s = c .before .before .before .before .before .before .before .before .before .before .before .before .before .before in

@@ -11,31 +11,24 @@ use Rattle.fates.proofs.remember_binding.Lts as lts
 use Rattle.fates.proofs.const_record.Reads as const-record-reads
 use Rattle.fates.proofs.remember_part.Reads as remember-part-reads
 
--- src/lib.rt:259:29
 const-record-requires : tie.Need-const-record-requires
 const-record-requires c κs = search needs
 
--- src/lib.rt:259:24
 enum-known-n : tie.Need-enum-known-n
 enum-known-n c = search needs
 
--- src/lib.rt:260:9
 remember-part-requires : tie.Need-remember-part-requires
 remember-part-requires c κs = search needs
 
--- src/lib.rt:262:9
 enum-told : tie.Need-enum-told
 enum-told c = search needs
 
--- src/lib.rt:251:1
 same-length : tie.Need-same-length
 same-length c = search needs
 
--- src/lib.rt:251:1
 returns : tie.Need-returns
 returns c = c .before .before .remember-part .ensures ∙ binding-part _ _ _ _ (sym (ap foundOption (c .before .before .before .before .before .n .given .1)) ∙ c .before .before .before .before .before .before .before .const-record .ensures)
 
--- src/lib.rt:251:1
 returns-2 : tie.Need-returns-2
 returns-2 c = binding-none _ _ _ (sym (ap foundOption (c .enum-told .given .1)) ∙ c .before .before .const-record .ensures)
 

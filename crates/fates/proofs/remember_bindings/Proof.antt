@@ -18,35 +18,27 @@ Inv-loop file index long₀ n k₀ b₀ long k b = Remembers (tablesOf file) (ke
 abbrev μ-loop : tie.MeasureT-loop
 μ-loop file index long₀ n k₀ b₀ long k b = n - b
 
--- src/lib.rt:275:9
 count-of-requires : tie.Need-count-of-requires Inv-loop μ-loop
 count-of-requires c κs = search needs
 
--- src/lib.rt:278:5
 loop-holds : tie.Need-loop-holds Inv-loop μ-loop
 loop-holds c = remembers-none _ _ (c .before .before .before .before .pre .1)
 
--- src/lib.rt:279:9
 remember-binding-requires : tie.Need-remember-binding-requires Inv-loop μ-loop
 remember-binding-requires c κs = let v = c .before .before in (v .before .before .before .before .before .pre .0, (omega (arith, v .before .count-of .ensures, c .before .loop-test .taken), v .loop .inv .long))
 
--- src/lib.rt:280:9
 add-b : tie.Need-add-b Inv-loop μ-loop
 add-b c = search needs
 
--- src/lib.rt:278:5
 loop-less : tie.Need-loop-less Inv-loop μ-loop
 loop-less c = omega (arith, c .before .before .before .before .loop-test .taken)
 
--- src/lib.rt:278:5
 loop-again : tie.Need-loop-again Inv-loop μ-loop
 loop-again c = let v = c .before .before .before .before .before in remembers-more _ _ _ _ (v .loop .inv) (omega (arith, v .before .count-of .ensures, c .before .before .before .before .loop-test .taken)) _ (c .before .before .remember-binding .ensures)
 
--- src/lib.rt:267:1
 same-length : tie.Need-same-length Inv-loop μ-loop
 same-length c = c .before .loop .inv .long ∙ sym (c .before .before .before .before .before .before .pre .1)
 
--- src/lib.rt:267:1
 returns : tie.Need-returns Inv-loop μ-loop
 returns c = remembers-all _ _ _ _ (c .before .loop .inv) (omega (arith, c .before .before .count-of .ensures, c .loop-test .left))
 

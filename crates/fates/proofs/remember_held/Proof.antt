@@ -12,35 +12,27 @@ use Rattle.fates.proofs.remember_held.Lts as lts
 use Rattle.fates.proofs.remember_parts.Reads as remember-parts-reads
 use Rattle.file.proofs.wide16.Reads as wide16-reads
 
--- src/lib.rt:257:20
 add-wide16 : tie.Need-add-wide16
 add-wide16 c = let p = c .before .before .before .pre in omega (arith, few-nodes _ _ (p .0 .indexed), p .1 .0)
 
--- src/lib.rt:257:15
 mul-wide16 : tie.Need-mul-wide16
 mul-wide16 c = let p = c .before .before .before .pre in omega (arith, few-nodes _ _ (p .0 .indexed), p .1 .0)
 
--- src/lib.rt:257:15
 slice-read-wide16 : tie.Need-slice-read-wide16
 slice-read-wide16 c = let p = c .before .before .before .before .pre in omega (arith, few-nodes _ _ (p .0 .indexed), p .1 .0, p .1 .1)
 
--- src/lib.rt:257:8
 wide16-requires : tie.Need-wide16-requires
 wide16-requires c κs = search needs
 
--- src/lib.rt:258:9
 returns : tie.Need-returns
 returns c = held-none _ _ _ (sym (c .before .wide16 .ensures) ∙ c .if1 .taken)
 
--- src/lib.rt:260:5
 remember-parts-requires : tie.Need-remember-parts-requires
 remember-parts-requires c κs = search needs
 
--- src/lib.rt:249:1
 same-length : tie.Need-same-length
 same-length c = search needs
 
--- src/lib.rt:249:1
 returns-2 : tie.Need-returns-2
 returns-2 c = c .before .before .remember-parts .ensures ∙ held-parts _ _ _ (λ e. c .before .before .before .before .if1 .left (c .before .before .before .before .before .wide16 .ensures ∙ e))
 

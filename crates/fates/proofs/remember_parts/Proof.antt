@@ -28,43 +28,33 @@ Inv-loop file index long₀ node k n at next₀ i₀ long next i = Parted (table
 abbrev μ-loop : tie.MeasureT-loop
 μ-loop file index long₀ node k n at next₀ i₀ long next i = n - i
 
--- src/lib.rt:235:28
 pairs-of-requires : tie.Need-pairs-of-requires Inv-loop μ-loop
 pairs-of-requires c κs = search needs
 
--- src/lib.rt:235:19
 enum-known-n : tie.Need-enum-known-n Inv-loop μ-loop
 enum-known-n c = search needs
 
--- src/lib.rt:236:9
 enum-told : tie.Need-enum-told Inv-loop μ-loop
 enum-told c = search needs
 
--- src/lib.rt:236:9
 returns : tie.Need-returns Inv-loop μ-loop
 returns c = parts-none _ _ _ (no-patterns _ _ _ _ (c .before .before .pairs-of .ensures .0) (c .enum-told .given .1))
 
--- src/lib.rt:240:5
 loop-holds : tie.Need-loop-holds Inv-loop μ-loop
 loop-holds c = parted-none _ _ _ (c .before .before .before .before .before .before .before .pre .1)
 
--- src/lib.rt:241:13
 field-pattern-at-requires : tie.Need-field-pattern-at-requires Inv-loop μ-loop
 field-pattern-at-requires c κs = let v = c .before in omega (arith, c .loop-test .taken, run-inside _ _ _ _ _ (v .before .before .before .before .pairs-of .ensures .0) _ _ (v .before .before .n .given .1))
 
--- src/lib.rt:242:9
 remember-part-requires : tie.Need-remember-part-requires Inv-loop μ-loop
 remember-part-requires c κs = let v = c .before .before .before in (v .before .before .before .before .before .before .before .before .pre .0, v .loop .inv .long)
 
--- src/lib.rt:243:9
 add-i : tie.Need-add-i Inv-loop μ-loop
 add-i c = omega (arith, c .before .before .before .before .before .loop-test .taken)
 
--- src/lib.rt:240:5
 loop-less : tie.Need-loop-less Inv-loop μ-loop
 loop-less c = omega (arith, c .before .before .before .before .before .loop-test .taken)
 
--- src/lib.rt:240:5
 loop-again : tie.Need-loop-again Inv-loop μ-loop
 loop-again c =
     let v = c .before .before .before .before .before .before in
@@ -72,11 +62,9 @@ loop-again c =
     let e = v .before .before .n .given .1 in
     parted-more _ _ _ _ _ (v .loop .inv) (omega (arith, c .before .before .before .before .before .loop-test .taken, patterns-count _ _ _ _ p _ _ e)) noPattern _ (pattern-node _ _ _ _ p _ _ e _ noPattern _ (c .before .before .before .before .before .loop-test .taken) (c .before .before .before .before .field-pattern-at .ensures)) _ (c .before .before .remember-part .ensures)
 
--- src/lib.rt:227:1
 same-length : tie.Need-same-length Inv-loop μ-loop
 same-length c = c .before .loop .inv .long ∙ sym (c .before .before .before .before .before .before .before .before .before .pre .1)
 
--- src/lib.rt:227:1
 returns-2 : tie.Need-returns-2 Inv-loop μ-loop
 returns-2 c = parted-all _ _ _ _ _ (c .before .loop .inv) (omega (arith, c .loop-test .left, patterns-count _ _ _ _ (c .before .before .before .before .before .pairs-of .ensures .0) _ _ (c .before .before .before .n .given .1)))
 

@@ -19,31 +19,24 @@ Inv-loop file index node q w₀ j₀ w j = (j ≤ 8) × (w ≡ packed (fateOr (t
 abbrev μ-loop : tie.MeasureT-loop
 μ-loop file index node q w₀ j₀ w j = j
 
--- src/lib.rt:107:5
 loop-holds : tie.Need-loop-holds Inv-loop μ-loop
 loop-holds c = (omega arith, digits-none _ (or-small _ _) _ _ (omega arith))
 
--- src/lib.rt:108:9
 sub-j : tie.Need-sub-j Inv-loop μ-loop
 sub-j c = omega arith
 
--- src/lib.rt:109:13
 mul-w : tie.Need-mul-w Inv-loop μ-loop
 mul-w c = let s = digits-small _ (or-small _ _) _ _ _ (c .before .loop .inv .1) in omega arith
 
--- src/lib.rt:109:48
 mul-fate-or : tie.Need-mul-fate-or Inv-loop μ-loop
 mul-fate-or c = omega arith
 
--- src/lib.rt:109:48
 add-fate-or : tie.Need-add-fate-or Inv-loop μ-loop
 add-fate-or c = omega arith
 
--- src/lib.rt:109:21
 fate-or-requires : tie.Need-fate-or-requires Inv-loop μ-loop
 fate-or-requires c κs = let p = c .before .before .before .before .pre in (p .0, p .1 .0)
 
--- src/lib.rt:109:13
 add-w : tie.Need-add-w Inv-loop μ-loop
 add-w c =
     let s = digits-small _ (or-small _ _) _ _ _ (c .before .before .loop .inv .1) in
@@ -51,15 +44,12 @@ add-w c =
     let d = or-small (tablesOf (now (c .before .before .before .before .before .args .file))) (c .before .before .before .before .before .args .node) (8 * c .before .before .before .before .before .args .q + (c .before .before .loop .j - 1)) in
     omega (arith, s, r, d)
 
--- src/lib.rt:107:5
 loop-less : tie.Need-loop-less Inv-loop μ-loop
 loop-less c = omega arith
 
--- src/lib.rt:107:5
 loop-again : tie.Need-loop-again Inv-loop μ-loop
 loop-again c = (omega (arith, c .before .before .loop .inv .0), digits-more _ (or-small _ _) _ _ _ _ (c .before .loop-test .taken) (c .before .before .loop .inv .0) (c .before .before .loop .inv .1) (c .fate-or .ensures))
 
--- src/lib.rt:99:1
 returns : tie.Need-returns Inv-loop μ-loop
 unfolding wordOf
 returns c = (digits-all _ (or-small _ _) _ _ _ (omega arith) (c .before .loop .inv .1), digits-small _ (or-small _ _) _ _ _ (c .before .loop .inv .1))
