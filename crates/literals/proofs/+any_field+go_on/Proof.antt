@@ -57,23 +57,18 @@ any-field-Inv-loop file index node ty opened i₀ i = Going (meetsBelow (tablesO
 abbrev any-field-μ-loop : any-field-lts.MeasureT-loop
 any-field-μ-loop file index node ty opened i₀ i = opened .count - i
 
--- src/lib.rt:263:9
 any-field-pieces-requires : (t : ℕ) → any-field-lts.Need-pieces-requires (any-field-claims t) (any-field-at t) any-field.Post any-field-Inv-loop any-field-μ-loop
 any-field-pieces-requires t c κs = c .before .before .pre .1
 
--- src/lib.rt:265:9
 any-field-returns : (t : ℕ) → any-field-lts.Need-returns (any-field-claims t) (any-field-at t) any-field.Post any-field-Inv-loop any-field-μ-loop
 any-field-returns t c = record { is = going-end _ _ _ _ 0 (going-first _ _ _ _) (omega (arith, c .if1 .taken, count-is _ _ _ _ _ (c .before .before .pieces .ensures .0))) }
 
--- src/lib.rt:267:32
 any-field-recall-any-requires : (t : ℕ) → any-field-lts.Need-recall-any-requires (any-field-claims t) (any-field-at t) any-field.Post any-field-Inv-loop any-field-μ-loop
 any-field-recall-any-requires t c κs = let p = c .before .before .before .before .before .pre .1 in (p .0 .indexed, p .1)
 
--- src/lib.rt:267:24
 any-field-enum-known-fate : (t : ℕ) → any-field-lts.Need-enum-known-fate (any-field-claims t) (any-field-at t) any-field.Post any-field-Inv-loop any-field-μ-loop
 any-field-enum-known-fate t c = search needs
 
--- src/lib.rt:268:9
 any-field-returns-2 : (t : ℕ) → any-field-lts.Need-returns-2 (any-field-claims t) (any-field-at t) any-field.Post any-field-Inv-loop any-field-μ-loop
 any-field-returns-2 t c =
     let s = c .before .before .before .before .before .before .before .before .before in
@@ -84,37 +79,30 @@ any-field-returns-2 t c =
 any-field-enum-told : (t : ℕ) → any-field-lts.Need-enum-told (any-field-claims t) (any-field-at t) any-field.Post any-field-Inv-loop any-field-μ-loop
 any-field-enum-told t c = search needs
 
--- src/lib.rt:271:5
 any-field-loop-holds : (t : ℕ) → any-field-lts.Need-loop-holds (any-field-claims t) (any-field-at t) any-field.Post any-field-Inv-loop any-field-μ-loop
 any-field-loop-holds t c = going-first _ _ _ _
 
--- src/lib.rt:272:13
 any-field-piece-at-requires : (t : ℕ) → any-field-lts.Need-piece-at-requires (any-field-claims t) (any-field-at t) any-field.Post any-field-Inv-loop any-field-μ-loop
 any-field-piece-at-requires t c κs =
     let p = c .before .before .before .before .before .before .before .before .before .before .before .pre .1 in
     (p .0, (p .1, (c .before .before .before .before .before .before .before .before .pieces .ensures .0, c .if2 .taken)))
 
--- src/lib.rt:275:9
 any-field-add-i : (t : ℕ) → any-field-lts.Need-add-i (any-field-claims t) (any-field-at t) any-field.Post any-field-Inv-loop any-field-μ-loop
 any-field-add-i t c = omega (arith, c .before .if2 .taken, c .before .before .before .before .before .before .before .before .before .pieces .ensures .1)
 
--- src/lib.rt:276:28
 any-field-enum-known-pattern : (t : ℕ) → any-field-lts.Need-enum-known-pattern (any-field-claims t) (any-field-at t) any-field.Post any-field-Inv-loop any-field-μ-loop
 any-field-enum-known-pattern t c = search needs
 
--- src/lib.rt:277:35
 any-field-step-at-requires : (t : ℕ) → any-field-lts.Need-step-at-requires (any-field-claims t) (any-field-at t) any-field.Post any-field-Inv-loop any-field-μ-loop
 any-field-step-at-requires t c κs =
     (c .before .before .before .before .before .before .before .before .before .before .before .before .before .before .before .pre .1 .0, c .before .before .before .piece-at .ensures .lower .known)
 
--- src/lib.rt:277:16
 any-field-go-on-requires : (t : ℕ) → any-field-lts.Need-go-on-requires (any-field-claims t) (any-field-at t) any-field.Post any-field-Inv-loop any-field-μ-loop
 any-field-go-on-requires t c κs =
     let s = c .before .before .before .before .before .before .before .before .before .before .before .before .before .before .before .before in
     let l = c .before .before .before .before .piece-at .ensures .lower in
     (omega (arith, l .lower, s .pre .0), (s .pre .1 .0, (l .known, stepped-in _ (sound-tables _ _ (s .pre .1 .0)) _ _ _ (l .known) (c .step-at .ensures))))
 
--- src/lib.rt:278:17
 any-field-returns-3 : (t : ℕ) → any-field-lts.Need-returns-3 (any-field-claims t) (any-field-at t) any-field.Post any-field-Inv-loop any-field-μ-loop
 any-field-returns-3 t c =
     let v = c .before .before .before .before .before .before .before .before .before in
@@ -124,11 +112,9 @@ any-field-returns-3 t c =
           (λ limit l. sym (c .if3 .taken) ∙ met-below _ _ _ _ _ (c .before .before .step-at .ensures) (c .before .go-on .ensures) limit (omega (arith, k .lower .lower, l)));
     }
 
--- src/lib.rt:271:5
 any-field-loop-less : (t : ℕ) → any-field-lts.Need-loop-less (any-field-claims t) (any-field-at t) any-field.Post any-field-Inv-loop any-field-μ-loop
 any-field-loop-less t c = omega (arith, c .before .before .before .before .before .before .before .if2 .taken)
 
--- src/lib.rt:271:5
 any-field-loop-again : (t : ℕ) → any-field-lts.Need-loop-again (any-field-claims t) (any-field-at t) any-field.Post any-field-Inv-loop any-field-μ-loop
 any-field-loop-again t c =
     let v = c .before .before .before .before .before .before .before .before .before in
@@ -139,46 +125,37 @@ any-field-loop-again t c =
 any-field-enum-told-2 : (t : ℕ) → any-field-lts.Need-enum-told-2 (any-field-claims t) (any-field-at t) any-field.Post any-field-Inv-loop any-field-μ-loop
 any-field-enum-told-2 t c = search needs
 
--- src/lib.rt:271:5
 any-field-loop-less-2 : (t : ℕ) → any-field-lts.Need-loop-less-2 (any-field-claims t) (any-field-at t) any-field.Post any-field-Inv-loop any-field-μ-loop
 any-field-loop-less-2 t c = omega (arith, c .before .before .before .if2 .taken)
 
--- src/lib.rt:271:5
 any-field-loop-again-2 : (t : ℕ) → any-field-lts.Need-loop-again-2 (any-field-claims t) (any-field-at t) any-field.Post any-field-Inv-loop any-field-μ-loop
 any-field-loop-again-2 t c =
     let v = c .before .before .before .before .before in
     going-missing _ _ _ _ _ (v .loop .inv) (omega (arith, c .before .before .before .if2 .taken, count-is _ _ _ _ _ (v .before .before .before .before .before .before .pieces .ensures .0))) _ (c .before .before .piece-at .ensures) (c .enum-told2 .given .1)
 
--- src/lib.rt:255:1
 any-field-returns-4 : (t : ℕ) → any-field-lts.Need-returns-4 (any-field-claims t) (any-field-at t) any-field.Post any-field-Inv-loop any-field-μ-loop
 any-field-returns-4 t c =
     record { is = going-end _ _ _ _ _ (c .before .before .loop .inv) (omega (arith, c .if2 .left, count-is _ _ _ _ _ (c .before .before .before .before .before .before .before .before .pieces .ensures .0))) }
 
--- src/lib.rt:248:21
 go-on-enum-known-s : (t : ℕ) → go-on-lts.Need-enum-known-s (go-on-claims t) (go-on-at t) go-on.Post
 go-on-enum-known-s t c = search needs
 
--- src/lib.rt:249:22
 go-on-enum-known-s-2 : (t : ℕ) → go-on-lts.Need-enum-known-s-2 (go-on-claims t) (go-on-at t) go-on.Post
 go-on-enum-known-s-2 t c = search needs
 
--- src/lib.rt:249:28
 go-on-any-field-requires : (t : ℕ) → go-on-lts.Need-any-field-requires (go-on-claims t) (go-on-at t) go-on.Post
 go-on-any-field-requires t c κs =
     let s = c .before .before .before .before .before in
     (omega (arith, s .pre .0), (s .pre .1 .0, s .pre .1 .1 .0))
 
--- src/lib.rt:250:23
 go-on-enum-known-s-3 : (t : ℕ) → go-on-lts.Need-enum-known-s-3 (go-on-claims t) (go-on-at t) go-on.Post
 go-on-enum-known-s-3 t c = search needs
 
--- src/lib.rt:250:51
 go-on-step-at-requires : (t : ℕ) → go-on-lts.Need-step-at-requires (go-on-claims t) (go-on-at t) go-on.Post
 go-on-step-at-requires t c κs =
     let p = c .before .before .before .before .before .pre .1 in
     (p .0, payload-below _ _ _ _ _ (c .before .s3 .given .1) (p .1 .1) .1)
 
--- src/lib.rt:250:32
 go-on-go-on-requires : (t : ℕ) → go-on-lts.Need-go-on-requires (go-on-claims t) (go-on-at t) go-on.Post
 go-on-go-on-requires t c κs =
     let s = c .before .before .before .before .before .before in
@@ -186,15 +163,12 @@ go-on-go-on-requires t c κs =
     let l = payload-below _ _ _ _ _ (c .before .before .s3 .given .1) (p .1 .1) in
     (omega (arith, l .0, s .pre .0), (p .0, (l .1, stepped-in _ (sound-tables _ _ (p .0)) _ _ _ (l .1) (c .step-at .ensures))))
 
--- src/lib.rt:238:1
 go-on-returns : (t : ℕ) → go-on-lts.Need-returns (go-on-claims t) (go-on-at t) go-on.Post
 go-on-returns t c = met-known _ _ _ _ (c .before .s .given .1)
 
--- src/lib.rt:238:1
 go-on-returns-2 : (t : ℕ) → go-on-lts.Need-returns-2 (go-on-claims t) (go-on-at t) go-on.Post
 go-on-returns-2 t c = met-fields _ _ _ _ _ (c .before .before .s2 .given .1) (c .any-field .ensures)
 
--- src/lib.rt:238:1
 go-on-returns-3 : (t : ℕ) → go-on-lts.Need-returns-3 (go-on-claims t) (go-on-at t) go-on.Post
 go-on-returns-3 t c =
     let p = c .before .before .before .before .before .before .before .pre .1 in

@@ -8,17 +8,14 @@ use Rattle.literals.proofs.brought_meets.Lts as lts
 use Rattle.literals.proofs.brought.Reads as brought-reads
 use Rattle.literals.proofs.go_on.Reads as go-on-reads
 
--- src/lib.rt:295:24
 brought-requires : tie.Need-brought-requires
 brought-requires c κs = search needs
 
--- src/lib.rt:295:5
 go-on-requires : tie.Need-go-on-requires
 go-on-requires c κs =
     let p = c .before .before .before .pre in
     (p .0, (p .1 .1, put-in _ (sound-tables _ _ (p .0)) _ _ _ (p .1 .1) (c .brought .ensures)))
 
--- src/lib.rt:286:1
 returns : tie.Need-returns
 returns c = met-brought _ _ _ _ _ (c .before .before .before .before .pre .1 .1) (c .before .brought .ensures) (c .go-on .ensures)
 

@@ -13,23 +13,18 @@ Inv-loop word j w₀ left₀ w left = digit j word ≡ digit left w
 abbrev μ-loop : tie.MeasureT-loop
 μ-loop word j w₀ left₀ w left = left
 
--- src/lib.rt:209:5
 loop-holds : tie.Need-loop-holds Inv-loop μ-loop
 loop-holds c = refl
 
--- src/lib.rt:211:9
 sub-left : tie.Need-sub-left Inv-loop μ-loop
 sub-left c = omega arith
 
--- src/lib.rt:209:5
 loop-less : tie.Need-loop-less Inv-loop μ-loop
 loop-less c = omega arith
 
--- src/lib.rt:209:5
 loop-again : tie.Need-loop-again Inv-loop μ-loop
 loop-again c = c .before .loop .inv ∙ digit-later _ _ (omega arith)
 
--- src/lib.rt:204:1
 returns : tie.Need-returns Inv-loop μ-loop
 returns c = digit-first _ _ (omega arith) ∙ sym (c .before .loop .inv)
 

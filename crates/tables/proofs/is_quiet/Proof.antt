@@ -10,33 +10,26 @@ use Rattle.tables.proofs.is_quiet.Lts as lts
 use Rattle.tables.proofs.is_constant.Reads as is-constant-reads
 use Rattle.tables.proofs.recall_any.Reads as recall-any-reads
 
--- src/lib.rt:272:29
 recall-any-requires : tie.Need-recall-any-requires
 recall-any-requires c κs = search needs
 
--- src/lib.rt:272:21
 enum-known-fate : tie.Need-enum-known-fate
 enum-known-fate c = search needs
 
--- src/lib.rt:273:9
 enum-told : tie.Need-enum-told
 enum-told c = search needs
 
--- src/lib.rt:273:9
 returns : tie.Need-returns
 returns c = quiet-none _ _ _ _ (sym (ap foundOption (c .enum-told .given .1)) ∙ c .before .before .recall-any .ensures)
 
--- src/lib.rt:276:9
 is-constant-requires : tie.Need-is-constant-requires
 is-constant-requires c κs =
     let s = c .before .before .before .before .before .before .before in
     (s .pre .0, any-node _ _ _ (s .args .t) _ (sym (c .before .before .before .before .recall-any .ensures) ∙ ap foundOption (c .before .before .fate .given .1)))
 
--- src/lib.rt:267:1
 returns-2 : tie.Need-returns-2
 returns-2 c = quiet-some _ _ _ _ _ _ (sym (ap foundOption (c .before .before .before .fate .given .1)) ∙ c .before .before .before .before .before .recall-any .ensures) (c .before .if1 .taken) (c .is-constant .ensures)
 
--- src/lib.rt:267:1
 returns-3 : tie.Need-returns-3
 returns-3 c = quiet-other _ _ _ _ _ (sym (ap foundOption (c .before .before .fate .given .1)) ∙ c .before .before .before .before .recall-any .ensures) (c .if1 .left)
 

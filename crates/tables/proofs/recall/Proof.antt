@@ -8,43 +8,33 @@ use Rattle.tables.proofs.recall.Lts as lts
 use Rattle.tables.proofs.digit.Reads as digit-reads
 use Rattle.tables.proofs.word_or_zero.Reads as word-or-zero-reads
 
--- src/lib.rt:233:35
 add-word-or-zero : tie.Need-add-word-or-zero
 add-word-or-zero c = search needs
 
--- src/lib.rt:233:9
 word-or-zero-requires : tie.Need-word-or-zero-requires
 word-or-zero-requires c κs = search needs
 
--- src/lib.rt:235:9
 returns : tie.Need-returns
 returns c = row-none _ _ _ (c .before .word-or-zero .result) (c .before .word-or-zero .ensures .0) (omega arith)
 
--- src/lib.rt:237:35
 sub-at : tie.Need-sub-at
 sub-at c = search needs
 
--- src/lib.rt:237:22
 mul-at : tie.Need-mul-at
 mul-at c = search needs
 
--- src/lib.rt:237:14
 add-at : tie.Need-add-at
 add-at c = search needs
 
--- src/lib.rt:237:14
 add-at-2 : tie.Need-add-at-2
 add-at-2 c = search needs
 
--- src/lib.rt:238:9
 word-or-zero-requires-2 : tie.Need-word-or-zero-requires-2
 word-or-zero-requires-2 c κs = search needs
 
--- src/lib.rt:239:17
 digit-requires : tie.Need-digit-requires
 digit-requires c κs = search needs
 
--- src/lib.rt:229:1
 returns-2 : tie.Need-returns-2
 returns-2 c = row-some _ _ _ (c .before .before .before .word-or-zero .result) (c .before .word-or-zero2 .result) _ (c .before .before .before .word-or-zero .ensures .0) (c .before .before .if1 .left) (c .before .word-or-zero2 .ensures .0) (c .digit .ensures)
 

@@ -10,21 +10,17 @@ use Rattle.tables.proofs.recall_any.Lts as lts
 use Rattle.tables.proofs.recall.Reads as recall-reads
 use Rattle.views.proofs.count_of.Reads as count-of-reads
 
--- src/lib.rt:259:12
 count-of-requires : tie.Need-count-of-requires
 count-of-requires c κs = search needs
 
--- src/lib.rt:260:9
 recall-requires : tie.Need-recall-requires
 recall-requires c κs =
     let i = c .before .before .before .before .pre .0 in
     (omega (arith, few-nodes _ _ i, c .before .count-of .ensures), omega (arith, few-types _ _ i, c .before .before .before .before .pre .1))
 
--- src/lib.rt:254:1
 returns : tie.Need-returns
 returns c = c .recall .ensures ∙ any-in _ _ _ _ (omega (arith, c .before .before .count-of .ensures))
 
--- src/lib.rt:254:1
 returns-2 : tie.Need-returns-2
 returns-2 c = any-past _ _ _ _ (omega (arith, c .before .count-of .ensures))
 

@@ -17,26 +17,21 @@ past-end l n h = sym (List·getD-eq-default l 0 {n = n} h)
 
 -- @end
 
--- src/lib.rt:222:16
 mul-wide16 : tie.Need-mul-wide16
 mul-wide16 c = search needs
 
--- src/lib.rt:222:16
 shared-slice-read-wide16 : tie.Need-shared-slice-read-wide16
 shared-slice-read-wide16 c = search needs
 
--- src/lib.rt:222:9
 wide16-requires : tie.Need-wide16-requires
 wide16-requires c κs = search needs
 
--- src/lib.rt:217:1
 returns : tie.Need-returns
 returns c =
     let s = c .before .before .before in
     let h : getD (now (s .before .args .index)) (s .before .args .at) 0 < 65536 = s .shared-slice-known .given (s .before .args .at) .fits in
     (c .wide16 .ensures, omega (arith, c .wide16 .ensures, h))
 
--- src/lib.rt:217:1
 returns-2 : tie.Need-returns-2
 returns-2 c = let a = c .before .before .args in (past-end (now (a .index)) (a .at) (omega arith), omega arith)
 
