@@ -1,4 +1,5 @@
 // A rule file on standard input; its plan as a line of hex, or `refused` and the number.
+#![tactic(auto)]
 use plan_line::{FILE_ROOM, LINE_ROOM, answer};
 
 fn main() {

@@ -2,6 +2,7 @@
 // has the position, and `end` is where the next item begins. The clause `reads` says which item it is, `view` what the whole result is.
 // Which item of the plan stands at a position is told by number in proofs/Plans.antt, and for the five lists in plan_form's
 // proofs/Places.antt.
+#![tactic(auto)]
 ghost use Rattle.std.specs.Prelude.{◌≡◌, ◌+◌, ◌*◌, ◌≤◌, ◌<◌, length, get_or, drop};
 ghost use Rattle.rules.specs.Limits.{step_limit};
 ghost use Rattle.rules.specs.Read.{u16, many};

@@ -1,5 +1,6 @@
 // The stored list of the oracle's answers, on standard input: how many answers were compared, and how many differ. Without their nodes the
 // answers are those of the original Rust functions (docs/ORACLE.md).
+#![tactic(auto)]
 ghost use Rattle.std.specs.Prelude.{◌≡◌, ◌<◌};
 ghost use Rattle.replay.specs.Pairs as Pairs;
 ghost use Rattle.tally.specs.Tallies.{count_limit, counted, tallied, split, none};

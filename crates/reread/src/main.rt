@@ -1,5 +1,6 @@
 // The stored list of plans, on standard input, each with what the reader of the Rust side says of it: how many were compared, and how many
 // differ.
+#![tactic(auto)]
 ghost use Rattle.std.specs.Prelude.{◌≡◌, ◌*◌, ◌≤◌, ◌<◌, length};
 ghost use Rattle.std.proofs.lemmas.List.Edits.{sets};
 ghost use Rattle.rules.specs.Limits.{plan_limit};

@@ -57,6 +57,7 @@ abbrev between : ℕ → Bool
 between m = both (leb 1 m) (leb m 19)
 
 among-between : {n : ℕ} {ms : List ℕ} → Each (λ m. between m ≡ true) ms → Among n ms → (1 ≤ n) × (n ≤ 19)
+among-between done h = elim h [ ]
 among-between (more {x = m} b bs) (Among.here e) = (omega (arith, e, leb-true 1 m (both_left (leb 1 m) _ b)), omega (arith, e, leb-true m 19 (both_right (leb 1 m) _ b)))
 among-between (more b bs) (Among.further h) = among-between bs h
 

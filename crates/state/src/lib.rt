@@ -1,1 +1,2 @@
 // The compiler's state while it walks a level.
+#![tactic(auto)]

@@ -1,4 +1,5 @@
 // A stored list of answers: which of its lines are compared, and how many differ.
+#![tactic(auto)]
 ghost use Rattle.std.specs.Prelude.{◌≡◌, ◌<◌};
 ghost use Rattle.tally.specs.Tallies as Tallies;
 ghost use Rattle.tally.specs.Tallies.{count_limit};
