@@ -1,0 +1,7 @@
+use Rattle.rules.specs.File.{payload}
+use borrow.Author.Rules.{rules}
+use Rattle.paths.proofs.FieldPath.payload.Goals as goal
+
+pub returns : goal.returns
+unfolding payload
+returns c = c.then.ensures

@@ -1,0 +1,20 @@
+use mathlib.Core.Path.{sym, ◌∙◌}
+use native.Mathlib.Omega.{arith}
+use Rattle.utf8.proofs.Nexts.{made, between_next, fault-next, below_next, above-next, tail-next}
+use borrow.Author.Rules.{rules}
+use Rattle.utf8.proofs.Wanted.next.Goals as goal
+
+pub returns-then-self-eq0 : goal.returns-then-self-eq0
+returns-then-self-eq0 c = c.lead.ensures ∙ sym (between_next _ _ (omega arith))
+
+pub returns-then-self-ge-FAULT : goal.returns-then-self-ge-FAULT
+returns-then-self-ge-FAULT c = fault-next _ _ (omega arith)
+
+pub returns-then-b-self : goal.returns-then-b-self
+returns-then-b-self c = made _ _ _ _ c.wanting.ensures ∙ sym (below_next _ _ (omega arith) (omega arith))
+
+pub returns-then-b-self-2 : goal.returns-then-b-self-2
+returns-then-b-self-2 c = made _ _ _ _ c.wanting-then-b-self-2.ensures ∙ sym (above-next _ _ (omega arith) (omega arith))
+
+pub returns : goal.returns
+returns c = made _ _ _ _ c.wanting-2.ensures ∙ sym (tail-next _ _ (omega arith) (omega arith) (omega arith) (omega arith))

@@ -1,0 +1,14 @@
+use mathlib.Core.Path.{◌≡◌, refl, sym, ap, ◌∙◌}
+use native.Mathlib.Omega.{arith}
+use borrow.Author.Rules.{rules}
+use Prim.Native.Nat.{◌-◌, ◌+◌}
+use lib.ListN.{length, drop}
+use Rattle.utf8.specs.Wants.{greatest_of}
+use Rattle.utf8.proofs.Blocks.{greatest-more, greatest-end}
+use Rattle.utf8.proofs.greatest_byte.Given as goal
+
+abbrev pub invariant-loop-i : goal.invariant-loop-i
+invariant-loop-i l = greatest_of 0 l.bytes ≡ greatest_of l.high (drop l.i l.bytes)
+
+abbrev pub decreases-loop-i : goal.decreases-loop-i
+decreases-loop-i l = length l.bytes - l.i

@@ -1,0 +1,13 @@
+use mathlib.Core.Path.{◌≡◌, refl, sym, ◌∙◌}
+use native.Mathlib.Omega.{arith}
+use lib.ListN.{length, length-set}
+use Prim.Native.Nat.{◌-◌}
+use Rattle.zeroes.specs.Zeroed.{zeroed}
+use Rattle.zeroes.proofs.Blocks.{zero_more, zero-end}
+use Rattle.zeroes.proofs.wipe.Given as goal
+
+abbrev pub invariant-loop-i : goal.invariant-loop-i
+invariant-loop-i l = (length l.block ≡ length l.initial.block) × (zeroed l.initial.block 0 ≡ zeroed l.block l.i)
+
+abbrev pub decreases-loop-i : goal.decreases-loop-i
+decreases-loop-i l = length l.block - l.i
