@@ -36,6 +36,10 @@ use Rattle.exact.proofs.Pieces.{record-node, Fell, miss-none, fell-skip, noted, 
 use Rattle.exact.proofs.Patterns.{ready-tag, emit-bound}
 use Rattle.exact.proofs.Backward.{Some, Given, given-first, given-second, Comes, WalksBack, comes-some, comes-report, comes-agree, comes-narrow, comes-fact, comes-register, comes-own, comes-each}
 
+when-some-at : {A B : Type 0} (o : Option A) (x : A) (f : A → Option B) → o ≡ some x → (o when_some f) ≡ f x
+unfolding ◌when_some◌
+when-some-at o x f e = ap (λ (p : Option _). p when_some f) e
+
 is-disc : (d : ℕ) (v : Value) → has_disc d v ≡ true → (w : Value) × (v ≡ Value.Uni d w)
 unfolding has_disc
 is-disc d (Value.Int bytes) e = absurd (true≢false (sym e))
@@ -219,7 +223,7 @@ module _ (T : Tables) (facts : Facts T) (engine : Engine) (address : ℕ) (ty : 
 
         matched-is : (v x : Value) → v ≡ Value.Uni alt.disc x → (after : List Binding) → match_below f.node alt.type x (payload path alt.disc) w.lists.bindings ≡ some after
             → (held alt.disc v when_some λ y. match_below f.node alt.type y (payload path alt.disc) w.lists.bindings) ≡ some after
-        matched-is v x e after m = unfold ◌when_some◌ in ap (λ (o : Option Value). o when_some λ y. match_below f.node alt.type y (payload path alt.disc) w.lists.bindings) (held-is alt.disc v x e) ∙ m
+        matched-is v x e after m = when-some-at (held alt.disc v) x (λ y. match_below f.node alt.type y (payload path alt.disc) w.lists.bindings) (held-is alt.disc v x e) ∙ m
 
         open-tag : (v : Value) (r : List ℕ) → OfType T v (type_at T t) → zero_free v ≡ true → Apart r → value_at ty key path ≡ some v → Ready engine ty key (built T w) (encode v ++ r) → Given T engine address ty key folded w (emit (Event.closer n) u')
             → Some (held alt.disc v when_some λ x. match_below f.node alt.type x (payload path alt.disc) w.lists.bindings)
