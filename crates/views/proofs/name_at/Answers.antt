@@ -1,0 +1,17 @@
+use mathlib.Core.Path.{refl}
+use native.Mathlib.Omega.{arith}
+use Rattle.views.proofs.Entries.{name-seen, text-shown}
+use borrow.Author.Rules.{rules}
+use Rattle.views.proofs.name_at.Goals as goal
+
+pub start_of-p-requires : goal.start_of-p-requires
+start_of-p-requires c = omega (arith, c.requires.indexed.long, c.requires.indexed.names.under)
+
+pub overflow_add-result : goal.overflow_add-result
+overflow_add-result c = omega (arith, (name-seen _ _ c.requires.indexed _ _ _ c.requires.x_in_bounds c.start_of-p.ensures refl).0)
+
+pub bounds-file-p : goal.bounds-file-p
+bounds-file-p c = (name-seen _ _ c.requires.indexed _ _ _ c.requires.x_in_bounds c.start_of-p.ensures refl).0
+
+pub returns : goal.returns
+returns c = record { shows = (name-seen _ _ c.requires.indexed _ _ _ c.requires.x_in_bounds c.start_of-p.ensures c.wide.ensures.same).1; view = text-shown _ _ _ _ c.start_of-p.ensures c.wide.ensures.same }

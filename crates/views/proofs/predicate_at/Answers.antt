@@ -1,0 +1,23 @@
+use mathlib.Core.Path.{◌≡◌, ap, ◌∙◌}
+use native.Mathlib.Omega.{arith}
+use Prim.Native.Nat.{◌+◌, ℕ}
+use lib.ListN.{get_or}
+use Rattle.file.specs.Steps.{base_of}
+use Rattle.views.proofs.Entries.{predicate-here}
+use borrow.Author.Rules.{rules}
+use Rattle.views.proofs.predicate_at.Goals as goal
+
+pub start_of-at-requires : goal.start_of-at-requires
+start_of-at-requires c = omega (arith, c.requires.indexed.long, c.requires.indexed.predicates.under, c.wide16-n.ensures, c.requires.p_in_bounds)
+
+pub word_at-requires : goal.word_at-requires
+word_at-requires c = omega (arith, (predicate-here _ _ c.requires.indexed _ _ c.requires.p_in_bounds ((c.start_of-at.ensures ∙ ap (λ (k : ℕ). get_or c.args.index.now (base_of 2 + 1 + k) 0) c.wide16-n.ensures))).0)
+
+pub overflow_add-at : goal.overflow_add-at
+overflow_add-at c = omega (arith, (predicate-here _ _ c.requires.indexed _ _ c.requires.p_in_bounds ((c.start_of-at.ensures ∙ ap (λ (k : ℕ). get_or c.args.index.now (base_of 2 + 1 + k) 0) c.wide16-n.ensures))).0)
+
+pub word_at-requires-2 : goal.word_at-requires-2
+word_at-requires-2 c = omega (arith, (predicate-here _ _ c.requires.indexed _ _ c.requires.p_in_bounds ((c.start_of-at.ensures ∙ ap (λ (k : ℕ). get_or c.args.index.now (base_of 2 + 1 + k) 0) c.wide16-n.ensures))).0)
+
+pub returns : goal.returns
+returns c = rw (c.word_at.ensures.reads, c.maybe_type.ensures, c.word_at-2.ensures.reads) (predicate-here _ _ c.requires.indexed _ _ c.requires.p_in_bounds ((c.start_of-at.ensures ∙ ap (λ (k : ℕ). get_or c.args.index.now (base_of 2 + 1 + k) 0) c.wide16-n.ensures))).1
