@@ -1,0 +1,14 @@
+use mathlib.Core.Path.{◌≡◌, refl, sym, ◌∙◌}
+use native.Mathlib.Omega.{arith}
+use Prim.Native.Nat.{◌-◌}
+use borrow.Author.Rules.{rules}
+use Rattle.views.specs.Views.{run}
+use Rattle.record_checks.specs.RecordChecks.{Words, number_at, among}
+use Rattle.record_checks.proofs.Every.{among_none, among-here, among_later, words-first, words-next}
+use Rattle.record_checks.proofs.is_among.Given as goal
+
+abbrev pub invariant-loop-left : goal.invariant-loop-left
+invariant-loop-left l = (among l.x (run (number_at l.file l.long) l.w l.n l.p) ≡ among l.x (run (number_at l.file l.long) l.w l.left l.q)) × Words l.file 4 l.w l.left l.q
+
+abbrev pub decreases-loop-left : goal.decreases-loop-left
+decreases-loop-left l = l.left

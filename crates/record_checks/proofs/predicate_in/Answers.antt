@@ -1,0 +1,24 @@
+use mathlib.Core.Path.{refl, ap}
+use native.Mathlib.Omega.{arith}
+use Prim.Native.Nat.{◌-◌}
+use lib.Dec.{ltb}
+use Rattle.file.specs.Steps.{limit_of}
+use Rattle.rules.specs.Checks.{none_or, is_type}
+use Rattle.record_checks.proofs.Seen.{predicate-no, predicate-yes}
+use borrow.Author.Rules.{rules}
+use Rattle.record_checks.proofs.predicate_in.Goals as goal
+
+pub overflow_cast-t : goal.overflow_cast-t
+unfolding limit_of
+overflow_cast-t c = let h = c.requires.indexed.predicates.under in omega (arith, h, c.requires.t_in_bounds)
+
+pub returns-then-p-types : goal.returns-then-p-types
+returns-then-p-types c = predicate-no _ c.predicate_at-p.result _ c.predicate_at-p.ensures (omega (arith, c.count_of-types.ensures))
+
+pub returns-in-Nothing : goal.returns-in-Nothing
+unfolding none_or
+returns-in-Nothing c = predicate-yes _ c.predicate_at-p.result _ _ _ c.predicate_at-p.ensures (omega (arith, c.count_of-types.ensures)) c.in-Nothing.is refl
+
+pub returns-in-Just : goal.returns-in-Just
+unfolding none_or is_type
+returns-in-Just c = predicate-yes _ c.predicate_at-p.result _ _ _ c.predicate_at-p.ensures (omega (arith, c.count_of-types.ensures)) c.in-Just.is (ap (ltb _) c.count_of-types.ensures)

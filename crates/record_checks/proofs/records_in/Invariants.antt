@@ -1,0 +1,17 @@
+use mathlib.Core.Path.{◌≡◌, sym, ◌∙◌}
+use native.Mathlib.Omega.{arith}
+use Prim.Native.Nat.{◌-◌, ◌≤◌}
+use borrow.Author.Rules.{rules}
+use borrow.Author.Tests.{not-true, not-false}
+use Rattle.file.specs.Tables.{tables_of}
+use Rattle.record_checks.specs.RecordChecks.{record_in, section_in}
+use Rattle.views.specs.Views.{size_of}
+use Rattle.record_checks.proofs.Every.{every, every-none, every-yes, every-no}
+use Rattle.record_checks.proofs.Seen.{section-every, every-start}
+use Rattle.record_checks.proofs.records_in.Given as goal
+
+abbrev pub invariant-loop-t : goal.invariant-loop-t
+invariant-loop-t l = (section_in (tables_of l.file) l.s ≡ every (record_in (tables_of l.file) l.s) (l.n - l.t) l.t) × (l.t ≤ l.n) × (l.n ≡ size_of (tables_of l.file) l.s)
+
+abbrev pub decreases-loop-t : goal.decreases-loop-t
+decreases-loop-t l = l.n - l.t

@@ -1,0 +1,17 @@
+use mathlib.Core.Path.{◌≡◌, refl, sym, ◌∙◌}
+use native.Mathlib.Omega.{arith}
+use Prim.Native.Nat.{◌-◌}
+use lib.Dec.{ltb}
+use borrow.Author.Rules.{rules}
+use Rattle.rules.specs.Base.{all}
+use Rattle.file.specs.Steps.{word}
+use Rattle.views.specs.Views.{run}
+use Rattle.record_checks.specs.RecordChecks.{Words}
+use Rattle.record_checks.proofs.Every.{run-done, run-yes, run-no, words-first, words-next, word_low, word-high}
+use Rattle.record_checks.proofs.words_below.Given as goal
+
+abbrev pub invariant-loop-left : goal.invariant-loop-left
+invariant-loop-left l = (all (λ c. ltb c l.bound) (run (word l.file) l.w l.n l.p) ≡ all (λ c. ltb c l.bound) (run (word l.file) l.w l.left l.q)) × Words l.file 2 l.w l.left l.q
+
+abbrev pub decreases-loop-left : goal.decreases-loop-left
+decreases-loop-left l = l.left
