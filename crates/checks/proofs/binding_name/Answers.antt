@@ -1,0 +1,29 @@
+use native.Mathlib.Omega.{arith}
+use mathlib.Core.Path.{◌∙◌, ap}
+use Prim.Native.Nat.{◌+◌}
+use lib.ListN.{get_or}
+use Rattle.rules.specs.File.{Binding}
+use Rattle.file.proofs.Sections.{roomy}
+use Rattle.views.proofs.Slots.{binding-here}
+use borrow.Author.Rules.{rules}
+use Rattle.checks.proofs.binding_name.Goals as goal
+
+pub overflow_add-base : goal.overflow_add-base
+overflow_add-base c = omega (arith, roomy 4 (omega arith), c.requires.indexed.long, c.requires.indexed.bindings.under, c.requires.k_in_bounds)
+
+pub overflow_add-base-2 : goal.overflow_add-base-2
+overflow_add-base-2 c = omega (arith, roomy 4 (omega arith), c.requires.indexed.long, c.requires.indexed.bindings.under, c.requires.k_in_bounds)
+
+pub offset_bounds-index-base : goal.offset_bounds-index-base
+offset_bounds-index-base c = omega (arith, roomy 4 (omega arith), c.requires.indexed.long, c.requires.indexed.bindings.under, c.requires.k_in_bounds)
+
+pub bounds-index-base : goal.bounds-index-base
+bounds-index-base c = omega (arith, roomy 4 (omega arith), c.requires.indexed.long, c.requires.indexed.bindings.under, c.requires.k_in_bounds)
+
+pub word_at-requires : goal.word_at-requires
+word_at-requires c = (binding-here _ _ c.requires.indexed _ _ c.requires.k_in_bounds (c.wide16.ensures ∙ ap (λ k. get_or c.args.index.now (k + 1 + c.args.k) 0) c.base.ensures)).room
+
+pub returns : goal.returns
+returns c =
+    c.word_at.ensures.reads
+    ∙ ap (λ (b : Binding). b.name) (binding-here _ _ c.requires.indexed _ _ c.requires.k_in_bounds (c.wide16.ensures ∙ ap (λ k. get_or c.args.index.now (k + 1 + c.args.k) 0) c.base.ensures)).is

@@ -1,0 +1,9 @@
+use mathlib.Core.Path.{◌∙◌}
+use Prim.Native.Nat.{◌-◌}
+use Rattle.checks.proofs.Fill.{nodes-few}
+use Rattle.checks.proofs.Marks.{marks-tell}
+use borrow.Author.Rules.{rules}
+use Rattle.checks.proofs.children_once.Goals as goal
+
+pub returns : goal.returns
+returns c = c.mark_nodes.ensures.gives ∙ marks-tell _ c.requires.file_value 2048 (nodes-few _ _ c.requires.indexed)

@@ -1,0 +1,15 @@
+use native.Mathlib.Omega.{arith}
+use mathlib.Core.Path.{◌≡◌, refl}
+use Prim.Native.Nat.{◌-◌}
+use lib.ListN.{length, take, replicate, length-set}
+use lib.Seq.{sets}
+use borrow.Author.Rules.{rules}
+use Rattle.file.specs.Steps.{last_bindings_base}
+use Rattle.checks.proofs.Last.{clear-more, clear-end}
+use Rattle.checks.proofs.clear_last_bindings.Given as goal
+
+abbrev pub invariant-loop-x : goal.invariant-loop-x
+invariant-loop-x l = (l.index ≡ sets l.initial.index last_bindings_base (take l.x (replicate l.n 0))) × (length l.index ≡ length l.initial.index)
+
+abbrev pub decreases-loop-x : goal.decreases-loop-x
+decreases-loop-x l = l.n - l.x

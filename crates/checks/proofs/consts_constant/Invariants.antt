@@ -1,0 +1,19 @@
+use mathlib.Core.Path.{◌≡◌, sym, ◌∙◌}
+use native.Mathlib.Omega.{arith}
+use Prim.Native.Nat.{◌-◌, ◌≤◌}
+use lib.ListN.{length}
+use borrow.Author.Rules.{rules}
+use borrow.Author.Tests.{not-true, not-false}
+use Rattle.file.specs.Tables.{tables_of}
+use Rattle.rules.specs.Checks.{slot_constant, consts_constant}
+use Rattle.views.specs.Views.{binding_at}
+use Rattle.record_checks.proofs.Every.{every, every-none, every-yes, every-no}
+use Rattle.record_checks.proofs.Seen.{every-start}
+use Rattle.checks.proofs.Fill.{consts-every}
+use Rattle.checks.proofs.consts_constant.Given as goal
+
+abbrev pub invariant-loop-b : goal.invariant-loop-b
+invariant-loop-b l = (consts_constant (tables_of l.file) ≡ every (λ k. slot_constant (tables_of l.file) (binding_at (tables_of l.file) k).slot) (l.n - l.b) l.b) × (l.b ≤ l.n) × (l.n ≡ length (tables_of l.file).bindings)
+
+abbrev pub decreases-loop-b : goal.decreases-loop-b
+decreases-loop-b l = l.n - l.b

@@ -1,0 +1,20 @@
+use mathlib.Core.Path.{◌≡◌, sym, ◌∙◌}
+use native.Mathlib.Omega.{arith}
+use Prim.Native.Nat.{◌-◌, ◌≤◌}
+use lib.ListN.{length}
+use lib.Dec.{leb}
+use borrow.Author.Rules.{rules}
+use Rattle.file.specs.Tables.{tables_of}
+use Rattle.rules.specs.Limits.{step_limit}
+use Rattle.checks.specs.Checked.{fetched_fit}
+use Rattle.views.specs.Views.{fetched_at, PathInside}
+use Rattle.record_checks.proofs.Every.{every, every-none, every-yes, every-no}
+use Rattle.record_checks.proofs.Seen.{every-start}
+use Rattle.checks.proofs.Fill.{fetched-every, fetched-steps, steps_low, steps_high}
+use Rattle.checks.proofs.fetched_fit.Given as goal
+
+abbrev pub invariant-loop-k : goal.invariant-loop-k
+invariant-loop-k l = (fetched_fit (tables_of l.file) ≡ every (λ j. leb (length (fetched_at (tables_of l.file) j).path.steps) step_limit) (l.n - l.k) l.k) × (l.k ≤ l.n) × (l.n ≡ length (tables_of l.file).fetched)
+
+abbrev pub decreases-loop-k : goal.decreases-loop-k
+decreases-loop-k l = l.n - l.k

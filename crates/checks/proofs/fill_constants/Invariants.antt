@@ -1,0 +1,17 @@
+use mathlib.Core.Path.{◌≡◌, refl, ◌∙◌}
+use native.Mathlib.Omega.{arith}
+use Prim.Native.Nat.{◌-◌, ◌≤◌}
+use lib.ListN.{length, take, length-set}
+use lib.Seq.{sets}
+use borrow.Author.Rules.{rules}
+use Rattle.file.specs.Steps.{constants_base}
+use Rattle.file.specs.Tables.{tables_of}
+use Rattle.checks.specs.Checked.{flags_of}
+use Rattle.checks.proofs.Fill.{nodes-few, indexed-so, flag-stored, flags-done}
+use Rattle.checks.proofs.fill_constants.Given as goal
+
+abbrev pub invariant-loop-n : goal.invariant-loop-n
+invariant-loop-n l = (l.index ≡ sets l.initial.index constants_base (take l.n (flags_of (tables_of l.file)))) × (l.n ≤ l.m) × (l.m ≡ length (tables_of l.file).nodes) × (length l.index ≡ length l.initial.index)
+
+abbrev pub decreases-loop-n : goal.decreases-loop-n
+decreases-loop-n l = l.m - l.n

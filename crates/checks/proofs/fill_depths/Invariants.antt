@@ -1,0 +1,17 @@
+use mathlib.Core.Path.{◌≡◌, refl, ◌∙◌}
+use native.Mathlib.Omega.{arith}
+use Prim.Native.Nat.{◌-◌, ◌≤◌}
+use lib.ListN.{length, take, length-set}
+use lib.Seq.{sets}
+use borrow.Author.Rules.{rules}
+use Rattle.file.specs.Steps.{depths_base}
+use Rattle.file.specs.Tables.{tables_of}
+use Rattle.rules.specs.File.{depths}
+use Rattle.checks.proofs.Fill.{types-few, depths-done, indexed-so, depth-stored}
+use Rattle.checks.proofs.fill_depths.Given as goal
+
+abbrev pub invariant-loop-t : goal.invariant-loop-t
+invariant-loop-t l = (l.index ≡ sets l.initial.index depths_base (take l.t (depths (tables_of l.file)))) × (l.t ≤ l.n) × (l.n ≡ length (tables_of l.file).types) × (length l.index ≡ length l.initial.index)
+
+abbrev pub decreases-loop-t : goal.decreases-loop-t
+decreases-loop-t l = l.n - l.t

@@ -1,0 +1,13 @@
+use native.Mathlib.Omega.{arith}
+use mathlib.Core.Path.{◌∙◌}
+use Prim.Native.Nat.{◌-◌}
+use borrow.Author.Rules.{rules}
+use Rattle.checks.proofs.Fill.{names-few, bindings-few, name-few}
+use Rattle.checks.proofs.Last.{Written, cleared-length, written_none, written-more, written_all}
+use Rattle.checks.proofs.fill_last_bindings.Given as goal
+
+abbrev pub invariant-loop-k : goal.invariant-loop-k
+invariant-loop-k l = Written l.file l.initial.index l.index l.k
+
+abbrev pub decreases-loop-k : goal.decreases-loop-k
+decreases-loop-k l = l.n - l.k

@@ -1,0 +1,11 @@
+use native.Mathlib.Omega.{arith}
+use Prim.Native.Nat.{◌-◌}
+use Rattle.views.specs.Views.{alternative_at}
+use Rattle.tables.proofs.Searches.{Seeking, called, first-start, alternative-more, alternative-hit, alternative-end}
+use Rattle.tables.proofs.alternative_of.Given as goal
+
+abbrev pub invariant-loop-k : goal.invariant-loop-k
+invariant-loop-k l = Seeking (called l.name) (alternative_at l.file) 8 l.n l.at l.k
+
+abbrev pub decreases-loop-k : goal.decreases-loop-k
+decreases-loop-k l = l.n - l.k
