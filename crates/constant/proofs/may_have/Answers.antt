@@ -1,0 +1,6 @@
+use borrow.Author.Rules.{rules}
+use Rattle.constant.proofs.Has.{asked}
+use Rattle.constant.proofs.may_have.Goals as goal
+
+pub returns : goal.returns
+returns c = asked _ _ _ c.if-sure.false c.has_record.ensures

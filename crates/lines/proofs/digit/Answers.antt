@@ -1,0 +1,9 @@
+use Rattle.lines.proofs.Hexes.{digit_low, digit-high}
+use borrow.Author.Rules.{rules}
+use Rattle.lines.proofs.digit.Goals as goal
+
+pub returns-then-n-lt10 : goal.returns-then-n-lt10
+returns-then-n-lt10 c = digit_low _ c.if-n-lt10.true
+
+pub returns-else-n-lt10 : goal.returns-else-n-lt10
+returns-else-n-lt10 c = digit-high _ c.if-n-lt10.false

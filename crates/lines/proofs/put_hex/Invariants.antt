@@ -1,0 +1,14 @@
+use mathlib.Core.Path.{◌≡◌, refl, sym, ◌∙◌}
+use Prim.Native.Nat.{◌*◌, ◌-◌, ◌≤◌}
+use native.Mathlib.Omega.{arith}
+use lib.ListN.{length, drop, length-set}
+use lib.Seq.{sets}
+use Rattle.lines.specs.Lines.{hex}
+use Rattle.lines.proofs.Hexes.{hex-more, hex-end}
+use Rattle.lines.proofs.put_hex.Given as goal
+
+abbrev pub invariant-loop-i : goal.invariant-loop-i
+invariant-loop-i l = (length l.out ≡ length l.initial.out) × (length l.bytes * 2 ≤ length l.initial.out) × (sets l.initial.out 0 (hex l.bytes) ≡ sets l.out (l.i * 2) (hex (drop l.i l.bytes)))
+
+abbrev pub decreases-loop-i : goal.decreases-loop-i
+decreases-loop-i l = length l.bytes - l.i

@@ -1,0 +1,15 @@
+use mathlib.Core.Path.{◌≡◌, refl, sym, ◌∙◌}
+use Prim.Native.Nat.{◌*◌, ◌/◌, ◌-◌, ◌≤◌}
+use native.Mathlib.Omega.{arith}
+use borrow.Author.Rules.{rules}
+use lib.ListN.{length, drop, length-set}
+use lib.Seq.{sets}
+use Rattle.lines.specs.Lines.{unhex}
+use Rattle.lines.proofs.Hexes.{unhex-more, unhex-end}
+use Rattle.lines.proofs.unhex.Given as goal
+
+abbrev pub invariant-loop-i : goal.invariant-loop-i
+invariant-loop-i l = (length l.out ≡ length l.initial.out) × (length l.text ≤ length l.initial.out * 2) × (sets l.initial.out 0 (unhex l.text) ≡ sets l.out l.i (unhex (drop (l.i * 2) l.text)))
+
+abbrev pub decreases-loop-i : goal.decreases-loop-i
+decreases-loop-i l = length l.text / 2 - l.i

@@ -1,0 +1,27 @@
+use native.Mathlib.Omega.{arith}
+use mathlib.Core.Path.{sym, ap, ◌∙◌}
+use Rattle.plan_form.specs.Pieces.{then_at}
+use Rattle.plan_form.proofs.Cases.{ends-in, within, guide_that-next, guide_that-fault}
+use Rattle.plan_form.proofs.Forward.{suffix-path, suffix-fuzzy_node}
+use borrow.Author.Rules.{rules}
+use Rattle.plan_form.proofs.guide_that_end.Goals as goal
+
+pub fuzzy_end-requires : goal.fuzzy_end-requires
+fuzzy_end-requires c =
+    let e = sym c.path_end.ensures ∙ c.in-Next.is in
+    within _ suffix-path _ _ (omega arith) e
+
+pub fixed_after-requires : goal.fixed_after-requires
+fixed_after-requires c =
+    let e = sym c.path_end.ensures ∙ c.in-Next.is in
+    (ends-in _ suffix-fuzzy_node _ _ (within _ suffix-path _ _ (omega arith) e) c.fuzzy_end.ensures, omega arith)
+
+pub returns-in-Next : goal.returns-in-Next
+returns-in-Next c =
+    let e = sym c.path_end.ensures ∙ c.in-Next.is in
+    c.fixed_after.ensures ∙ ap (then_at _ _) c.fuzzy_end.ensures ∙ sym (guide_that-next _ _ _ (omega arith) e)
+
+pub returns-in-Refused : goal.returns-in-Refused
+returns-in-Refused c =
+    let e = sym c.path_end.ensures ∙ c.in-Refused.is in
+    sym (guide_that-fault _ _ _ e)

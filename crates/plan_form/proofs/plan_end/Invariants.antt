@@ -1,0 +1,18 @@
+use mathlib.Core.Path.{◌≡◌, sym, ◌∙◌}
+use native.Mathlib.Omega.{arith}
+use borrow.Author.Rules.{rules}
+use Prim.Native.Nat.{◌≤◌, ◌-◌}
+use lib.ListN.{length}
+use Rattle.rules.specs.Reader as Reader
+use Rattle.file.specs.Steps.{step_at}
+use Rattle.plan_form.specs.Pieces.{lists}
+use Rattle.plan_form.proofs.Cases.{within}
+use Rattle.plan_form.proofs.Forward.{suffix-list}
+use Rattle.plan_form.proofs.Lists.{plan-lists, lists-more, lists-fault, lists-over, lists-whole}
+use Rattle.plan_form.proofs.plan_end.Given as goal
+
+abbrev pub invariant-loop-s : goal.invariant-loop-s
+invariant-loop-s l = (step_at l.plan Reader.plan 0 ≡ step_at l.plan (lists (5 - l.s) l.s) l.p) × (l.p ≤ length l.plan) × (l.s ≤ 5)
+
+abbrev pub decreases-loop-s : goal.decreases-loop-s
+decreases-loop-s l = 5 - l.s

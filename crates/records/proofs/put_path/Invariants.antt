@@ -1,0 +1,17 @@
+use Rattle.paths.specs.Paths.{path_of}
+use Rattle.records.specs.Records.{put}
+use borrow.Author.Rules.{rules}
+use native.Mathlib.Omega.{arith}
+use mathlib.Core.Path.{◌≡◌, refl, ap, ◌∙◌}
+use lib.ListN.{length, take}
+use Prim.Native.Nat.{◌≤◌, ◌+◌, ◌-◌, ◌*◌}
+use Rattle.rules.specs.Base.{concat_map}
+use Rattle.rules.specs.Plan as Plan
+use Rattle.records.proofs.Forms.{path-size, steps_left, steps_first, steps-more, path-put}
+use Rattle.records.proofs.put_path.Given as goal
+
+abbrev pub invariant-loop-i : goal.invariant-loop-i
+invariant-loop-i l = (l.i ≤ l.n) × (length l.buf ≡ length l.initial.buf) × (put l.initial.buf (l.at + 3) (concat_map Plan.u32 (take l.n l.steps)) ≡ steps_left l.steps l.n (l.at + 3) l.i l.buf)
+
+abbrev pub decreases-loop-i : goal.decreases-loop-i
+decreases-loop-i l = l.n - l.i
