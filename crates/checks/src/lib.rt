@@ -22,7 +22,7 @@ use record_checks::{children_lower, numbers_in, types_distinct};
 use views::{NodeView, SlotView, TypeView, binding_at, count_of, fetched_at, node_at, type_at};
 
 // Whether a file is accepted, or the number of its refusal.
-#[derive(Drop)]
+#[derive(Clone, Copy)]
 pub enum Verdict {
     Accepted,
     Refused(u8),

@@ -19,7 +19,7 @@ use tables::{BYTES, Found, MaybeAlternative, alternative_of, field_pattern, fold
 use views::{Anchor, NodeView, TypeView, field_pattern_at, field_ty_at, name_at, node_at, type_at};
 
 // Bytes has the node, the type and the length, which stops at CAP; Prefix the name; Fuzzy the name, the distance and the anchor.
-#[derive(Drop)]
+#[derive(Clone, Copy)]
 pub enum Const {
     Nothing,
     Bytes(usize, usize, usize),
@@ -28,7 +28,7 @@ pub enum Const {
 }
 
 // A number of bytes, which stops at CAP.
-#[derive(Drop)]
+#[derive(Clone, Copy)]
 pub enum Size {
     Nothing,
     Just(usize),

@@ -7,7 +7,7 @@ ghost use Rattle.endings.specs.Endings.{ending_outcome, length_of, answer_of, Wi
 use zeroes::zero;
 
 // The length of the plan at the front of the output, or the number of the refusal.
-#[derive(Drop)]
+#[derive(Clone, Copy)]
 pub enum Ending {
     Planned(usize),
     Refused(u8),

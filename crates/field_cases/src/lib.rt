@@ -35,7 +35,7 @@ use walk::Walk;
 
 // How `field` goes on, by the pattern's kind: a union value, a skip, a diagnostic with a skip, a range or a guide, a constant, a variable
 // of a name, or a read.
-#[derive(Drop)]
+#[derive(Clone, Copy)]
 pub enum Way {
     Union,
     Skip,
@@ -47,20 +47,20 @@ pub enum Way {
 }
 
 // The alternative that `inject` goes on with, if any: its disc, its payload's pattern and type.
-#[derive(Drop)]
+#[derive(Clone, Copy)]
 pub enum Choice {
     Nothing,
     Just(u32, usize, usize),
 }
 
-#[derive(Drop)]
+#[derive(Clone, Copy)]
 pub struct Chosen {
     pub choice: Choice,
     pub walk: Walk,
 }
 
 // Where the type's fields and the pattern's pairs stand in the file, and how many there are, of a Record that is opened.
-#[derive(Drop)]
+#[derive(Clone, Copy)]
 pub struct Places {
     pub count: usize,
     pub pairs: usize,
@@ -69,7 +69,7 @@ pub struct Places {
 }
 
 // A field's type, and the pattern that it is given.
-#[derive(Drop)]
+#[derive(Clone, Copy)]
 pub struct Piece {
     pub pattern: Found,
     pub ty: usize,

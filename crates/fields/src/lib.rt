@@ -23,19 +23,19 @@ use views::{
 };
 
 // A field's place in its record type, and its type.
-#[derive(Drop)]
+#[derive(Clone, Copy)]
 pub enum FieldAt {
     Nothing,
     Just(u16, usize),
 }
 
-#[derive(Drop)]
+#[derive(Clone, Copy)]
 pub enum MaybeName {
     Nothing,
     Just(usize),
 }
 
-#[derive(Drop)]
+#[derive(Clone, Copy)]
 pub enum MaybeAddress {
     Nothing,
     Just(Address),

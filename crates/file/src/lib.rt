@@ -11,7 +11,7 @@ ghost use Rattle.file.specs.Tables.{Indexed};
 use utf8::well_formed;
 
 // Where what was read ends, or the number of the first fault.
-#[derive(Drop)]
+#[derive(Clone, Copy)]
 pub enum Step {
     Next(usize),
     Refused(u8),

@@ -20,7 +20,7 @@ use seek::{SeekBuilder, kept};
 use texts::{edge_len, prefix_text_len, put_edge, put_prefix_text};
 
 // Where a level's parts, the nodes of parts that are joined, middle, residuals and tail begin, and where it ends.
-#[derive(Drop)]
+#[derive(Clone, Copy)]
 pub struct Frame {
     pub parts: usize,
     pub nodes: usize,

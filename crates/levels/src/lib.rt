@@ -28,7 +28,7 @@ use walk::Walk;
 const PLAN_LIMIT: usize = 16384;
 
 // How far the plan is written, and the lists so far.
-#[derive(Drop)]
+#[derive(Clone, Copy)]
 pub struct Written {
     pub at: usize,
     pub lists: Lists,

@@ -37,7 +37,7 @@ use views::{MaybePredicate, SlotView, count_of, path_at};
 
 // How far each list has come in the work area: where one that grows up ends, where the newest record of one that grows down begins; and how
 // many records the two have whose records differ in length.
-#[derive(Drop)]
+#[derive(Clone, Copy)]
 pub struct Ends {
     pub bindings: u32,
     pub binding_count: u32,
@@ -47,13 +47,13 @@ pub struct Ends {
     pub diagnostics: u32,
 }
 
-#[derive(Drop)]
+#[derive(Clone, Copy)]
 pub struct Lists {
     pub over: bool,
     pub ends: Ends,
 }
 
-#[derive(Drop)]
+#[derive(Clone, Copy)]
 pub enum Code {
     NyiDisjunction,
     NyiFactField,

@@ -29,7 +29,7 @@ use views::{
 };
 
 // What a pattern comes to at a type: it is known, or it is what the fields of a Record come to, or a union's payload.
-#[derive(Drop)]
+#[derive(Clone, Copy)]
 pub enum Step {
     Known(bool),
     Fields(usize),

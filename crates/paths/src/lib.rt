@@ -6,14 +6,14 @@ ghost use Rattle.rules.specs.File.{field_path, then, payload};
 ghost use Rattle.rules.specs.Lookup.{same_path};
 ghost use Rattle.paths.specs.Paths.{path_of, path_for, stepped, Holds};
 
-#[derive(Drop)]
+#[derive(Clone, Copy)]
 pub struct Address(pub u16);
 
-#[derive(Drop)]
+#[derive(Clone, Copy)]
 pub struct PredicateId(pub u16);
 
 // The steps past `count` are of no meaning.
-#[derive(Drop)]
+#[derive(Clone, Copy)]
 pub struct FieldPath {
     pub steps: [u32; FieldPath::STEP_LIMIT],
     pub count: u16,

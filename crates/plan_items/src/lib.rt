@@ -29,7 +29,7 @@ use plan_form::{
 use views::{Anchor, SlotView, TextView, anchor_of, half_at, long_at, maybe_predicate, past_path};
 
 // The key of a part of a seek. RegisterField has the position of its path.
-#[derive(Drop)]
+#[derive(Clone, Copy)]
 pub enum PartView {
     Bytes(TextView),
     RegisterField(Address, usize),
@@ -37,14 +37,14 @@ pub enum PartView {
 }
 
 // The key of a part, and where it ends.
-#[derive(Drop)]
+#[derive(Clone, Copy)]
 pub struct KeyItem {
     pub key: PartView,
     pub end: usize,
 }
 
 // A part with the node that made it, and where it ends.
-#[derive(Drop)]
+#[derive(Clone, Copy)]
 pub struct PartItem {
     pub part: PartView,
     pub node: usize,
@@ -52,7 +52,7 @@ pub struct PartItem {
 }
 
 // An edge of a Bounded seek.
-#[derive(Drop)]
+#[derive(Clone, Copy)]
 pub enum EdgeView {
     Nothing,
     Exclusive(TextView),
@@ -60,28 +60,28 @@ pub enum EdgeView {
 }
 
 // An edge, and where it ends.
-#[derive(Drop)]
+#[derive(Clone, Copy)]
 pub struct EdgeItem {
     pub edge: EdgeView,
     pub end: usize,
 }
 
 // A level's guide, if it has one: the position of its path, a name, a distance, an anchor and its node.
-#[derive(Drop)]
+#[derive(Clone, Copy)]
 pub enum GuideView {
     Nothing,
     Just(usize, usize, u8, Anchor, usize),
 }
 
 // A guide, and where it ends.
-#[derive(Drop)]
+#[derive(Clone, Copy)]
 pub struct GuideItem {
     pub guide: GuideView,
     pub end: usize,
 }
 
 // What a residual asks of the bytes at its path; RegisterField has the position of the register's path, OwnField that of the same row's.
-#[derive(Drop)]
+#[derive(Clone, Copy)]
 pub enum NarrowingView {
     Bytes(TextView),
     Prefix(TextView),
@@ -93,14 +93,14 @@ pub enum NarrowingView {
 }
 
 // What a residual asks, and where it ends.
-#[derive(Drop)]
+#[derive(Clone, Copy)]
 pub struct NarrowingItem {
     pub narrowing: NarrowingView,
     pub end: usize,
 }
 
 // A residual: the position of its path, its op and its node.
-#[derive(Drop)]
+#[derive(Clone, Copy)]
 pub struct ResidualView {
     pub path: usize,
     pub op: NarrowingView,
@@ -110,7 +110,7 @@ pub struct ResidualView {
 
 // A level's seek. Prefix has its text and the position of the first part's node, the others the position of the first part; a
 // PrefixRange has its text, the position of its path and its node.
-#[derive(Drop)]
+#[derive(Clone, Copy)]
 pub enum SeekView {
     Prefix(TextView, usize),
     Composite(usize),
@@ -119,14 +119,14 @@ pub enum SeekView {
 }
 
 // A seek, and where it ends.
-#[derive(Drop)]
+#[derive(Clone, Copy)]
 pub struct SeekItem {
     pub seek: SeekView,
     pub end: usize,
 }
 
 // A list: how many items it has, and the position of the first.
-#[derive(Drop)]
+#[derive(Clone, Copy)]
 pub struct ListView {
     pub count: usize,
     pub at: usize,
@@ -134,7 +134,7 @@ pub struct ListView {
 }
 
 // A level: its three counts, its seek, its guide, and its two lists.
-#[derive(Drop)]
+#[derive(Clone, Copy)]
 pub struct LevelView {
     pub narrowings: usize,
     pub closers: usize,
@@ -147,14 +147,14 @@ pub struct LevelView {
 }
 
 // A slot, and where it ends.
-#[derive(Drop)]
+#[derive(Clone, Copy)]
 pub struct SlotItem {
     pub slot: SlotView,
     pub end: usize,
 }
 
 // A new binding: a name and where its value lives.
-#[derive(Drop)]
+#[derive(Clone, Copy)]
 pub struct BindingItem {
     pub name: usize,
     pub slot: SlotView,
@@ -162,7 +162,7 @@ pub struct BindingItem {
 }
 
 // A select: `path` is the position of its path.
-#[derive(Drop)]
+#[derive(Clone, Copy)]
 pub struct SelectView {
     pub address: Address,
     pub path: usize,
@@ -171,7 +171,7 @@ pub struct SelectView {
 }
 
 // A diagnostic: a node, and the number of its code.
-#[derive(Drop)]
+#[derive(Clone, Copy)]
 pub struct DiagnosticView {
     pub node: usize,
     pub code: u8,
@@ -179,7 +179,7 @@ pub struct DiagnosticView {
 }
 
 // The five lists of a plan.
-#[derive(Drop)]
+#[derive(Clone, Copy)]
 pub struct PlanView {
     pub levels: ListView,
     pub bindings: ListView,

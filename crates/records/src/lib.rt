@@ -16,7 +16,7 @@ use paths::{Address, FieldPath};
 use views::Anchor;
 
 // Where bytes go in the plan, and whether they do. A part that is joined has no frame.
-#[derive(Drop)]
+#[derive(Clone, Copy)]
 pub struct Place {
     pub write: bool,
     pub joined: bool,

@@ -35,7 +35,7 @@ use tables::{MaybeAlternative, Run, alternative_of, is_constant, union_ty};
 use views::{MaybePredicate, NodeView, count_of, node_of};
 
 // A slot, if the read gives one, and the lists with what it added.
-#[derive(Drop)]
+#[derive(Clone, Copy)]
 pub struct Answer {
     pub some: bool,
     pub slot: Slot,
@@ -43,21 +43,21 @@ pub struct Answer {
 }
 
 // What is read of a base: a field of its key by name, its value side, or a union's alternative by name.
-#[derive(Drop)]
+#[derive(Clone, Copy)]
 pub enum Read {
     Key(usize),
     Value,
     Select(usize),
 }
 
-#[derive(Drop)]
+#[derive(Clone, Copy)]
 pub enum Base {
     Nothing,
     Just(Read, usize),
 }
 
 // How many nodes of a chain of reads were passed, and the node below them.
-#[derive(Drop)]
+#[derive(Clone, Copy)]
 pub struct Chain {
     pub passed: usize,
     pub node: usize,

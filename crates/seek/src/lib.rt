@@ -20,7 +20,7 @@ mod totals;
 mod values;
 
 // `closers` and `others` are the parts; `framed` is what the plan's form of the parts adds to them joined.
-#[derive(Drop)]
+#[derive(Clone, Copy)]
 pub struct Counts {
     pub narrowings: u32,
     pub closers: u32,
@@ -32,7 +32,7 @@ pub struct Counts {
 }
 
 // Counts that may be too large for a plan.
-#[derive(Drop)]
+#[derive(Clone, Copy)]
 pub struct Sums {
     pub narrowings: usize,
     pub closers: usize,
@@ -43,7 +43,7 @@ pub struct Sums {
     pub rest: usize,
 }
 
-#[derive(Drop)]
+#[derive(Clone, Copy)]
 pub struct Edge {
     pub set: bool,
     pub inclusive: bool,
@@ -51,7 +51,7 @@ pub struct Edge {
     pub ty: u16,
 }
 
-#[derive(Drop)]
+#[derive(Clone, Copy)]
 pub struct Guide {
     pub set: bool,
     pub distance: u8,
@@ -61,7 +61,7 @@ pub struct Guide {
 }
 
 // A Prefix node's text is its name.
-#[derive(Drop)]
+#[derive(Clone, Copy)]
 pub struct Range {
     pub set: bool,
     pub name: u16,
@@ -69,14 +69,14 @@ pub struct Range {
 }
 
 // The indices of the comparisons that gave the edges, as many as there are edges.
-#[derive(Drop)]
+#[derive(Clone, Copy)]
 pub struct Folded {
     pub first: u16,
     pub second: u16,
 }
 
 // Where the parts, their nodes if the parts are joined, and the residuals begin in the plan.
-#[derive(Drop)]
+#[derive(Clone, Copy)]
 pub struct Target {
     pub joining: bool,
     pub parts: u32,
@@ -85,7 +85,7 @@ pub struct Target {
 }
 
 // `path` is that of range and guide: a guide beside a range has the range's path.
-#[derive(Drop)]
+#[derive(Clone, Copy)]
 pub struct SeekBuilder {
     pub over: bool,
     pub building: bool,
@@ -101,7 +101,7 @@ pub struct SeekBuilder {
 }
 
 // A level, and where what it grew by is written.
-#[derive(Drop)]
+#[derive(Clone, Copy)]
 pub struct Placed {
     pub level: SeekBuilder,
     pub place: Place,

@@ -6,7 +6,7 @@ ghost use Rattle.slots.specs.Slots.{plain_slot, field_slot, just_slot, no_slot};
 use paths::{Address, FieldPath};
 use views::MaybePredicate;
 
-#[derive(Drop)]
+#[derive(Clone, Copy)]
 pub enum SlotKind {
     Row(Address, MaybePredicate),
     Key(Address, usize),
@@ -17,14 +17,14 @@ pub enum SlotKind {
 }
 
 // Of any other kind than Field the path has no meaning, and is that of `plain`.
-#[derive(Drop)]
+#[derive(Clone, Copy)]
 pub struct Slot {
     pub kind: SlotKind,
     pub path: FieldPath,
 }
 
 // Where there is none, the slot is that of `nothing`.
-#[derive(Drop)]
+#[derive(Clone, Copy)]
 pub struct MaybeSlot {
     pub some: bool,
     pub slot: Slot,

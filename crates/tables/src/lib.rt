@@ -36,27 +36,27 @@ pub const QUIET: usize = 2;
 pub const BYTES: usize = 3;
 
 // The number that a search found.
-#[derive(Drop)]
+#[derive(Clone, Copy)]
 pub enum Found {
     Nothing,
     Just(usize),
 }
 
 // Fields, alternatives or pairs: how many there are, and where the first stands.
-#[derive(Drop)]
+#[derive(Clone, Copy)]
 pub enum Run {
     Nothing,
     Just(usize, usize),
 }
 
-#[derive(Drop)]
+#[derive(Clone, Copy)]
 pub enum MaybeAlternative {
     Nothing,
     Just(Alternative),
 }
 
 // A slot as a view of the bytes that it stands in.
-#[derive(Drop)]
+#[derive(Clone, Copy)]
 pub enum MaybeSlotView {
     Nothing,
     Just(SlotView),

@@ -5,7 +5,7 @@ ghost use Rattle.tally.specs.Tallies as Tallies;
 ghost use Rattle.tally.specs.Tallies.{count_limit};
 
 // How many answers were compared, and how many of them differ.
-#[derive(Drop)]
+#[derive(Clone, Copy)]
 pub struct Tally {
     pub compared: usize,
     pub different: usize,

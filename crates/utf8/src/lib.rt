@@ -7,7 +7,7 @@ ghost use Rattle.rules.specs.Base.{all};
 ghost use Rattle.utf8.specs.Wants.{block_size, wants, is_low, greatest_of};
 
 // What the character at hand still wants: how many bytes, and the range of the next one. It is nothing between two characters.
-#[derive(Drop)]
+#[derive(Clone, Copy)]
 pub struct Wanted {
     pub more: u8,
     pub low: u8,

@@ -17,7 +17,7 @@ use file::{
 use paths::{Address, FieldPath, PredicateId};
 
 // A type. Record and Union have the count of their children and the position of the first.
-#[derive(Drop)]
+#[derive(Clone, Copy)]
 pub enum TypeView {
     Int,
     Str,
@@ -28,14 +28,14 @@ pub enum TypeView {
 }
 
 // A field of a Record type.
-#[derive(Drop)]
+#[derive(Clone, Copy)]
 pub struct FieldTy {
     pub name: usize,
     pub ty: usize,
 }
 
 // An alternative of a Union type.
-#[derive(Drop)]
+#[derive(Clone, Copy)]
 pub struct Alternative {
     pub name: usize,
     pub disc: u32,
@@ -43,21 +43,21 @@ pub struct Alternative {
 }
 
 // A type, if there is one.
-#[derive(Drop)]
+#[derive(Clone, Copy)]
 pub enum MaybeType {
     Nothing,
     Just(usize),
 }
 
 // A predicate's key type, and its value type if it has one.
-#[derive(Drop)]
+#[derive(Clone, Copy)]
 pub struct Predicate {
     pub key: usize,
     pub value: MaybeType,
 }
 
 // Where a fuzzy text has to stand: at the beginning, or as the whole.
-#[derive(Drop)]
+#[derive(Clone, Copy)]
 pub enum Anchor {
     Prefix,
     Whole,
@@ -65,7 +65,7 @@ pub enum Anchor {
 
 // A node. Int has the position of its eight bytes, Bytes a count and the position of the first, Record a count and the position of its
 // first pair.
-#[derive(Drop)]
+#[derive(Clone, Copy)]
 pub enum NodeView {
     Int(usize),
     Str(usize),
@@ -87,28 +87,28 @@ pub enum NodeView {
 }
 
 // A pair of a Record node: a field's name and the pattern for it.
-#[derive(Drop)]
+#[derive(Clone, Copy)]
 pub struct FieldPattern {
     pub name: usize,
     pub node: usize,
 }
 
 // A name's text: its position and its length.
-#[derive(Drop)]
+#[derive(Clone, Copy)]
 pub struct TextView {
     pub at: usize,
     pub len: usize,
 }
 
 // A predicate, if there is one.
-#[derive(Drop)]
+#[derive(Clone, Copy)]
 pub enum MaybePredicate {
     Nothing,
     Just(PredicateId),
 }
 
 // A slot. Field has the position of its path between its address and its type.
-#[derive(Drop)]
+#[derive(Clone, Copy)]
 pub enum SlotView {
     Row(Address, MaybePredicate),
     Key(Address, usize),
@@ -119,21 +119,21 @@ pub enum SlotView {
 }
 
 // A binding of the file: a name and where its value lives.
-#[derive(Drop)]
+#[derive(Clone, Copy)]
 pub struct BindingView {
     pub name: usize,
     pub slot: SlotView,
 }
 
 // A hoisted entry: the name that a node was given.
-#[derive(Drop)]
+#[derive(Clone, Copy)]
 pub struct Hoisted {
     pub node: usize,
     pub name: usize,
 }
 
 // A fetched entry: the register that holds what stands at a path of a row; `path` is the path's position.
-#[derive(Drop)]
+#[derive(Clone, Copy)]
 pub struct FetchedView {
     pub address: Address,
     pub path: usize,
@@ -141,13 +141,13 @@ pub struct FetchedView {
 }
 
 // A constraint: a pattern that a name's value has to meet.
-#[derive(Drop)]
+#[derive(Clone, Copy)]
 pub struct Constraint {
     pub name: usize,
     pub node: usize,
 }
 
-#[derive(Drop)]
+#[derive(Clone, Copy)]
 pub enum CompareOp {
     Lt,
     Le,
@@ -156,7 +156,7 @@ pub enum CompareOp {
 }
 
 // A comparison of two nodes.
-#[derive(Drop)]
+#[derive(Clone, Copy)]
 pub struct Comparison {
     pub op: CompareOp,
     pub left: usize,
@@ -164,7 +164,7 @@ pub struct Comparison {
 }
 
 // A level: the predicate whose facts it seeks, the pattern of their keys, and its register.
-#[derive(Drop)]
+#[derive(Clone, Copy)]
 pub struct LevelEntry {
     pub predicate: PredicateId,
     pub node: usize,

@@ -17,7 +17,7 @@ use seek::SeekBuilder;
 use slots::Slot;
 
 // A level, and where each of the four lists ends. Whether the plan is too long stands once, in the level.
-#[derive(Drop)]
+#[derive(Clone, Copy)]
 pub struct Walk {
     pub ends: Ends,
     pub level: SeekBuilder,
