@@ -1,0 +1,14 @@
+use native.Mathlib.Omega.{arith}
+use mathlib.Core.Path.{◌≡◌, sym, ◌∙◌}
+use Prim.Native.Nat.{◌≤◌, ◌-◌}
+use lib.ListN.{length}
+use Rattle.file.specs.Tables.{tables_of}
+use Rattle.fields.specs.Found.{hoisted_name}
+use Rattle.fields.proofs.Searches.{hoisted_from, hoisted-start, hoisted-more, hoisted-here, hoisted-end}
+use Rattle.fields.proofs.hoisted_name.Given as goal
+
+abbrev pub invariant-loop-k : goal.invariant-loop-k
+invariant-loop-k l = (l.n ≡ length (tables_of l.file).hoisted) × (l.k ≤ l.n) × (hoisted_name (tables_of l.file) l.node ≡ hoisted_from (tables_of l.file) l.node l.k)
+
+abbrev pub decreases-loop-k : goal.decreases-loop-k
+decreases-loop-k l = l.n - l.k

@@ -1,0 +1,61 @@
+use lib.ListN.{length}
+use Rattle.rules.specs.Limits.{step_limit}
+use native.Mathlib.Omega.{arith}
+use borrow.Author.Rules.{rules}
+use mathlib.Core.Path.{◌≡◌, refl, sym, ◌∙◌}
+use Prim.Native.Nat.{◌≤◌, ◌-◌, ◌+◌}
+use Rattle.views.specs.Views.{PathInside}
+use Rattle.fields.proofs.PathsAt.{fields-differ, counts-differ, same_from, same_more, same_stop, same_end, steps-decide}
+use Rattle.fields.proofs.path_is.Goals as goal
+
+pub word_at-requires : goal.word_at-requires
+unfolding PathInside
+word_at-requires c = omega arith
+
+pub wide16-requires : goal.wide16-requires
+wide16-requires c = tt
+
+pub returns-then-word_at-wide16 : goal.returns-then-word_at-wide16
+returns-then-word_at-wide16 c = fields-differ _ _ _ (λ e. c.if-word_at-wide16.true (c.word_at.ensures.reads ∙ e ∙ sym c.wide16.ensures))
+
+pub overflow_add-at : goal.overflow_add-at
+unfolding PathInside
+overflow_add-at c = omega arith
+
+pub bounds-file-at : goal.bounds-file-at
+unfolding PathInside
+bounds-file-at c = omega arith
+
+pub wide-requires : goal.wide-requires
+wide-requires c = tt
+
+pub returns-then-wide-n : goal.returns-then-wide-n
+returns-then-wide-n c = counts-differ _ _ _ step_limit (search rules) (search rules) (sym c.word_at.ensures.reads ∙ c.if-word_at-wide16.false ∙ c.wide16.ensures) (λ e. c.if-wide-n.true (c.wide.ensures.same ∙ e))
+
+pub loop-i-init : goal.loop-i-init
+loop-i-init c = (refl, omega arith, search rules)
+
+pub overflow_add-at-in-loop-i : goal.overflow_add-at-in-loop-i
+unfolding PathInside
+overflow_add-at-in-loop-i c = omega arith
+
+pub overflow_add-at-in-loop-i-2 : goal.overflow_add-at-in-loop-i-2
+unfolding PathInside
+overflow_add-at-in-loop-i-2 c = omega arith
+
+pub long_at-requires : goal.long_at-requires
+unfolding PathInside
+long_at-requires c = omega (arith, c.wide.ensures.same)
+
+pub returns-then-long_at-steps : goal.returns-then-long_at-steps
+returns-then-long_at-steps c =
+    steps-decide _ _ _ _ (sym c.word_at.ensures.reads ∙ c.if-word_at-wide16.false ∙ c.wide16.ensures) (sym c.wide.ensures.same ∙ c.if-wide-n.false)
+    (c.loop-i.invariant.0 ∙ same_stop _ _ _ _ step_limit c.loop-i.invariant.2 (search rules) _ c.loop-i-test.true (λ e. c.if-long_at-steps.true (c.long_at.ensures ∙ e)))
+
+pub loop-i-preserved : goal.loop-i-preserved
+loop-i-preserved c = (c.loop-i.invariant.0 ∙ same_more _ _ _ _ step_limit c.loop-i.invariant.2 (search rules) _ c.loop-i-test.true (sym c.long_at.ensures ∙ c.if-long_at-steps.false), omega arith, c.loop-i.invariant.2)
+
+pub returns : goal.returns
+returns c =
+    steps-decide _ _ _ _ (sym c.word_at.ensures.reads ∙ c.if-word_at-wide16.false ∙ c.wide16.ensures) (sym c.wide.ensures.same ∙ c.if-wide-n.false)
+    (c.loop-i.invariant.0 ∙ same_end _ _ _ _ step_limit c.loop-i.invariant.2 (search rules) _ c.loop-i-test.false)
