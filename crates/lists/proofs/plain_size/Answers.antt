@@ -1,0 +1,6 @@
+use Rattle.lists.proofs.Bounds.{size-four}
+use borrow.Author.Rules.{rules}
+use Rattle.lists.proofs.plain_size.Goals as goal
+
+pub returns : goal.returns
+returns c = size-four _ c.if-k-eq2.false c.if-k-eq5.false

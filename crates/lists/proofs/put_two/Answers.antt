@@ -1,0 +1,9 @@
+use mathlib.Core.Path.{refl}
+use Rattle.rules.specs.Plan as Plan
+use Rattle.records.proofs.Stores.{next}
+use borrow.Author.Rules.{rules}
+use Rattle.lists.proofs.put_two.Goals as goal
+
+pub returns : goal.returns
+unfolding Plan.u16
+returns c = next _ _ _ _ _ _ _ c.put_one.ensures c.put16.ensures refl

@@ -1,0 +1,35 @@
+use Rattle.lists.proofs.Forms.{select-end}
+use mathlib.Core.Path.{refl}
+use native.Mathlib.Omega.{arith}
+use Rattle.rules.specs.Plan as Plan
+use Rattle.state.specs.Ops as Ops
+use Rattle.records.proofs.Stores.{next, word-is}
+use Rattle.lists.proofs.Appends.{over, not-over, stops, appended, no_room, counted, too_many}
+use borrow.Author.Rules.{rules}
+use Rattle.lists.proofs.select.Goals as goal
+
+pub returns-then-l : goal.returns-then-l
+unfolding Ops.select
+returns-then-l c = λ lv tg p. over _ _ c.if-l.true
+
+pub returns-then-count-ge-COUNT_LIMIT : goal.returns-then-count-ge-COUNT_LIMIT
+unfolding Ops.select
+returns-then-count-ge-COUNT_LIMIT c = λ lv tg p. stops _ _ _ _ _ _ _ c.if-l.false c.stopped.ensures (too_many _ _ _ _ _ _ _ c.if-count-ge-COUNT_LIMIT.true)
+
+pub returns-then-end-wide32 : goal.returns-then-end-wide32
+unfolding Ops.select
+returns-then-end-wide32 c =
+    λ lv tg p.
+    stops _ _ _ _ _ _ _ c.if-l.false c.stopped-then-end-wide32.ensures
+    (counted _ _ _ _ _ _ _ _ (omega (arith, c.if-count-ge-COUNT_LIMIT.false))
+    (no_room _ _ _ _ _ _ _ _ _ c.wide32-at.ensures.0 (select-end _ _ _ _ _ c.path_size.ensures.0) c.wide32.ensures.0 c.if-end-wide32.true))
+
+pub returns : goal.returns
+unfolding Ops.select Plan.select Plan.u16
+returns c =
+    λ lv tg p.
+    let a = c.args in
+    not-over _ _ _ c.if-l.false
+    (counted _ _ _ _ _ _ _ _ (omega (arith, c.if-count-ge-COUNT_LIMIT.false))
+    (appended _ _ _ _ _ _ _ _ _ c.wide32-at.ensures.0 (select-end _ _ a.address.0 a.disc _ c.path_size.ensures.0) c.wide32.ensures.0 _ c.if-end-wide32.false
+    (next _ _ _ _ _ _ _ (next _ _ _ _ _ _ _ (word-is _ _ _ _ _ c.put16.ensures c.wide16.ensures) c.put_path-q.ensures.2 refl) c.put32.ensures (omega (arith, c.put_path-q.ensures.0)))))

@@ -1,0 +1,33 @@
+use mathlib.Core.Path.{refl}
+use Rattle.rules.specs.Checks.{is_type}
+use Rattle.state.specs.Ops.{roomy}
+use Rattle.lists.proofs.Fits.{fits-as, inside-as}
+use borrow.Author.Rules.{rules}
+use Rattle.lists.proofs.slot_fits.Goals as goal
+
+pub path_fits-requires : goal.path_fits-requires
+path_fits-requires c = record { accepted_file = c.requires.accepted_file; path_inside = inside-as _ _ _ c.in-Field.is c.requires.slot_inside }
+
+pub returns-in-Row : goal.returns-in-Row
+unfolding roomy is_type
+returns-in-Row c = fits-as _ _ _ _ c.in-Row.is _ c.predicate_in.ensures
+
+pub returns-in-Key : goal.returns-in-Key
+unfolding roomy is_type
+returns-in-Key c = fits-as _ _ _ _ c.in-Key.is _ c.numbered.ensures
+
+pub returns-in-Derived : goal.returns-in-Derived
+unfolding roomy is_type
+returns-in-Derived c = fits-as _ _ _ _ c.in-Derived.is _ refl
+
+pub returns-in-Field : goal.returns-in-Field
+unfolding roomy is_type
+returns-in-Field c = fits-as _ _ _ _ c.in-Field.is _ c.path_fits.ensures
+
+pub returns-in-Value : goal.returns-in-Value
+unfolding roomy is_type
+returns-in-Value c = fits-as _ _ _ _ c.in-Value.is _ refl
+
+pub returns-in-Const : goal.returns-in-Const
+unfolding roomy is_type
+returns-in-Const c = fits-as _ _ _ _ c.in-Const.is _ refl

@@ -1,0 +1,6 @@
+use Rattle.plan_rules.proofs.Rules.{folded-is}
+use borrow.Author.Rules.{rules}
+use Rattle.plan_rules.proofs.edges_folded.Goals as goal
+
+pub returns : goal.returns
+returns c = λ f x. folded-is f _ x _ (c.edges_number.ensures f _)

@@ -1,0 +1,19 @@
+use borrow.Author.Tests.{not-true, not-false}
+use Rattle.plan_rules.proofs.Rules.{closers-most, broken-closers, broken-sum, broken-edges, kept-by-seek}
+use borrow.Author.Rules.{rules}
+use Rattle.plan_rules.proofs.level_keeps.Goals as goal
+
+pub returns-then-not-closers_among_parts : goal.returns-then-not-closers_among_parts
+returns-then-not-closers_among_parts c = broken-closers _ _ c.requires _ c.closers_among_parts.ensures c.if-not-closers_among_parts.true
+
+pub narrowings_sum-requires : goal.narrowings_sum-requires
+narrowings_sum-requires c = record { closers_le_parts = closers-most _ _ c.requires _ c.closers_among_parts.ensures c.if-not-closers_among_parts.false; parts_lt_word_limit = (c.requires.few, c.requires.residuals.few) }
+
+pub returns-then-not-narrowings_sum : goal.returns-then-not-narrowings_sum
+returns-then-not-narrowings_sum c = broken-sum _ _ c.requires _ c.closers_among_parts.ensures c.if-not-closers_among_parts.false _ c.narrowings_sum.ensures c.if-not-narrowings_sum.true
+
+pub returns-then-not-edges_folded : goal.returns-then-not-edges_folded
+returns-then-not-edges_folded c = broken-edges _ _ c.requires _ c.closers_among_parts.ensures c.if-not-closers_among_parts.false _ c.narrowings_sum.ensures c.if-not-narrowings_sum.false _ c.edges_folded.ensures c.if-not-edges_folded.true
+
+pub returns : goal.returns
+returns c = kept-by-seek _ _ c.requires _ c.closers_among_parts.ensures c.if-not-closers_among_parts.false _ c.narrowings_sum.ensures c.if-not-narrowings_sum.false _ c.edges_folded.ensures _ c.if-not-edges_folded.false c.seek_keeps.ensures
