@@ -1,0 +1,41 @@
+use Prim.Native.Nat.{ℕ, ◌+◌, ◌*◌, ◌<◌}
+use Rattle.file.specs.Tables.{tables_of}
+use Rattle.accepted_file.specs.AcceptedFile.{constant_rank}
+use Rattle.constant.proofs.Measured.{field-none, field-some, pattern-ok, only-const}
+use borrow.Author.Rules.{rules}
+use native.Mathlib.Omega.{arith}
+use Prim.Native.Nat.{ℕ}
+use Rattle.constant.proofs.Measured.{Adding, add_start, add_none, add-more, add-end, field-type, size_small}
+use mathlib.Core.Path.{subst}
+use Rattle.rules.specs.Constant as ConstantRules
+use Rattle.views.specs.Views.{run, pattern_at}
+use Rattle.constant.specs.Sizes.{Small}
+use Prim.Native.Nat.{ℕ, ◌-◌}
+use Rattle.constant.proofs.Arms.{met, as_int, as-str, as_bytes_lem, as-prefix, as-fuzzy, as-pairs, as-other, name_in, stood-in, pairs-ok, bytes_inside}
+use Rattle.constant.proofs.Has.{record-at, lacks-pairs}
+use borrow.Author.Tests.{not-true}
+use Rattle.constant.proofs.Measured.{as-record, as-union, as-neither, size_small}
+use Rattle.constant.proofs.Arms.{fields-ok, alternatives-ok}
+use Rattle.constant.proofs.Measured.{payload-many, payload-none, payload-some, only-ok, alternative-ok, only-const}
+use Rattle.constant.proofs.+constant_field_constant_fields_constant_of_constant_record_constant_union.Given as goal
+
+abbrev pub decreases-constant_field : goal.decreases-constant_field
+decreases-constant_field l = constant_rank (tables_of l.file.now) l.node * 4
+
+abbrev pub decreases-constant_fields : goal.decreases-constant_fields
+decreases-constant_fields l = constant_rank (tables_of l.file.now) l.node * 4 + 1
+
+abbrev pub decreases-constant_of : goal.decreases-constant_of
+decreases-constant_of l = constant_rank (tables_of l.file.now) l.node * 4 + 3
+
+abbrev pub decreases-constant_record : goal.decreases-constant_record
+decreases-constant_record l = constant_rank (tables_of l.file.now) l.node * 4 + 2
+
+abbrev pub decreases-constant_union : goal.decreases-constant_union
+decreases-constant_union l = constant_rank (tables_of l.file.now) l.node * 4 + 1
+
+abbrev pub invariant-constant_fields-loop-i : goal.invariant-constant_fields-loop-i
+invariant-constant_fields-loop-i l = Adding (ConstantRules.constant (tables_of l.file)) (run (pattern_at l.file) 4 l.n l.at) l.file l.k l.from l.total l.i
+
+abbrev pub decreases-constant_fields-loop-i : goal.decreases-constant_fields-loop-i
+decreases-constant_fields-loop-i l = l.k - l.i

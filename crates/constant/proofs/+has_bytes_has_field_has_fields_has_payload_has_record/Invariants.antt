@@ -1,0 +1,41 @@
+use Prim.Native.Nat.{ℕ, ◌+◌, ◌*◌, ◌<◌}
+use Rattle.file.specs.Tables.{tables_of}
+use Rattle.accepted_file.specs.AcceptedFile.{constant_rank}
+use Rattle.constant.proofs.Has.{has-int, has-str, has-raw, has-pairs, has_other, record-at}
+use Rattle.constant.proofs.Arms.{met, stood-in}
+use borrow.Author.Rules.{rules}
+use native.Mathlib.Omega.{arith}
+use Prim.Native.Nat.{ℕ}
+use Rattle.constant.proofs.Measured.{field-absent, field-present, pattern-ok}
+use Rattle.constant.proofs.Has.{has_some, has-none}
+use borrow.Author.Tests.{not-true, not-false}
+use Rattle.constant.proofs.Measured.{field-type}
+use Rattle.constant.proofs.Has.{Having, have-start, have-none, have-more, have-end}
+use Rattle.rules.specs.Constant as ConstantRules
+use Rattle.views.specs.Views.{run, pattern_at}
+use Prim.Native.Nat.{ℕ, ◌-◌}
+use Rattle.constant.proofs.Measured.{payload-absent, payload-unnamed, payload-named, only-ok, alternative-ok}
+use Rattle.constant.proofs.Has.{at-record, at-union, at-neither, has-recalled, few}
+use Rattle.constant.proofs.Arms.{fields-ok, alternatives-ok}
+use Rattle.constant.proofs.+has_bytes_has_field_has_fields_has_payload_has_record.Given as goal
+
+abbrev pub decreases-has_bytes : goal.decreases-has_bytes
+decreases-has_bytes l = constant_rank (tables_of l.file.now) l.node * 4 + 3
+
+abbrev pub decreases-has_field : goal.decreases-has_field
+decreases-has_field l = constant_rank (tables_of l.file.now) l.node * 4
+
+abbrev pub decreases-has_fields : goal.decreases-has_fields
+decreases-has_fields l = constant_rank (tables_of l.file.now) l.node * 4 + 1
+
+abbrev pub decreases-has_payload : goal.decreases-has_payload
+decreases-has_payload l = constant_rank (tables_of l.file.now) l.node * 4 + 1
+
+abbrev pub decreases-has_record : goal.decreases-has_record
+decreases-has_record l = constant_rank (tables_of l.file.now) l.node * 4 + 2
+
+abbrev pub invariant-has_fields-loop-i : goal.invariant-has_fields-loop-i
+invariant-has_fields-loop-i l = Having (ConstantRules.constant (tables_of l.file)) (run (pattern_at l.file) 4 l.n l.at) l.file l.k l.from l.i
+
+abbrev pub decreases-has_fields-loop-i : goal.decreases-has_fields-loop-i
+decreases-has_fields-loop-i l = l.k - l.i
