@@ -1,0 +1,42 @@
+use Prim.Native.Nat.{ℕ, ◌+◌, ◌*◌, ◌<◌}
+use Rattle.file.specs.Tables.{tables_of}
+use Rattle.accepted_file.specs.AcceptedFile.{constant_rank}
+use Rattle.constant.proofs.Arms.{met, name_in, stood-in, pairs-ok, bytes_inside, int-inside}
+use Rattle.encode.proofs.Parts.{here-as, wrote-same, put-int, put-text, put-raw, pairs-bytes, put_other}
+use borrow.Author.Rules.{rules}
+use native.Mathlib.Omega.{arith}
+use Prim.Native.Nat.{ℕ}
+use Rattle.constant.proofs.Measured.{pattern-ok}
+use Rattle.encode.proofs.Parts.{here-as, wrote-same, field-bytes, field-missing}
+use Rattle.constant.proofs.Measured.{field-type}
+use Rattle.encode.proofs.Parts.{Fielding, put-start, put-here, put-more, put-end}
+use Rattle.rules.specs.Constant as ConstantRules
+use Rattle.views.specs.Views.{run, pattern_at}
+use Prim.Native.Nat.{ℕ, ◌-◌}
+use Rattle.constant.proofs.Arms.{fields-ok, alternatives-ok}
+use Rattle.encode.proofs.Parts.{here-as, wrote-same, fields-here, put_record, union-same, put-neither}
+use mathlib.Core.Path.{◌∙◌}
+use Rattle.constant.proofs.Measured.{only-ok, alternative-ok}
+use Rattle.encode.proofs.Parts.{union-one, union-none, payload-here, put-union}
+use Rattle.encode.proofs.+put_constant_put_field_put_fields_put_record_put_union.Given as goal
+
+abbrev pub decreases-put_constant : goal.decreases-put_constant
+decreases-put_constant l = constant_rank (tables_of l.file.now) l.node * 4 + 3
+
+abbrev pub decreases-put_field : goal.decreases-put_field
+decreases-put_field l = constant_rank (tables_of l.file.now) l.node * 4
+
+abbrev pub decreases-put_fields : goal.decreases-put_fields
+decreases-put_fields l = constant_rank (tables_of l.file.now) l.node * 4 + 1
+
+abbrev pub decreases-put_record : goal.decreases-put_record
+decreases-put_record l = constant_rank (tables_of l.file.now) l.node * 4 + 2
+
+abbrev pub decreases-put_union : goal.decreases-put_union
+decreases-put_union l = constant_rank (tables_of l.file.now) l.node * 4 + 1
+
+abbrev pub invariant-put_fields-loop-i : goal.invariant-put_fields-loop-i
+invariant-put_fields-loop-i l = Fielding (ConstantRules.constant (tables_of l.file)) (run (pattern_at l.file) 4 l.n l.pairs) l.file l.k l.from l.at l.initial.buf l.i l.p l.buf
+
+abbrev pub decreases-put_fields-loop-i : goal.decreases-put_fields-loop-i
+decreases-put_fields-loop-i l = l.k - l.i

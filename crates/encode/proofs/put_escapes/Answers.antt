@@ -1,0 +1,13 @@
+use Rattle.encode.proofs.Puts.{Texting, text-start, text-more, text-end}
+use native.Mathlib.Omega.{arith}
+use Prim.Native.Nat.{◌-◌}
+use Rattle.encode.proofs.put_escapes.Goals as goal
+
+pub loop-i-init : goal.loop-i-init
+loop-i-init c = text-start _ _ _ _ _
+
+pub loop-i-preserved : goal.loop-i-preserved
+loop-i-preserved c = text-more _ _ _ _ _ _ _ _ c.loop-i.invariant c.loop-i-test.true _ _ c.put_escaped-p.ensures c.put_escaped-p.auto.buf
+
+pub returns : goal.returns
+returns c = text-end _ _ _ _ _ _ _ _ c.loop-i.invariant c.loop-i-test.false

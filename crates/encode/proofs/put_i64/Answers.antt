@@ -1,0 +1,8 @@
+use Rattle.encode.proofs.Puts.{wrote-int}
+use mathlib.Core.Path.{ap}
+use Prim.Native.Nat.{ℕ, ◌+◌, ◌%◌}
+use borrow.Author.Rules.{rules}
+use Rattle.encode.proofs.put_i64.Goals as goal
+
+pub returns : goal.returns
+returns c = wrote-int _ _ _ _ _ _ _ _ _ c.put8.ensures (ap (λ (x : ℕ). (x + 128) % 256) c.wide.ensures.same) c.put8-2.ensures c.put_down.ensures
