@@ -1,0 +1,14 @@
+use native.Mathlib.Omega.{arith}
+use mathlib.Core.Path.{◌≡◌, refl, ◌∙◌}
+use lib.ListN.{length}
+use borrow.Author.Rules.{rules}
+use Rattle.file.specs.Tables.{tables_of}
+use Rattle.rules.proofs.Sound.{sound, passed-all}
+use Rattle.resolve.proofs.Chains.{Up, up_first, up_more, up-end}
+use Rattle.resolve.proofs.ascend.Given as goal
+
+abbrev pub invariant-loop-k : goal.invariant-loop-k
+invariant-loop-k l = Up (tables_of l.file) l.trail l.passed l.initial.below l.initial.work l.below l.work l.k × (length l.work ≡ length l.initial.work)
+
+abbrev pub decreases-loop-k : goal.decreases-loop-k
+decreases-loop-k l = l.k

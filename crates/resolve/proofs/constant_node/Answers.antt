@@ -1,0 +1,7 @@
+use native.Mathlib.Omega.{arith}
+use Rattle.resolve.proofs.Answers.{past-constant}
+use borrow.Author.Rules.{rules}
+use Rattle.resolve.proofs.constant_node.Goals as goal
+
+pub returns-else-node-count_of : goal.returns-else-node-count_of
+returns-else-node-count_of c = past-constant _ _ (omega (arith, c.count_of.ensures))

@@ -1,0 +1,6 @@
+use Rattle.resolve.proofs.Answers.{declined-is}
+use borrow.Author.Rules.{rules}
+use Rattle.resolve.proofs.declined.Goals as goal
+
+pub returns : goal.returns
+returns c = λ T. declined-is T _ _ c.report-l.ensures c.nothing.ensures c.gives.ensures
