@@ -1,0 +1,11 @@
+use native.Mathlib.Omega.{arith}
+use Prim.Native.Nat.{◌-◌}
+use borrow.Author.Rules.{rules}
+use Rattle.plan_lists.proofs.Copies.{Copying, copy_start, copy_more, copy-end}
+use Rattle.plan_lists.proofs.copy_run.Given as goal
+
+abbrev pub invariant-loop-i : goal.invariant-loop-i
+invariant-loop-i l = Copying l.work l.initial.plan l.from l.end l.at l.p l.i l.plan
+
+abbrev pub decreases-loop-i : goal.decreases-loop-i
+decreases-loop-i l = l.end - l.i

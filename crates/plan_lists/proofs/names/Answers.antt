@@ -1,0 +1,8 @@
+use native.Mathlib.Omega.{arith}
+use Rattle.state.specs.Levels.{constrained_count}
+use borrow.Author.Rules.{rules}
+use Rattle.plan_lists.proofs.names.Goals as goal
+
+pub returns : goal.returns
+unfolding constrained_count
+returns c = (omega (arith, c.past.ensures, c.wide32.ensures.0), omega (arith, c.past.ensures))

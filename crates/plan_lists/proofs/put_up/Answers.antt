@@ -1,0 +1,6 @@
+use Rattle.plan_lists.proofs.Copies.{up-put}
+use borrow.Author.Rules.{rules}
+use Rattle.plan_lists.proofs.put_up.Goals as goal
+
+pub returns : goal.returns
+returns c = let a = c.args in up-put _ _ _ a.from a.to a.work.now _ _ _ c.put16.ensures c.copy_run.ensures

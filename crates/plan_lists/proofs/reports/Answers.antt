@@ -1,0 +1,8 @@
+use native.Mathlib.Omega.{arith}
+use Rattle.state.specs.Levels.{diagnostic_count}
+use borrow.Author.Rules.{rules}
+use Rattle.plan_lists.proofs.reports.Goals as goal
+
+pub returns : goal.returns
+unfolding diagnostic_count
+returns c = (omega (arith, c.past.ensures, c.wide32.ensures.0), omega (arith, c.past.ensures))

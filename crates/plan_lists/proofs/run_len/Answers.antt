@@ -1,0 +1,6 @@
+use Rattle.plan_lists.proofs.Copies.{run-size}
+use borrow.Author.Rules.{rules}
+use Rattle.plan_lists.proofs.run_len.Goals as goal
+
+pub returns : goal.returns
+returns c = run-size _ _ _ _ _ c.least.ensures c.past.ensures

@@ -1,0 +1,23 @@
+use mathlib.Core.Path.{refl}
+use Rattle.rules.specs.Events.{Narrowing}
+use Rattle.rules.specs.Placement.{SeekKeyPart}
+use Rattle.state.specs.Ops.{narrowing}
+use Rattle.paths.specs.Paths.{path_of}
+use Rattle.seek.proofs.Narrows.{still, as-part, as-rest}
+use borrow.Author.Rules.{rules}
+use Rattle.seek.proofs.SeekBuilder.fact_id.Goals as goal
+
+pub returns-then-self : goal.returns-then-self
+returns-then-self c = λ T e w. still c.args.self T e w _ _ _ _ c.if-self.true
+
+pub returns-then-self-2 : goal.returns-then-self-2
+unfolding narrowing
+returns-then-self-2 c =
+    let args = c.args in
+    λ T e w. as-part args.self T e w _ args.node (path_of args.path) (SeekKeyPart.RegisterFactId args.address.0) (Narrowing.FactId args.address.0) _ (λ s. refl) c.if-self.false c.if-self-2.true (c.fact_part.ensures T e w)
+
+pub returns-else-self-2 : goal.returns-else-self-2
+unfolding narrowing
+returns-else-self-2 c =
+    let args = c.args in
+    λ T e w. as-rest args.self T e w _ args.node (path_of args.path) (SeekKeyPart.RegisterFactId args.address.0) (Narrowing.FactId args.address.0) _ (λ s. refl) c.if-self.false c.if-self-2.false (c.fact_residual.ensures T e w)

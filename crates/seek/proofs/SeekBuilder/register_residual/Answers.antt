@@ -1,0 +1,21 @@
+use Rattle.seek.proofs.Parts.{residual-is}
+use mathlib.Core.Path.{sym, ap, ◌∙◌}
+use Rattle.rules.specs.Plan as Plan
+use Rattle.rules.specs.Events.{Narrowing}
+use Rattle.paths.specs.Paths.{path_of}
+use Rattle.seek.proofs.Narrows.{residual-size, residual-put, register-op}
+use Prim.Native.Nat.{min}
+use native.Mathlib.Nat.{add_assoc}
+use borrow.Author.Rules.{rules}
+use Rattle.seek.proofs.SeekBuilder.register_residual.Goals as goal
+
+pub returns : goal.returns
+unfolding Plan.op Plan.u16
+returns c =
+    λ T e w.
+    let p = c.residual-p in
+    let args = c.args in
+    let x : Narrowing = Narrowing.RegisterField args.address.0 (path_of args.at) in
+    let h = c.put_path_at-op.ensures in
+    residual-is args.self T e w _ args.node _ (path_of args.path) x p.result _ _ p.ensures.grows.0 p.ensures.writes (ap (min 16385) (residual-size (path_of args.path) x _ _ c.path_size.ensures.0 (register-op args.address.0 (path_of args.at) _ c.path_size-2.ensures.0) ∙ sym (add_assoc _ 3 _)))
+    (residual-put (path_of args.path) x p.result.place _ _ _ _ h.0 h.1 c.put_register.ensures)
