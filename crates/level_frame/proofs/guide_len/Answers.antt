@@ -1,0 +1,10 @@
+use native.Mathlib.Omega.{arith}
+use Rattle.level_frame.proofs.Puts.{none-size, guide-size}
+use borrow.Author.Rules.{rules}
+use Rattle.level_frame.proofs.guide_len.Goals as goal
+
+pub returns-then-kept : goal.returns-then-kept
+returns-then-kept c = (guide-size _ _ _ c.kept.ensures c.if-kept.true c.path_size.ensures.0, omega arith)
+
+pub returns-else-kept : goal.returns-else-kept
+returns-else-kept c = (none-size _ _ c.kept.ensures c.if-kept.false, omega arith)

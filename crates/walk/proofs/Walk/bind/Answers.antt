@@ -1,0 +1,7 @@
+use Rattle.state.specs.Ops as Ops
+use Rattle.walk.proofs.Parts.{listed-is}
+use borrow.Author.Rules.{rules}
+use Rattle.walk.proofs.Walk.bind.Goals as goal
+
+pub returns : goal.returns
+returns c = λ T p. listed-is T _ _ _ _ _ _ p (Ops.bind _ _) c.lists.ensures c.listed.ensures c.bind-lists.ensures
