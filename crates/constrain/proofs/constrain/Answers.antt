@@ -1,0 +1,25 @@
+use Rattle.state.specs.Ops.{skip}
+use Rattle.constrain.proofs.Ranks.{constrain-none, constrain-some}
+use mathlib.Core.Path.{sym, ap, ◌∙◌}
+use borrow.Author.Rules.{rules}
+use Rattle.walk.specs.Walk.{walk_state}
+use Rattle.walk.proofs.Parts.{placed-is}
+use Rattle.constrain.proofs.constrain.Goals as goal
+
+pub constrain_rank-c-requires : goal.constrain_rank-c-requires
+constrain_rank-c-requires c = record { accepted_file = c.requires.accepted_file; ty_in_bounds = c.requires.ty_in_bounds }
+
+pub constrain_rank-d-requires : goal.constrain_rank-d-requires
+constrain_rank-d-requires c = record { accepted_file = c.requires.accepted_file; ty_in_bounds = c.requires.ty_in_bounds }
+
+pub constrain_rank-requires : goal.constrain_rank-requires
+constrain_rank-requires c = record { accepted_file = c.requires.accepted_file; ty_in_bounds = c.requires.ty_in_bounds }
+
+pub returns-then-is_constrained : goal.returns-then-is_constrained
+returns-then-is_constrained c = constrain-some _ _ _ _ (sym c.is_constrained.ensures ∙ c.if-is_constrained.true) _ _ _ _ _ _ _ _ _ _ _ _ _ _ _ _ _ c.constrained-a.ensures c.constrain_rank-b.ensures c.constrain_rank-c.ensures c.constrain_rank-d.ensures c.constrain_rank.ensures
+
+pub returns : goal.returns
+unfolding walk_state
+returns c =
+    constrain-none _ _ _ _ (sym c.is_constrained.ensures ∙ c.if-is_constrained.false) _ _
+    (placed-is _ _ _ _ _ _ c.placed.ensures ∙ c.skip-fallen.ensures _ _ _ _ ∙ ap skip (c.bound-l.ensures _ _ _))
