@@ -1,0 +1,21 @@
+use native.Mathlib.Omega.{arith}
+use lib.ListN.{replicate}
+use Rattle.rules.proofs.Sound.{passed-all}
+use Rattle.accepted_file.proofs.Ranges.{nodes-lower}
+use Rattle.accepted_file.proofs.Given.{few-nodes}
+use Rattle.resolve.proofs.Chains.{chain-few, passed-within}
+use Rattle.literals.proofs.Chains.{chain-is}
+use borrow.Author.Rules.{rules}
+use Rattle.literals.proofs.folded_long.Goals as goal
+
+pub climb-requires : goal.climb-requires
+climb-requires c =
+    let low = nodes-lower _ (passed-all _ c.requires.accepted) in
+    let f = chain-few _ low 2048 2048 c.args.node (omega arith) (few-nodes _ _ c.requires.indexed) in
+    record { indexed = c.requires.indexed; passed_in_bounds = passed-within _ low (replicate 2048 0) c.args.node (c.descend-chain.ensures.passes, c.descend-chain.ensures.writes) f }
+
+pub returns : goal.returns
+returns c =
+    let low = nodes-lower _ (passed-all _ c.requires.accepted) in
+    let f = chain-few _ low 2048 2048 c.args.node (omega arith) (few-nodes _ _ c.requires.indexed) in
+    chain-is _ low (replicate 2048 0) c.args.node (c.descend-chain.ensures.passes, c.descend-chain.ensures.writes) f _ _ c.leaf_const-end.ensures c.climb.ensures
