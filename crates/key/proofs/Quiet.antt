@@ -142,7 +142,7 @@ module _ (T : Tables) (P : Passed T) (S : Sound T) where
     Quiet limit m = (n t : ℕ) (path : File.FieldPath) (s : State) → is_constant T n ≡ true → t < length T.types → t < limit → heard_below T m n t ≡ false → walks limit n t path s ≡ skip s
 
     module _ (limit m : ℕ) (ih : Quiet limit m) where
-      quiet_each : (fields : List FieldPattern) {fs : List FieldTy} (t i : ℕ) (path : File.FieldPath) (s : State) → t ≤ limit → Each (λ g. is_constant T g.node ≡ true) fields → Each (λ g. Child T t g.type) fs → any_field (heard_below T m) fields fs ≡ false → each_field (walks limit) (λ w. w) (then path) fields i fs (skip s) ≡ skip s
+      quiet_each : (fields : List FieldPattern) (t : ℕ) {fs : List FieldTy} (i : ℕ) (path : File.FieldPath) (s : State) → t ≤ limit → Each (λ g. is_constant T g.node ≡ true) fields → Each (λ g. Child T t g.type) fs → any_field (heard_below T m) fields fs ≡ false → each_field (walks limit) (λ w. w) (then path) fields i fs (skip s) ≡ skip s
       unfolding each_field any_field
       quiet_each fields t i path s l k done h = refl
       quiet_each fields t i path s l k (more {x = f} {xs = fs} q qs) h =
