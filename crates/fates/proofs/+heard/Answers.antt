@@ -1,0 +1,57 @@
+use Rattle.field_cases.proofs.Opens.{count-is}
+use mathlib.Core.Path.{sym, ◌∙◌}
+use native.Mathlib.Omega.{arith}
+use borrow.Author.Rules.{rules}
+use Rattle.file.specs.Tables.{tables_of}
+use Rattle.accepted_file.specs.Fates.{heard_below}
+use Rattle.literals.proofs.Going.{Going, going-first, going-missing, going-clear, going-met, going_end}
+use Rattle.fates.proofs.Hearing.{heard-none, heard-pieces}
+use Prim.Native.Nat.{ℕ, ◌<◌, ◌+◌, ◌-◌}
+use Rattle.fates.proofs.+heard.Goals as goal
+
+pub pieces-opened-requires : goal.pieces-opened-requires
+pieces-opened-requires t c = record { accepted_file = c.requires.accepted_file; ty_in_bounds = c.requires.ty_in_bounds }
+
+pub returns-then-opened-eq0 : goal.returns-then-opened-eq0
+returns-then-opened-eq0 t c = heard-none _ _ _ (omega (arith, c.if-opened-eq0.true, count-is _ _ _ _ _ c.pieces-opened.ensures.opens))
+
+pub loop-i-init : goal.loop-i-init
+loop-i-init t c = going-first _ _ _ _
+
+pub piece_at-p-requires : goal.piece_at-p-requires
+piece_at-p-requires t c = record { accepted_file = c.requires.accepted_file; ty_in_bounds = c.requires.ty_in_bounds; opened = c.pieces-opened.ensures.opens; i_lt_count = c.loop-i-test.true }
+
+pub overflow_add-i : goal.overflow_add-i
+overflow_add-i t c = omega (arith, c.loop-i-test.true, c.pieces-opened.ensures.bounded)
+
+pub heard-requires : goal.heard-requires
+heard-requires t c =
+    let l = c.piece_at-p.ensures.lower in
+    (omega (arith, l.lower, c.decreases), (c.requires.accepted_file, l.known))
+
+pub returns-then-heard : goal.returns-then-heard
+returns-then-heard t c =
+    let k = c.piece_at-p.ensures in
+    heard-pieces _ _ _ _ (λ e. c.if-opened-eq0.false (count-is _ _ _ _ _ c.pieces-opened.ensures.opens ∙ e))
+    (going-met _ _ _ _ _ c.loop-i.invariant (omega (arith, c.loop-i-test.true, count-is _ _ _ _ _ c.pieces-opened.ensures.opens)) _ k _ c.in-Just.is
+    (λ limit l. sym c.if-heard.true ∙ c.heard.ensures.is limit (omega (arith, k.lower.lower, l))))
+
+pub loop-i-smaller-else-heard : goal.loop-i-smaller-else-heard
+loop-i-smaller-else-heard t c = omega (arith, c.loop-i-test.true)
+
+pub loop-i-preserved-else-heard : goal.loop-i-preserved-else-heard
+loop-i-preserved-else-heard t c =
+    let k = c.piece_at-p.ensures in
+    going-clear _ _ _ _ _ c.loop-i.invariant (omega (arith, c.loop-i-test.true, count-is _ _ _ _ _ c.pieces-opened.ensures.opens)) _ k _ c.in-Just.is
+    (λ limit l. sym c.if-heard.false ∙ c.heard.ensures.is limit (omega (arith, k.lower.lower, l)))
+
+pub loop-i-smaller : goal.loop-i-smaller
+loop-i-smaller t c = omega (arith, c.loop-i-test.true)
+
+pub loop-i-preserved : goal.loop-i-preserved
+loop-i-preserved t c = going-missing _ _ _ _ _ c.loop-i.invariant (omega (arith, c.loop-i-test.true, count-is _ _ _ _ _ c.pieces-opened.ensures.opens)) _ c.piece_at-p.ensures c.in_default.is
+
+pub returns : goal.returns
+returns t c =
+    heard-pieces _ _ _ _ (λ e. c.if-opened-eq0.false (count-is _ _ _ _ _ c.pieces-opened.ensures.opens ∙ e))
+    (going_end _ _ _ _ _ c.loop-i.invariant (omega (arith, c.loop-i-test.false, count-is _ _ _ _ _ c.pieces-opened.ensures.opens)))

@@ -1,0 +1,23 @@
+use mathlib.Core.Path.{sym, ap, ◌∙◌}
+use Prim.Native.Nat.{◌-◌}
+use native.Mathlib.Omega.{arith}
+use borrow.Author.Rules.{rules}
+use Rattle.file.specs.Tables.{tables_of}
+use Rattle.tables.specs.Tables.{found_option}
+use Rattle.fates.proofs.Bindings.{Searched, searched-none, searched-more, searched-found, searched-all}
+use Rattle.fates.proofs.any_record.Goals as goal
+
+pub loop-k-init : goal.loop-k-init
+loop-k-init c = searched-none _
+
+pub const_record-requires : goal.const_record-requires
+const_record-requires c = record { accepted_file = c.requires; k_in_bounds = omega (arith, c.count_of-n.ensures, c.loop-k-test.true) }
+
+pub returns-in-Just : goal.returns-in-Just
+returns-in-Just c = searched-found _ _ c.loop-k.invariant (omega (arith, c.count_of-n.ensures, c.loop-k-test.true)) _ (sym (ap found_option c.in-Just.is) ∙ c.const_record.ensures)
+
+pub loop-k-preserved : goal.loop-k-preserved
+loop-k-preserved c = searched-more _ _ c.loop-k.invariant (omega (arith, c.count_of-n.ensures, c.loop-k-test.true)) (sym (ap found_option c.in_default.is) ∙ c.const_record.ensures)
+
+pub returns : goal.returns
+returns c = searched-all _ _ c.loop-k.invariant (omega (arith, c.count_of-n.ensures, c.loop-k-test.false))

@@ -1,0 +1,14 @@
+use mathlib.Core.Path.{◌≡◌, refl, sym, ap, ◌∙◌}
+use native.Mathlib.Omega.{arith}
+use borrow.Author.Rules.{rules}
+use Rattle.file.specs.Tables.{tables_of}
+use Rattle.fates.specs.Rows.{kept}
+use Rattle.fates.proofs.Bindings.{front_length, bound-long}
+use Rattle.fates.proofs.Parts.{Held, held_first, held_more, held_all}
+use Rattle.fates.proofs.remember.Given as goal
+
+abbrev pub invariant-loop-n : goal.invariant-loop-n
+invariant-loop-n l = Held (tables_of l.file) (kept l.initial.k l.initial.long) l.long l.k l.n
+
+abbrev pub decreases-loop-n : goal.decreases-loop-n
+decreases-loop-n l = l.n

@@ -1,0 +1,190 @@
+use Prim.Native.Nat.{ℕ, ◌*◌, ◌+◌, ◌<◌}
+use mathlib.Core.Path.{sym, ◌∙◌}
+use native.Mathlib.Omega.{arith}
+use borrow.Author.Rules.{rules}
+use Rattle.rules.proofs.Sound.{passed-all}
+use Rattle.accepted_file.proofs.Ranges.{nodes-lower}
+use Rattle.key.proofs.Rounds.{field-over, field-inject, field_skip, field-report, field-range, field-bytes, field-pieces, field_bound, field-new, field-read, field-opened, field-unresolved}
+use Prim.Native.Nat.{ℕ}
+use mathlib.Core.Path.{◌∙◌}
+use Rattle.accepted_file.proofs.Given.{sound-tables}
+use Rattle.key.proofs.Deeper.{has_room, fits-payload}
+use Rattle.key.proofs.Rounds.{inject-done, inject-lower, inject-goes}
+use Rattle.key.proofs.Rounds.{matched-met, matched-bytes, matched-pieces}
+use Rattle.field_cases.proofs.Opens.{count-is}
+use Rattle.tables.specs.Tables.{found_option}
+use mathlib.Core.Path.{ap, refl, sym, ◌∙◌}
+use Rattle.rules.specs.File.{then}
+use Rattle.file.specs.Tables.{tables_of}
+use Rattle.paths.specs.Paths.{path_of}
+use Rattle.walk.specs.Walk.{walk_state}
+use Rattle.key.proofs.Deeper.{has_room, fits-then}
+use Rattle.key.proofs.Quiet.{partial-quiet}
+use Rattle.key.proofs.Rounds.{partial-end}
+use Rattle.key.proofs.Going.{Going, going-first, going-missing, going-given}
+use Prim.Native.Nat.{ℕ, ◌-◌}
+use Rattle.key.proofs.+field_inject_matched_partial.Goals as goal
+
+pub field-returns-then-level : goal.field-returns-then-level
+field-returns-then-level t c = field-over _ _ _ _ _ _ _ _ c.if-level.true
+
+pub field-way_of-requires : goal.field-way_of-requires
+field-way_of-requires t c = record { accepted_file = c.requires.accepted_file; ty_in_bounds = c.requires.fits.known }
+
+pub field-inject-requires : goal.field-inject-requires
+field-inject-requires t c = (omega (arith, c.decreases), (c.requires.accepted_file, c.requires.fits))
+
+pub field-ranged-requires : goal.field-ranged-requires
+field-ranged-requires t c = record { accepted_file = c.requires.accepted_file; ty_in_bounds = c.requires.fits.known }
+
+pub field-known-c-requires : goal.field-known-c-requires
+field-known-c-requires t c = record { accepted_file = c.requires.accepted_file; ty_in_bounds = c.requires.fits.known }
+
+pub field-partial-requires : goal.field-partial-requires
+field-partial-requires t c = (omega (arith, c.decreases), (c.requires.accepted_file, c.requires.fits))
+
+pub field-returns-then-is_nothing : goal.field-returns-then-is_nothing
+field-returns-then-is_nothing t c = field-pieces _ _ _ _ _ _ _ c.way_of.ensures (nodes-lower _ (passed-all _ c.requires.accepted_file.accepted)) c.in-Constant.is _ c.known-c.ensures _ (sym c.is_nothing.ensures ∙ c.if-is_nothing.true) c.partial.ensures
+
+pub field-narrow-requires : goal.field-narrow-requires
+field-narrow-requires t c = (c.requires.accepted_file, c.known-c.ensures.made (sym c.is_nothing.ensures ∙ c.if-is_nothing.false))
+
+pub field-lookup-found-requires : goal.field-lookup-found-requires
+field-lookup-found-requires t c = c.requires.accepted_file
+
+pub field-matched-requires : goal.field-matched-requires
+field-matched-requires t c = (omega (arith, c.decreases), (c.requires.accepted_file, c.requires.fits))
+
+pub field-returns-then-found : goal.field-returns-then-found
+field-returns-then-found t c = field_bound _ _ _ _ _ _ _ _ _ _ c.lookup-found.result _ c.lists.ensures c.lookup-found.ensures _ c.way_of.ensures (nodes-lower _ (passed-all _ c.requires.accepted_file.accepted)) c.in-Variable.is c.if-found.true c.matched.ensures
+
+pub field-captured-requires : goal.field-captured-requires
+field-captured-requires t c = record { accepted_file = c.requires.accepted_file; ty_in_bounds = c.requires.fits.known }
+
+pub field-resolve-a-requires : goal.field-resolve-a-requires
+field-resolve-a-requires t c = c.requires.accepted_file
+
+pub field-matched-requires-then-a : goal.field-matched-requires-then-a
+field-matched-requires-then-a t c = (omega (arith, c.decreases), (c.requires.accepted_file, c.requires.fits))
+
+pub field-returns-then-a : goal.field-returns-then-a
+field-returns-then-a t c = field-read _ _ _ _ _ _ _ _ _ _ _ _ c.lists-in-Read.ensures c.listed-l.ensures c.resolve-a.ensures _ c.way_of.ensures (nodes-lower _ (passed-all _ c.requires.accepted_file.accepted)) c.in-Read.is _ c.if-a.true c.matched-then-a.ensures
+
+pub field-pairs_of-requires : goal.field-pairs_of-requires
+field-pairs_of-requires t c = c.requires.accepted_file.indexed
+
+pub field-partial-requires-in-Just : goal.field-partial-requires-in-Just
+field-partial-requires-in-Just t c = (omega (arith, c.decreases), (c.requires.accepted_file, c.requires.fits))
+
+pub field-returns-in-Just : goal.field-returns-in-Just
+field-returns-in-Just t c = field-opened _ _ _ _ _ _ _ _ _ _ _ _ c.lists-in-Read.ensures c.listed-l.ensures c.resolve-a.ensures _ c.way_of.ensures (nodes-lower _ (passed-all _ c.requires.accepted_file.accepted)) c.in-Read.is _ c.if-a.false _ _ c.pairs_of.ensures.shows _ _ c.in-Just.is c.partial-in-Just.ensures
+
+pub field-unresolved-requires : goal.field-unresolved-requires
+field-unresolved-requires t c = c.requires.accepted_file.indexed
+
+pub field-returns-in-Union : goal.field-returns-in-Union
+field-returns-in-Union t c = field-inject _ _ _ _ _ _ _ c.way_of.ensures (nodes-lower _ (passed-all _ c.requires.accepted_file.accepted)) c.in-Union.is _ c.inject.ensures
+
+pub field-returns-in-Skip : goal.field-returns-in-Skip
+field-returns-in-Skip t c = field_skip _ _ _ _ _ _ _ c.way_of.ensures (nodes-lower _ (passed-all _ c.requires.accepted_file.accepted)) c.in-Skip.is _ (c.skip.ensures _ _ _)
+
+pub field-returns-in-Report : goal.field-returns-in-Report
+field-returns-in-Report t c = field-report _ _ _ _ _ _ _ c.way_of.ensures (nodes-lower _ (passed-all _ c.requires.accepted_file.accepted)) _ c.in-Report.is _ (c.diagnose.ensures _ _)
+
+pub field-returns-in-Range : goal.field-returns-in-Range
+field-returns-in-Range t c = field-range _ _ _ _ _ _ _ c.way_of.ensures (nodes-lower _ (passed-all _ c.requires.accepted_file.accepted)) c.in-Range.is _ c.ranged.ensures
+
+pub field-returns-else-is_nothing : goal.field-returns-else-is_nothing
+field-returns-else-is_nothing t c = field-bytes _ _ _ _ _ _ _ c.way_of.ensures (nodes-lower _ (passed-all _ c.requires.accepted_file.accepted)) c.in-Constant.is _ c.known-c.ensures _ (sym c.is_nothing.ensures ∙ c.if-is_nothing.false) (c.narrow.ensures _)
+
+pub field-returns-else-found : goal.field-returns-else-found
+field-returns-else-found t c = field-new _ _ _ _ _ _ _ _ _ _ c.captured.ensures c.lookup-found.result _ c.lists.ensures c.lookup-found.ensures _ c.way_of.ensures (nodes-lower _ (passed-all _ c.requires.accepted_file.accepted)) c.in-Variable.is c.if-found.false
+
+pub field-returns-in_default : goal.field-returns-in_default
+field-returns-in_default t c = field-unresolved _ _ _ _ _ _ _ _ _ _ _ _ c.unresolved.ensures _ _ c.lists-in-Read.ensures c.listed-l.ensures c.resolve-a.ensures _ c.way_of.ensures (nodes-lower _ (passed-all _ c.requires.accepted_file.accepted)) c.in-Read.is c.if-a.false _ _ c.pairs_of.ensures.shows c.in_default.is
+
+pub inject-choose-c-requires : goal.inject-choose-c-requires
+inject-choose-c-requires t c = record { accepted_file = c.requires.accepted_file; ty_in_bounds = c.requires.fits.known }
+
+pub inject-returns-in_default : goal.inject-returns-in_default
+inject-returns-in_default t c = inject-done _ _ _ _ _ _ _ c.choose-c.result c.choose-c.ensures c.in_default.is
+
+pub inject-payload-q-requires : goal.inject-payload-q-requires
+inject-payload-q-requires t c = has_room _ (sound-tables _ _ c.requires.accepted_file) _ _ _ c.requires.fits (inject-lower _ 0 _ _ _ _ _ c.choose-c.result c.choose-c.ensures _ _ _ c.in-Just.is (sound-tables _ _ c.requires.accepted_file) c.requires.fits.known)
+
+pub inject-field-walked-requires : goal.inject-field-walked-requires
+inject-field-walked-requires t c =
+    let l = inject-lower _ 0 _ _ _ _ _ c.choose-c.result c.choose-c.ensures _ _ _ c.in-Just.is (sound-tables _ _ c.requires.accepted_file) c.requires.fits.known in
+    (omega (arith, l.lower, c.decreases), (c.requires.accepted_file, fits-payload _ (sound-tables _ _ c.requires.accepted_file) _ _ _ c.requires.fits l _ _ c.payload-q.ensures.holds))
+
+pub inject-returns : goal.inject-returns
+inject-returns t c =
+    let l = inject-lower _ 0 _ _ _ _ _ c.choose-c.result c.choose-c.ensures _ _ _ c.in-Just.is (sound-tables _ _ c.requires.accepted_file) c.requires.fits.known in
+    inject-goes _ _ _ _ _ _ c.choose-c.result _ _ c.choose-c.ensures _ _ _ c.in-Just.is l _ c.payload-q.ensures.holds _ _ _ _ _ _ _ c.tag-tagged.ensures c.field-walked.ensures c.closer.ensures
+
+pub matched-meet-requires : goal.matched-meet-requires
+matched-meet-requires t c = record { accepted_file = c.requires.accepted_file; ty_in_bounds = c.requires.fits.known }
+
+pub matched-returns-in_default : goal.matched-returns-in_default
+matched-returns-in_default t c = matched-met _ _ _ _ _ _ _ c.args.slot (search rules) c.meet.ensures
+
+pub matched-known-c-requires : goal.matched-known-c-requires
+matched-known-c-requires t c = record { accepted_file = c.requires.accepted_file; ty_in_bounds = c.requires.fits.known }
+
+pub matched-partial-requires : goal.matched-partial-requires
+matched-partial-requires t c = (omega (arith, c.decreases), (c.requires.accepted_file, c.requires.fits))
+
+pub matched-returns-then-is_nothing : goal.matched-returns-then-is_nothing
+matched-returns-then-is_nothing t c = matched-pieces _ _ _ _ _ _ _ _ c.known-c.ensures _ c.args.slot c.in-Const.is (sym c.is_nothing.ensures ∙ c.if-is_nothing.true) c.partial.ensures
+
+pub matched-narrow-requires : goal.matched-narrow-requires
+matched-narrow-requires t c = (c.requires.accepted_file, c.known-c.ensures.made (sym c.is_nothing.ensures ∙ c.if-is_nothing.false))
+
+pub matched-returns : goal.matched-returns
+matched-returns t c = matched-bytes _ _ _ _ _ _ _ _ c.known-c.ensures _ c.args.slot c.in-Const.is (sym c.is_nothing.ensures ∙ c.if-is_nothing.false) (c.narrow.ensures _)
+
+pub partial-pieces-opened-requires : goal.partial-pieces-opened-requires
+partial-pieces-opened-requires t c = record { accepted_file = c.requires.accepted_file; ty_in_bounds = c.requires.fits.known }
+
+pub partial-is_quiet-requires : goal.partial-is_quiet-requires
+partial-is_quiet-requires t c = record { accepted_file = c.requires.accepted_file; t_in_bounds = c.requires.fits.known }
+
+pub partial-returns-then-is_quiet : goal.partial-returns-then-is_quiet
+partial-returns-then-is_quiet t c = partial-quiet _ _ c.requires.accepted_file _ _ _ _ _ _ c.requires.fits.known (sym c.is_quiet.ensures ∙ c.if-is_quiet.true) (c.skip-l.ensures _ _ _)
+
+pub partial-loop-i-init : goal.partial-loop-i-init
+partial-loop-i-init t c = going-first _ _ _ _ _ _ _ _ _
+
+pub partial-piece_at-p-requires : goal.partial-piece_at-p-requires
+partial-piece_at-p-requires t c = record { accepted_file = c.requires.accepted_file; ty_in_bounds = c.requires.fits.known; opened = c.pieces-opened.ensures.opens; i_lt_count = c.loop-i-test.true }
+
+pub partial-overflow_cast-step : goal.partial-overflow_cast-step
+partial-overflow_cast-step t c = omega (arith, c.loop-i-test.true, c.pieces-opened.ensures.bounded)
+
+pub partial-overflow_add-i : goal.partial-overflow_add-i
+partial-overflow_add-i t c = omega (arith, c.loop-i-test.true, c.pieces-opened.ensures.bounded)
+
+pub partial-then-q-requires : goal.partial-then-q-requires
+partial-then-q-requires t c = has_room _ (sound-tables _ _ c.requires.accepted_file) _ _ _ c.requires.fits c.piece_at-p.ensures.lower
+
+pub partial-field-l-requires : goal.partial-field-l-requires
+partial-field-l-requires t c =
+    let l = c.piece_at-p.ensures.lower in
+    (omega (arith, l.lower, c.decreases), (c.requires.accepted_file, fits-then _ (sound-tables _ _ c.requires.accepted_file) _ _ _ c.requires.fits l _ _ c.then-q.ensures.holds))
+
+pub partial-loop-i-smaller-in-Just : goal.partial-loop-i-smaller-in-Just
+partial-loop-i-smaller-in-Just t c = omega (arith, c.loop-i-test.true)
+
+pub partial-loop-i-preserved-in-Just : goal.partial-loop-i-preserved-in-Just
+partial-loop-i-preserved-in-Just t c =
+    going-given _ _ _ _ _ _ _ _ _ _ _ _ _ c.loop-i.invariant (omega (arith, c.loop-i-test.true, count-is _ _ _ _ _ c.pieces-opened.ensures.opens)) _ c.piece_at-p.ensures _ _ _ c.field-l.auto.work c.field-l.auto.plan
+    _ (ap found_option c.in-Just.is) _ c.then-q.ensures.holds c.field-l.ensures
+
+pub partial-loop-i-smaller : goal.partial-loop-i-smaller
+partial-loop-i-smaller t c = omega (arith, c.loop-i-test.true)
+
+pub partial-loop-i-preserved : goal.partial-loop-i-preserved
+partial-loop-i-preserved t c = going-missing _ _ _ _ _ _ _ _ _ _ _ _ _ c.loop-i.invariant (omega (arith, c.loop-i-test.true, count-is _ _ _ _ _ c.pieces-opened.ensures.opens)) _ c.piece_at-p.ensures _ _ _ refl refl c.in_default.is refl
+
+pub partial-returns : goal.partial-returns
+partial-returns t c = partial-end _ _ _ _ _ _ _ _ _ _ _ _ c.loop-i.invariant (omega (arith, c.loop-i-test.false, count-is _ _ _ _ _ c.pieces-opened.ensures.opens)) _ (c.skip-l.ensures _ _ _)

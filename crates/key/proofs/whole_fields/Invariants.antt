@@ -1,0 +1,16 @@
+use native.Mathlib.Omega.{arith}
+use Prim.Native.Nat.{◌-◌}
+use borrow.Author.Rules.{rules}
+use Rattle.file.specs.Tables.{tables_of}
+use Rattle.slots.specs.Slots.{slot_of}
+use Rattle.walk.specs.Walk.{walk_state}
+use Rattle.accepted_file.proofs.Given.{sound-tables}
+use Rattle.key.proofs.Keys.{fits-field}
+use Rattle.key.proofs.Whole.{Matching, matching-first, matching-turn, matching-end, matching-none, fields-inside, fields-count, field-known}
+use Rattle.key.proofs.whole_fields.Given as goal
+
+abbrev pub invariant-loop-i : goal.invariant-loop-i
+invariant-loop-i l = Matching (tables_of l.file) l.address.0 l.node l.ty (slot_of l.slot) l.i (walk_state (tables_of l.file) l.initial.l l.initial.work l.initial.plan) (walk_state (tables_of l.file) l.l l.work l.plan) l.initial.work l.initial.plan l.work l.plan
+
+abbrev pub decreases-loop-i : goal.decreases-loop-i
+decreases-loop-i l = l.n - l.i
