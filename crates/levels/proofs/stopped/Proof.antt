@@ -1,9 +1,0 @@
-use mathlib.Core.Path.{refl}
-use Rattle.levels.proofs.stopped.Statement.{statement}
-use Rattle.levels.proofs.stopped.Tie as tie
-
-returns : tie.Need-returns
-returns c = refl
-
-pub stopped-spec : {M : Type 1} → statement M
-stopped-spec = tie.close (tie.spec returns)

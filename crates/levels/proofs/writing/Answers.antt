@@ -1,0 +1,6 @@
+use Rattle.levels.proofs.Walks.{target_is}
+use borrow.Author.Rules.{rules}
+use Rattle.levels.proofs.writing.Goals as goal
+
+pub returns : goal.returns
+returns c T = target_is T _ _ _ _ _ (c.seek_number.ensures T)
