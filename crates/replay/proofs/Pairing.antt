@@ -11,7 +11,7 @@ use lib.Seq.{sets, take-length, length-take-le}
 use Rattle.rules.specs.Limits.{plan_limit, work_limit}
 use Rattle.rules.specs.Compile.{outcome}
 use Rattle.rules.proofs.Cases.{pick}
-use Rattle.bytes.specs.Bytes.{index_of, slice}
+use Rattle.tally.specs.Bytes.{index_of, slice}
 use Rattle.lines.specs.Lines.{line, unhex}
 use Rattle.lines.proofs.Fronts.{front, read_back_lem}
 use Rattle.tally.specs.Tallies.{same}

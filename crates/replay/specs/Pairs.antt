@@ -2,7 +2,7 @@
 use Rattle.std.specs.Prelude.{Bool, true, false, List, ℕ, ◌+◌, leb, length, take, drop}
 use Rattle.rules.specs.Limits.{plan_limit, work_limit}
 use Rattle.rules.specs.Compile.{outcome}
-use Rattle.bytes.specs.Bytes.{index_of}
+use Rattle.tally.specs.Bytes.{index_of}
 use Rattle.lines.specs.Lines.{line, unhex}
 use Rattle.tally.specs.Tallies.{space, same}
 

@@ -16,7 +16,7 @@ use Rattle.rules.specs.Reader as Reader
 use Rattle.rules.specs.Reader.{read_back}
 use Rattle.rules.proofs.Cases.{pick}
 use Rattle.rules.proofs.ReaderRules.{Shape, shape}
-use Rattle.bytes.specs.Bytes.{index_of, slice}
+use Rattle.tally.specs.Bytes.{index_of, slice}
 use Rattle.lines.specs.Lines.{line, unhex}
 use Rattle.lines.proofs.Fronts.{front, length-unhex, read_back_lem}
 use Rattle.lines.proofs.Calls.{Said, said-planned, said-refused}

@@ -4,7 +4,7 @@ use Rattle.std.specs.Prelude.{Bool, true, false, List, [], ◌∷◌, ℕ, ◌+�
 use Rattle.rules.specs.Limits.{plan_limit}
 use Rattle.rules.specs.Compile.{buffer}
 use Rattle.rules.specs.Reader as Reader
-use Rattle.bytes.specs.Bytes.{index_of}
+use Rattle.tally.specs.Bytes.{index_of}
 use Rattle.lines.specs.Lines.{line, unhex}
 use Rattle.tally.specs.Tallies.{space, same}
 

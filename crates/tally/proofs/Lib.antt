@@ -1,2 +1,4 @@
 pub mod Counts
 pub mod Splits
+-- Where a byte stands.
+pub mod Finds

@@ -8,14 +8,14 @@ use native.Mathlib.Omega.{arith}
 use lib.Dec.{eqb}
 use lib.ListN.{length, take, drop, drop_of_length-le, length-drop}
 use lib.Seq.{take_all, take-length, drop-drop}
-use Rattle.bytes.specs.Bytes.{index_of, index_after, slice}
+use Rattle.tally.specs.Bytes.{index_of, index_after, slice}
 use Rattle.tally.specs.declared.Tally.{Tally}
 use Rattle.tally.specs.Tallies.{joined, split, skipped, counted, tallied}
 use Rattle.tally.proofs.Counts.{counted-skipped}
 
 -- up to the first line end
 split-line : (t : List ℕ) → index_of 10 t < length t → split t ≡ take (index_of 10 t) t ∷ split (drop (suc (index_of 10 t)) t)
-unfolding split index_of joined index_after
+unfolding split index_of joined
 split-line [] h = absurd (not-suc-le-zero h)
 split-line (x ∷ xs) h = go (eqb x 10) (split-line xs) h
   where
@@ -24,7 +24,7 @@ split-line (x ∷ xs) h = go (eqb x 10) (split-line xs) h
     go false f k = ap (joined x) (f (le_of_suc-le-suc k))
 
 split-last : (t : List ℕ) → length t ≤ index_of 10 t → split t ≡ t ∷ []
-unfolding split index_of joined index_after
+unfolding split index_of joined
 split-last [] h = refl
 split-last (x ∷ xs) h = go (eqb x 10) (split-last xs) h
   where

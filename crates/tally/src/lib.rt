@@ -1,6 +1,7 @@
 // A stored list of answers: which of its lines are compared, and how many differ.
 #![tactic(auto)]
-ghost use Rattle.std.specs.Prelude.{◌≡◌, ◌<◌};
+ghost use Rattle.std.specs.Prelude.{◌≡◌, ◌+◌, ◌≤◌, ◌<◌, true, length};
+ghost use Rattle.tally.specs.Bytes.{index_of, slice};
 ghost use Rattle.tally.specs.Tallies as Tallies;
 ghost use Rattle.tally.specs.Tallies.{count_limit};
 
@@ -39,4 +40,29 @@ impl Tally {
             different: self.different + 1,
         }
     }
+}
+
+// Where a byte first stands between two places, or the second place.
+pub fn find(text: &[u8], from: usize, to: usize, b: u8) -> usize
+    requires from_in_order { from ≤ to }
+    requires to_in_text { to ≤ length text.now }
+    ensures finds { result ≡ from + index_of b (slice from to text.now) }
+    ensures bounded { result ≤ to }
+{
+    let mut i = from;
+    while i < to {
+        if text[i] == b {
+            return i;
+        }
+        i += 1;
+    }
+    i
+}
+
+// Whether two texts are the same.
+pub fn same(a: &[u8], b: &[u8]) -> bool
+    ensures tells { result ≡ true → a.now ≡ b.now }
+    ensures sees { a.now ≡ b.now → result ≡ true }
+{
+    a == b
 }
