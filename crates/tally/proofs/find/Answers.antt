@@ -1,7 +1,8 @@
-use mathlib.Core.Path.{refl, sym, ap, ◌∙◌}
+use mathlib.Core.Path.{◌≡◌, sym, ap, ◌∙◌}
 use Prim.Native.Nat.{ℕ, ◌+◌}
 use native.Mathlib.Omega.{arith}
 use Rattle.tally.proofs.Finds.{found-here, found-later, found-none}
+use Rattle.tally.specs.Bytes.{index_of, slice}
 use Rattle.tally.proofs.find.Goals as goal
 
 pub returns-then-text-i-clause-finds : goal.returns-then-text-i-clause-finds
@@ -17,4 +18,6 @@ loop-i-preserved c =
 pub returns-clause-finds : goal.returns-clause-finds
 returns-clause-finds c =
     let e = found-none _ _ c.args.b c.requires.to_in_text in
-    let i : c.loop-i.i ≡ c.args.to = omega arith in ?
+    let i : c.loop-i.i ≡ c.args.to = omega arith in
+    let n = ap (λ (k : ℕ). k + index_of c.args.b (slice k c.args.to c.args.text.now)) i in
+    sym (c.loop-i.invariant.1 ∙ n ∙ omega (arith, e, i))
