@@ -1,12 +1,16 @@
 // A rule file on standard input; its plan as a line of hex, or `refused` and the number.
 #![tactic(auto)]
-use plan_line::{FILE_ROOM, LINE_ROOM, answer};
 
-fn main() {
+use input::read_full;
+use plan_line::{FILE_ROOM, LINE_ROOM, answer};
+use std::io::{self, Write};
+
+fn main(rt: HostRuntime) -> io::Result<()> {
     let mut file = [0u8; FILE_ROOM];
-    let n = io::read_full(libc::STDIN_FILENO, &mut file);
+    let n = read_full(&mut rt.reader(), &mut file)?;
     let mut out = [0u8; LINE_ROOM];
     let m = answer(&file[..n], &mut out);
-    io::write_all(libc::STDOUT_FILENO, &out[..m]);
-    io::write_all(libc::STDOUT_FILENO, &[b'\n']);
+    let mut output = io::writer(&rt);
+    output.write_all(&out[..m])?;
+    output.write_all(b"\n")
 }

@@ -8,7 +8,6 @@ ghost use Rattle.rules.specs.ReadAgain.{ReadAgain};
 ghost use Rattle.endings.specs.Endings.{ending_outcome, Within};
 ghost use Rattle.reader.specs.Copies.{number_of, bytes_of};
 
-use bytes::copy;
 use endings::Ending;
 use file::Step;
 use plan_form::plan_end;
@@ -61,7 +60,7 @@ fn decide(plan: &[u8], out: &mut [u8]) -> Ending
     }
     let e = judged(plan);
     let n = e.length();
-    copy(&plan[..n], out);
+    out[..n].copy_from_slice(&plan[..n]);
     e
 }
 

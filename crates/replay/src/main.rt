@@ -1,14 +1,16 @@
 // The stored list of the oracle's answers, on standard input: how many answers were compared, and how many differ. Without their nodes the
 // answers are those of the original Rust functions (docs/ORACLE.md).
 #![tactic(auto)]
+
 ghost use Rattle.std.specs.Prelude.{◌≡◌, ◌<◌};
 ghost use Rattle.replay.specs.Pairs as Pairs;
 ghost use Rattle.tally.specs.Tallies.{count_limit, counted, tallied, split, none};
 
-use bytes::scan::find;
+use input::read_full;
 use lines::unhex;
 use plan_line::{FILE_ROOM, LINE_ROOM, answer};
-use tally::{Tally, skipped};
+use std::io;
+use tally::{Tally, find, same, skipped};
 
 // The longest file in hex that is compared: two digits for each byte of FILE_ROOM.
 const HEX_LIMIT: usize = 65538;
@@ -33,7 +35,7 @@ fn agrees(pair: &[u8]) -> bool
     let mut out = [0u8; LINE_ROOM];
     let m = answer(&file[..n], &mut out);
     let at = e + 3;
-    check::same(&out[..m], &pair[at..])
+    same(&out[..m], &pair[at..])
 }
 
 // The tally after one line more.
@@ -67,12 +69,12 @@ fn replay(text: &[u8]) -> Tally
     t
 }
 
-fn main() {
+fn main(rt: HostRuntime) -> io::Result<()> {
     let mut text = [0u8; TEXT_ROOM];
-    let n = io::read_full(libc::STDIN_FILENO, &mut text);
+    let n = read_full(&mut rt.reader(), &mut text)?;
     let t = replay(&text[..n]);
-    io::print_decimal(libc::STDOUT_FILENO, t.compared as u64);
-    io::write_all(libc::STDOUT_FILENO, b" compared, ");
-    io::print_decimal(libc::STDOUT_FILENO, t.different as u64);
-    io::write_all(libc::STDOUT_FILENO, b" different\n");
+    let compared = t.compared;
+    let different = t.different;
+    println!(rt; "{compared} compared, {different} different")?;
+    Ok(())
 }

@@ -1,6 +1,7 @@
 // The stored list of plans, on standard input, each with what the reader of the Rust side says of it: how many were compared, and how many
 // differ.
 #![tactic(auto)]
+
 ghost use Rattle.std.specs.Prelude.{◌≡◌, ◌*◌, ◌≤◌, ◌<◌, length};
 ghost use Rattle.std.proofs.lemmas.List.Edits.{sets};
 ghost use Rattle.rules.specs.Limits.{plan_limit};
@@ -9,11 +10,12 @@ ghost use Rattle.lines.specs.Lines.{line, unhex};
 ghost use Rattle.tally.specs.Tallies.{count_limit, counted, tallied, split, none};
 ghost use Rattle.reread.specs.Plans as Plans;
 
-use bytes::scan::find;
 use file::wide;
+use input::read_full;
 use lines::{put_line, unhex};
 use reader::sinalvento_read;
-use tally::{Tally, skipped};
+use std::io;
+use tally::{Tally, find, same, skipped};
 
 const PLAN_LIMIT: usize = 16384;
 
@@ -62,7 +64,7 @@ fn comes_to(hex: &[u8], room: usize, said: &[u8]) -> bool
     let mut out = [DIRT; PLAN_LIMIT];
     let mut text = [0u8; LINE_ROOM];
     let m = reread(&plan[..n], &mut out[..room], &mut text);
-    check::same(&text[..m], said)
+    same(&text[..m], said)
 }
 
 // The room that four hex digits say.
@@ -124,12 +126,12 @@ fn reread_all(text: &[u8]) -> Tally
     t
 }
 
-fn main() {
+fn main(rt: HostRuntime) -> io::Result<()> {
     let mut text = [0u8; TEXT_ROOM];
-    let n = io::read_full(libc::STDIN_FILENO, &mut text);
+    let n = read_full(&mut rt.reader(), &mut text)?;
     let t = reread_all(&text[..n]);
-    io::print_decimal(libc::STDOUT_FILENO, t.compared as u64);
-    io::write_all(libc::STDOUT_FILENO, b" compared, ");
-    io::print_decimal(libc::STDOUT_FILENO, t.different as u64);
-    io::write_all(libc::STDOUT_FILENO, b" different\n");
+    let compared = t.compared;
+    let different = t.different;
+    println!(rt; "{compared} compared, {different} different")?;
+    Ok(())
 }
