@@ -126,8 +126,13 @@ fn reread_all(text: &[u8]) -> Tally
     t
 }
 
+// Zeroes for the whole list.
+fn list_room() -> [u8; TEXT_ROOM] {
+    [0; TEXT_ROOM]
+}
+
 fn main(rt: HostRuntime) -> io::Result<()> {
-    let mut text = [0u8; TEXT_ROOM];
+    let mut text = list_room();
     let n = read_full(&mut rt.reader(), &mut text)?;
     let t = reread_all(&text[..n]);
     let compared = t.compared;
