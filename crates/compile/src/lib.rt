@@ -120,8 +120,7 @@ fn decide(file: &[u8], plan: &mut [u8], work: &mut [u8]) -> Ending
 
 // The plan of a rule file, written to the front of the plan buffer; afterwards the work area is all zero, and so is the rest of the plan
 // buffer.
-#[unsafe(no_mangle)]
-pub extern "C" fn sinalvento_compile(file: &[u8], plan: &mut [u8], work: &mut [u8]) -> u64
+pub fn sinalvento_compile(file: &[u8], plan: &mut [u8], work: &mut [u8]) -> u64
     ensures result { let c = CompileRules.compile file.now plan.old work.old in
         result ≡ c.result }
     ensures plan { let c = CompileRules.compile file.now plan.old work.old in

@@ -66,8 +66,7 @@ fn decide(plan: &[u8], out: &mut [u8]) -> Ending
 
 // A plan written back to the front of the output if it has a plan's form and its levels keep their rules; afterwards the work area is all
 // zero, and so is the rest of the output. The work area is not used.
-#[unsafe(no_mangle)]
-pub extern "C" fn sinalvento_read(plan: &[u8], out: &mut [u8], work: &mut [u8]) -> u64
+pub fn sinalvento_read(plan: &[u8], out: &mut [u8], work: &mut [u8]) -> u64
     ensures result { let c = Reader.read_back plan.now out.old work.old in
         result ≡ c.result }
     ensures output { let c = Reader.read_back plan.now out.old work.old in

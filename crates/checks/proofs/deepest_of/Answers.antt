@@ -36,7 +36,7 @@ pub loop-left-preserved : goal.loop-left-preserved
 loop-left-preserved c =
     let l = c.loop-left in
     let h = c.loop-left-test.true in
-    (l.invariant.0 ∙ deepest-turn _ c.args.index.now c.args.w _ _ _ _ _ _ h c.word_at.ensures.reads c.wide16-d.ensures c.larger-most.ensures, words-next _ _ _ _ _ l.invariant.1 h, (run-low _ _ _ _ h _ l.invariant.2).1, omega (arith, l.invariant.3, c.larger-most.ensures, c.wide16-d.ensures, c.shared_slice_known-in-loop-left-1.given (4682 + c.word_at.result)))
+    (l.invariant.0 ∙ deepest-turn _ c.args.index.now c.args.w _ _ _ _ _ _ h c.word_at.ensures.reads c.wide16-d.ensures c.larger-most.ensures, words-next _ _ _ _ _ l.invariant.1 h, (run-low _ _ _ _ h _ l.invariant.2).1, omega (arith, l.invariant.3, c.larger-most.ensures, c.wide16-d.ensures, c.type_inv.index (4682 + c.word_at.result)))
 
 pub returns : goal.returns
 returns c = record { gives = sym (c.loop-left.invariant.0 ∙ deepest-end _ _ _ _ _ _ (omega arith)); bounded = c.loop-left.invariant.3 }

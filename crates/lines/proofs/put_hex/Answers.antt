@@ -11,7 +11,7 @@ pub loop-i-init : goal.loop-i-init
 loop-i-init c = (refl, omega arith, refl)
 
 pub digit-requires : goal.digit-requires
-digit-requires c = omega (arith, c.shared_slice_known-in-loop-i-1.given c.loop-i.i)
+digit-requires c = omega (arith, c.type_inv.bytes c.loop-i.i)
 
 pub bounds-out-i-in-loop-i : goal.bounds-out-i-in-loop-i
 bounds-out-i-in-loop-i c = simp length-set (omega arith)

@@ -27,7 +27,7 @@ pub bounds-index-t : goal.bounds-index-t
 bounds-index-t c = omega (arith, type-low _ _ c.requires.accepted_file _ _ c.numbered.ensures c.if-not-numbered.false, c.requires.accepted_file.indexed.long)
 
 pub overflow_add-n : goal.overflow_add-n
-overflow_add-n c = omega (arith, c.wide-n.ensures, c.wide16.ensures, c.shared_slice_known-5-1.given (4682 + c.args.t))
+overflow_add-n c = omega (arith, c.wide-n.ensures, c.wide16.ensures, c.type_inv.index (4682 + c.args.t))
 
 pub returns-then-n-wide16-le-DEPTH_LIMIT : goal.returns-then-n-wide16-le-DEPTH_LIMIT
 returns-then-n-wide16-le-DEPTH_LIMIT c = has_room _ _ c.requires.accepted_file _ _ c.numbered.ensures _ _ _ _ c.wide-n.ensures.same c.wide16.ensures c.if-not-numbered.false c.if-n-wide16-le-DEPTH_LIMIT.true

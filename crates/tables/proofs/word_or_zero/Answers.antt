@@ -11,7 +11,7 @@ past_end l n h = sym (get_or-eq_default l 0 {n = n} h)
 
 pub returns-then-at-index : goal.returns-then-at-index
 returns-then-at-index c =
-    let h : get_or c.args.index.now c.args.at 0 < 65536 = (c.shared_slice_known-1.given c.args.at).fits in
+    let h : get_or c.args.index.now c.args.at 0 < 65536 = (c.type_inv.index c.args.at).fits in
     record { value = c.wide16.ensures; small = omega (arith, c.wide16.ensures, h) }
 
 pub returns-else-at-index : goal.returns-else-at-index
