@@ -14,7 +14,7 @@ use lib.Seq.{get_or-take}
 use Rattle.rules.specs.Base.{Each, more, all, all_from, both, last_or, ◌when_some◌}
 use Rattle.rules.specs.Limits.{node_limit}
 use Rattle.rules.specs.File.{Tables, Ty, FieldTy, Alternative, Node, FieldPattern, Slot, type_at, node_at, var_name, child_types, child_nodes, constant_of, constants, is_constant}
-use Rattle.rules.specs.Checks.{checks, is_name, is_type, is_node, type_in, node_in, slot_in, binding_in, children_lower, slot_constant, consts_constant}
+use Rattle.rules.specs.Checks.{is_name, is_type, is_node, type_in, node_in, slot_in, binding_in, children_lower, slot_constant, consts_constant}
 use Rattle.rules.specs.Constant.{lookup, const_node, const_of, stands_for}
 use Rattle.rules.proofs.Cases.{by-test, ways, true≢false, some≢none, some-injective, ltb-lt, both_left, both_right, bind-some}
 use Rattle.rules.proofs.Each.{each-passes, each-imply, each_both, each_at, each_last, each-unmap}

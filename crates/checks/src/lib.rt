@@ -1,6 +1,7 @@
 // The whole-file checks 11 to 14 and the verdict on a file. The depth of each type and the constancy of each node are computed once,
 // bottom up, and kept in the index, with the number of each name's last binding.
 #![tactic(auto)]
+
 ghost use Rattle.std.specs.Prelude.{◌≡◌, true, false, ◌∷◌, [], ◌+◌, ◌≤◌, ◌<◌, max, length, get_or, drop, replicate, ltb};
 ghost use Rattle.std.proofs.lemmas.List.Edits.{sets};
 ghost use Rattle.rules.specs.Base.{all, concat_map};

@@ -1,5 +1,6 @@
 // The compile of a rule file: one function for the engine.
 #![tactic(auto)]
+
 ghost use Rattle.std.specs.Prelude.{◌≡◌, ℕ, ◌≤◌, ◌<◌, length, take};
 ghost use Rattle.rules.specs.Limits.{file_limit, work_limit};
 ghost use Rattle.rules.specs.Compile as CompileRules;

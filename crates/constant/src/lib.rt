@@ -1,6 +1,7 @@
 // The constant that a pattern is at a type. It carries positions and the length of its bytes; the bytes themselves are written only where
 // they are wanted.
 #![tactic(auto)]
+
 ghost use Rattle.std.specs.Prelude.{◌≡◌, ◌+◌, ◌*◌, ◌≤◌, ◌<◌, min, [], ◌∷◌, length};
 ghost use Rattle.rules.specs.Limits.{file_limit};
 ghost use Rattle.rules.specs.Base.{either};

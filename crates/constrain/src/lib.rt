@@ -1,5 +1,6 @@
 // A walk narrowed by a pattern's constant, and by the patterns that constrain a variable.
 #![tactic(auto)]
+
 ghost use Rattle.std.specs.Prelude.{◌≡◌, List, ℕ, ◌<◌, length};
 ghost use Rattle.rules.specs.File.{node_at};
 ghost use Rattle.rules.specs.Walk as WalkRules;

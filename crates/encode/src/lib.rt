@@ -1,6 +1,7 @@
 // The bytes of a constant, written at a position of a lent buffer; the position after them is handed back. What lies past the buffer's
 // end is not written.
 #![tactic(auto)]
+
 ghost use Rattle.std.specs.Prelude.{◌+◌, ◌*◌, ◌≤◌, ◌<◌, [], ◌∷◌, length};
 ghost use Rattle.rules.specs.Limits.{file_limit};
 ghost use Rattle.rules.specs.File.{Ty, name_at, type_at};

@@ -1,5 +1,6 @@
 // How an exported call ends: every one of them returns number and length in one u64 and zeroes what it was lent past what it wrote.
 #![tactic(auto)]
+
 ghost use Rattle.std.specs.Prelude.{◌≡◌, length};
 ghost use Rattle.rules.specs.Compile.{compiled};
 ghost use Rattle.endings.specs.Endings.{ending_outcome, length_of, answer_of, Within};

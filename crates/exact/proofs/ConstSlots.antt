@@ -11,7 +11,7 @@ use lib.Seq.{get_or-take}
 use lib.Dec.{eqb}
 use Rattle.rules.specs.Base.{first, ◌when_some◌}
 use Rattle.rules.specs.File.{Tables, Alternative, FieldPattern, Node, FieldPath, Slot, Binding, type_at, node_at, fact_ty, union_ty, record_fields, var_name, constant_of, constants, is_constant}
-use Rattle.rules.specs.Constant.{Const, alternative_of, field_pattern, lookup, const_node}
+use Rattle.rules.specs.Constant.{alternative_of, field_pattern, lookup, const_node}
 use Rattle.rules.specs.Lookup.{FieldAt, fetched_register, slot_at, row_field, row_value, folded_field, folded_slot, hoisted_slot}
 use Rattle.rules.specs.Resolve.{Answer, Resolver, follow, ◌when_found◌, give, declined, fetched_row, dereference, field_of_row, field_slot, value_slot, selected, select_slot, resolve_node, resolve_below, resolve}
 use Rattle.rules.proofs.BottomUp.{extends, at_place}

@@ -9,7 +9,7 @@ use lib.ListN.{length, get_or}
 use Rattle.rules.specs.Base.{Each, done, more}
 use Rattle.rules.specs.File.{Tables, Ty, Node, FieldTy, Binding, Constraint, LevelEntry, type_at, node_at, predicate_at}
 use Rattle.rules.specs.Events.{Lists}
-use Rattle.rules.specs.Walk.{fresh_walk, walk_level, key}
+use Rattle.rules.specs.Walk.{fresh_walk, walk_level}
 use Rattle.rules.specs.Levels.{Level, starting, level_of, level, levels_from, levels, left_by, any_mistyped}
 use Rattle.rules.specs.Plan.{plan_level, plan_of, plan}
 use Rattle.rules.specs.Demand3.{entry_at, level_at, start_of}

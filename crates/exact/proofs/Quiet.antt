@@ -8,7 +8,7 @@ use lib.ListN.{length}
 use Rattle.rules.specs.File.{Tables, Alternative, Node, FieldPath, Slot, Binding, type_at, node_at, fact_ty, union_ty, is_constant}
 use Rattle.rules.specs.Constant.{alternative_of}
 use Rattle.rules.specs.Lookup.{fetched_register}
-use Rattle.rules.specs.Events.{Code, Select, Walk, walk_ops, select, report}
+use Rattle.rules.specs.Events.{Code, Walk, walk_ops, select, report}
 use Rattle.rules.specs.Resolve.{Answer, Resolver, follow, ◌when_found◌, give, declined, fetched_row, dereference, field_of_row, field_slot, value_slot, selected, select_slot, resolve_node, resolve_below, resolve}
 use Rattle.rules.proofs.Choices.{by-test₂, by-option₂}
 use Rattle.rules.proofs.Lists.{Onwards, onwards-same, onwards-next, onwards-one}

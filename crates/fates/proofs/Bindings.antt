@@ -1,5 +1,5 @@
 -- The file's bindings in turn: which is a Const that is a Record, and what is remembered of it.
-use Prim.Native.Nat.{ℕ, zero, suc, ◌+◌, ◌*◌, ◌≤◌, ◌<◌}
+use Prim.Native.Nat.{ℕ, suc, ◌+◌, ◌≤◌, ◌<◌}
 use mathlib.Core.Bool.{Bool, true, false}
 use mathlib.Core.List.{List, [], ◌∷◌}
 use mathlib.Core.Option.{Option, none, some}
@@ -8,14 +8,13 @@ use types.Run.{OneOf}
 use denote.Enum.Declared.{tag_of}
 use native.Mathlib.Omega.{arith}
 use native.Mathlib.Numerals.{add-one}
-use lib.ListN.{length, get_or, set, drop, length-set, length-drop}
+use lib.ListN.{length, drop, length-drop}
 use lib.Seq.{sets, length-sets, drop-cons}
 use Rattle.rules.specs.Base.{◌when_some◌}
-use Rattle.rules.specs.File.{Tables, Binding, FieldPattern, Slot, node_at, record_fields}
+use Rattle.rules.specs.File.{Tables, Binding, FieldPattern, node_at, record_fields}
 use Rattle.rules.specs.Constant.{const_node}
 use Rattle.views.specs.Views.{pattern_at, binding_at, SeenBinding}
 use Rattle.views.specs.declared.BindingView.{BindingView}
-use Rattle.views.specs.declared.SlotView.{SlotView}
 use Rattle.views.specs.declared.SlotView.TheVariants as Sv
 use Rattle.views.specs.contracts.SlotView as SlotViews
 use Rattle.tables.specs.Tables.{SeenRun, SeenSlot}
@@ -23,7 +22,7 @@ use Rattle.tables.specs.declared.Run.{Run}
 use Rattle.tables.specs.declared.Run.TheVariants as Ru
 use Rattle.tables.specs.declared.MaybeSlotView.TheVariants as Ms
 use Rattle.tables.proofs.Searches.{last-slot, const-is, const-not}
-use Rattle.accepted_file.specs.Fates.{rows_base, fates_base, row_words, long_length}
+use Rattle.accepted_file.specs.Fates.{long_length}
 use Rattle.fates.specs.Rows.{const_record, Kept, kept, with_part, with_binding, with_bindings, any_record}
 use Rattle.fates.proofs.Parts.{index_size, part_length}
 

@@ -1,5 +1,5 @@
 -- The parts of what has a row, turn by turn.
-use Prim.Native.Nat.{ℕ, zero, suc, ◌+◌, ◌-◌, ◌*◌, ◌≤◌, ◌<◌}
+use Prim.Native.Nat.{ℕ, suc, ◌+◌, ◌-◌, ◌*◌, ◌≤◌, ◌<◌}
 use mathlib.Core.Bool.{Bool, true, false}
 use mathlib.Core.List.{List, [], ◌∷◌}
 use mathlib.Core.Option
@@ -8,14 +8,12 @@ use mathlib.Core.Path.{◌≡◌, refl, sym, ap, ap₂, ◌∙◌, subst}
 use native.Mathlib.Omega.{arith}
 use native.Mathlib.Numerals.{add-one}
 use borrow.Author.Tests.{lt-ltb, le-ltb, eq-eqb, ne_eqb}
-use lib.Dec.{eqb, ltb}
+use lib.Dec.{ltb}
 use lib.ListN.{length, get_or, set, drop, length-set, length-drop}
 use lib.Seq.{sets, length-sets, drop-cons}
 use Rattle.rules.specs.Base.{both}
-use Rattle.rules.specs.File.{Tables, Binding, FieldPattern, node_at, is_constant, record_fields}
-use Rattle.rules.proofs.Cases.{pick, true≢false, both_left, both_right, ltb-lt}
-use Rattle.rules.proofs.Literals.{constant-in}
-use Rattle.rules.specs.Limits.{type_limit, node_limit}
+use Rattle.rules.specs.File.{Tables, FieldPattern, node_at, is_constant, record_fields}
+use Rattle.rules.proofs.Cases.{pick, true≢false, both_left}
 use Rattle.views.specs.Views.{pattern_at, pattern_of, run}
 use Rattle.views.specs.declared.FieldPattern.{FieldPattern as FieldPatternView}
 use Rattle.views.proofs.Runs.{run_at, length_run}

@@ -11,26 +11,21 @@ use borrow.Author.Tests.{lt-ltb, eqb-true, eqb-false}
 use lib.Dec.{eqb, ltb}
 use lib.ListN.{length, get_or, set, replicate, length-set, length-replicate, get_or-eq_default}
 use lib.Seq.{sets, length-sets, get_or-set_same, get_or-set_other}
-use Rattle.rules.specs.Base.{Each, done, more}
 use Rattle.rules.specs.Limits.{type_limit, node_limit, binding_limit}
-use Rattle.rules.specs.File.{Tables, Binding, FieldPattern, Slot, node_at, record_fields, is_constant}
-use Rattle.rules.specs.Constant.{const_node}
+use Rattle.rules.specs.File.{Tables, Binding, FieldPattern}
 use Rattle.rules.proofs.Cases.{pick, some≢none, some-injective}
 use Rattle.file.specs.Steps.{base_of, limit_of, depths_base, constants_base, last_bindings_base, index_length}
 use Rattle.rules.specs.Read.{Reader}
 use Rattle.file.specs.Tables.{Stands, Section, Indexed, tables_of}
-use Rattle.rules.proofs.Each.{each_at}
-use Rattle.views.specs.Views.{binding_at}
 use Rattle.file.proofs.Accepted.{sets_below, sets-in}
 use Rattle.accepted_file.specs.Fates.{fate_by, fate, digit, in_row, recalled, rows_base, fates_base, row_words, long_length}
 use Rattle.accepted_file.specs.AcceptedFile.{AcceptedFile}
-use Rattle.accepted_file.proofs.Ranges.{ConstOk, bindings-const}
 use Rattle.accepted_file.proofs.Given.{few-names, few-types, few-nodes}
 use Rattle.rules.specs.Base.{both}
 use Rattle.rules.proofs.Cases.{both_left, both_right, ltb-lt}
 use Rattle.rules.proofs.Literals.{constant-in}
 use Rattle.field_cases.specs.Pieces.{patterns_of}
-use Rattle.fates.specs.Rows.{packed, fate_or, word_of, words, row_of, with_row, const_record, with_binding, with_bindings, remembering}
+use Rattle.fates.specs.Rows.{fate_or, word_of, row_of, with_row, const_record, with_binding, with_bindings, remembering}
 use Rattle.fates.specs.Rows.{row_limit, Kept, kept, is_parent, rowless, with_part, with_parts, with_held, with_nodes}
 use Rattle.fates.proofs.Parts.{parent-constant}
 use Rattle.fates.proofs.Packed.{digit-packed, word_at, words-length}

@@ -1,6 +1,7 @@
 // What each Record that a name is bound to as a Const comes to at each type, and each Record in it, remembered in an index that is longer:
 // it is asked for again and again, and never changes.
 #![tactic(auto)]
+
 ghost use Rattle.std.specs.Prelude.{◌≡◌, true, ℕ, ◌+◌, ◌*◌, ◌≤◌, ◌<◌, length, set};
 ghost use Rattle.std.proofs.lemmas.List.Edits.{sets};
 ghost use Rattle.rules.specs.Limits.{type_limit, binding_limit};

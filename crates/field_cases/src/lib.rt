@@ -1,5 +1,6 @@
 // What a member of the walk's cycle does before it goes on into the cycle: the cycle itself then holds the recursion and nothing else.
 #![tactic(auto)]
+
 ghost use Rattle.std.specs.Prelude.{◌≡◌, List, ℕ, ◌<◌, length};
 ghost use Rattle.rules.specs.Limits.{file_limit};
 ghost use Rattle.rules.specs.File as File;

@@ -1,5 +1,6 @@
 // What is found in the file's tables by name, node or path.
 #![tactic(auto)]
+
 ghost use Rattle.std.specs.Prelude.{◌≡◌, ◌+◌, ◌*◌, ◌≤◌, ◌<◌, length};
 ghost use Rattle.rules.specs.Limits.{step_limit};
 ghost use Rattle.rules.specs.File.{type_at, fact_ty, field_path, then};

@@ -1,5 +1,5 @@
 -- An accepted file: each record of each section is read where the index says.
-use Prim.Native.Nat.{ℕ, zero, suc, ◌+◌, ◌-◌, ◌≤◌, ◌<◌, zero-le}
+use Prim.Native.Nat.{ℕ, zero, suc, ◌+◌, ◌≤◌, ◌<◌, zero-le}
 use mathlib.Core.Path.{◌≡◌, refl, sym, ap, ◌∙◌, subst}
 use mathlib.Core.Bool.{Bool, true, false}
 use mathlib.Core.List.{List, [], ◌∷◌}
@@ -16,12 +16,12 @@ use Rattle.rules.specs.File.{Tables, Ty, Predicate, Node, Binding, Hoisted, Fetc
 use Rattle.rules.specs.Read.{Read, Reader, ◌>>=◌, pure, refuse, u16, many, section, end, name, type, predicate, node, binding, hoisted, fetched, constraint, comparison, level}
 use Rattle.rules.specs.Read.Read.{got, refused}
 use Rattle.rules.specs.Read as Read
-use Rattle.file.specs.Steps.{word, step_of, read_at, step_at, skim, record_of, limit_of, base_of, section_of, count, counted, count_at, starts, entries, sections, filled, index_of, index_length}
+use Rattle.file.specs.Steps.{word, step_of, read_at, step_at, skim, record_of, limit_of, base_of, section_of, count_at, starts, entries, sections, filled, index_of, index_length}
 use Rattle.file.specs.Tables.{Stands, Section, Indexed, tables_of, got_tables}
 use Rattle.file.specs.declared.Step.{Step}
 use Rattle.file.specs.declared.Step.TheVariants.{Next, Refused}
 use Rattle.file.proofs.Readers.{lt-or-le, refused-got, refused-next, bind_inv, step-got, step-skim, fixed-u16, needs-fixed, needs-first, cut_short, alike-step}
-use Rattle.file.proofs.Suffix.{Suffix, end-end, ended, faulted, suffix-many, suffix-section, suffix-name, suffix-type, suffix-predicate, suffix-node, suffix-binding, suffix-hoisted, suffix-fetched, suffix-constraint, suffix-comparison, suffix-level}
+use Rattle.file.proofs.Suffix.{Suffix, end-end, faulted, suffix-many, suffix-section, suffix-name, suffix-type, suffix-predicate, suffix-node, suffix-binding, suffix-hoisted, suffix-fetched, suffix-constraint, suffix-comparison, suffix-level}
 use Rattle.file.proofs.Sections.{apart, roomy, word-then, count_next, count-in, section-within, entries-on, sections-more, sections-fault, filled_none, filled_more, ten-sections, alike-section}
 use Rattle.file.proofs.Empty.{indexed-empty}
 

@@ -13,11 +13,11 @@ use Rattle.rules.specs.Utf8.{UTF8-octets}
 use Rattle.rules.proofs.Utf8.{bytes_whole}
 use Rattle.rules.specs.Base.{all}
 use Rattle.rules.specs.File.{Ty, Node, Slot, Anchor, CompareOp, compare_ops, op_of_number}
-use Rattle.rules.specs.Read.{Reader, follow, ◌>>=◌, pure, refuse, u8, u16, many, several, kind, section, well_formed, name, field_ty, alternative, fact_ty, record_ty, union_ty, type, predicate, anchor, field_pattern, one, two, int_node, bytes_node, fuzzy_node, record_node, node, path, row_slot, key_slot, derived_slot, field_slot, value_slot, const_slot, slot, binding, hoisted, fetched, constraint, op, comparison, level}
-use Rattle.rules.specs.Read.Read.{got, refused}
+use Rattle.rules.specs.Read.{Reader, ◌>>=◌, pure, refuse, u8, u16, many, several, kind, well_formed, name, field_ty, alternative, fact_ty, record_ty, union_ty, type, predicate, anchor, field_pattern, one, two, int_node, bytes_node, fuzzy_node, record_node, node, path, row_slot, key_slot, derived_slot, field_slot, value_slot, const_slot, slot, binding, hoisted, fetched, constraint, op, comparison, level}
+use Rattle.rules.specs.Read.Read.{got}
 use Rattle.file.specs.Steps.{read_at, step_at, skim, record_of}
 use Rattle.file.specs.declared.Step.TheVariants.{Next, Refused}
-use Rattle.file.proofs.Readers.{then-got, then-refused, byte-in, byte-out, kind-in, kind-out, several-in, several-out, step-got, step-refused, step_same, step-skim, Fixed, fixed-pure, fixed-bind, fixed-many, fixed-u8, fixed-u16, fixed-u32, fixed-optional, fixed-bytes, fixed_in, fixed_then, needs-fixed, needs-bind, needs-first, needs-kind, cut_short, SameSteps, alike_refl, alike-step, alike-value, alike-pure, alike-several, alike-map, alike-fixed}
+use Rattle.file.proofs.Readers.{then-got, then-refused, kind-in, kind-out, several-in, several-out, step-got, step-refused, step_same, step-skim, Fixed, fixed-pure, fixed-bind, fixed-many, fixed-u8, fixed-u16, fixed-u32, fixed-optional, fixed-bytes, fixed_in, fixed_then, needs-fixed, needs-bind, needs-first, needs-kind, cut_short, SameSteps, alike_refl, alike-step, alike-value, alike-pure, alike-several, alike-map, alike-fixed}
 use Rattle.file.proofs.Suffix.{ended, faulted, suffix-path}
 
 pub times : (w n : ℕ) → w ≤ 8 → n < 256 → n * w ≤ 2040

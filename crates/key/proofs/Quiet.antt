@@ -13,7 +13,7 @@ use Rattle.rules.specs.Constant.{Const, field_pattern, constant_fields, constant
 use Rattle.rules.specs.Literals.{any_field}
 use Rattle.rules.specs.Walk.{FieldWalk, each_field, narrow_by, partial_fields, partial, matched, field_below}
 use Rattle.rules.proofs.Cases.{true≢false, some≢none, some-injective, bind-some}
-use Rattle.rules.proofs.Each.{each_first, each-imply}
+use Rattle.rules.proofs.Each.{each_first}
 use Rattle.rules.proofs.Constants.{constant-is}
 use Rattle.rules.proofs.Literals.{record-node, constant-in}
 use Rattle.rules.proofs.Sound.{Passed, Child, Sound}

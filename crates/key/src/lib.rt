@@ -1,5 +1,6 @@
 // The walk of a pattern against a type. Each round of the four descends one type, whose number falls.
 #![tactic(auto)]
+
 ghost use Rattle.std.specs.Prelude.{◌≡◌, ◌<◌, length};
 ghost use Rattle.rules.specs.File.{node_at, field_path};
 ghost use Rattle.rules.specs.Walk as WalkRules;

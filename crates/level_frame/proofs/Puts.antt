@@ -14,7 +14,7 @@ use Rattle.rules.specs.Placement.{Guide}
 use Rattle.rules.specs.Plan as Plan
 use Rattle.rules.specs.Plan.{u16}
 use Rattle.state.specs.State.{joined_bytes}
-use Rattle.state.specs.Levels.{seek_of, joining, head, tail}
+use Rattle.state.specs.Levels.{seek_of, head, tail}
 use Rattle.state.proofs.Seqs.{length-stride}
 use Rattle.paths.specs.Paths.{path_of}
 use Rattle.encode.specs.Written.{Wrote}

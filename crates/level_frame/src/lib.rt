@@ -1,5 +1,6 @@
 // What stands in the plan around a level's parts and residuals: its sizes, and its bytes, from the level as it was measured.
 #![tactic(auto)]
+
 ghost use Rattle.std.specs.Prelude.{◌≡◌, ◌+◌, ◌≤◌, ◌<◌, min, length};
 ghost use Rattle.rules.specs.Limits.{plan_limit};
 ghost use Rattle.rules.specs.File.{Tables};

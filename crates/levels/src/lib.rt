@@ -1,6 +1,7 @@
 // A level walked onto the page, then written at its place in the plan; the list of levels, each from exactly what the one before left;
 // the four lists after them.
 #![tactic(auto)]
+
 ghost use Rattle.std.specs.Prelude.{◌≡◌, true, List, [], ℕ, ◌≤◌, ◌<◌, length};
 ghost use Rattle.rules.specs.Limits.{plan_limit};
 ghost use Rattle.rules.specs.File.{Tables};

@@ -2,6 +2,7 @@
 // and diagnostics down. A record that would meet the run's other list means that the plan is too long: `over` is set, and nothing changes
 // any more. Two tables past the lists tell where a name was bound.
 #![tactic(auto)]
+
 ghost use Rattle.std.specs.Prelude.{◌≡◌, true, false, List, ◌∷◌, ◌++◌, ℕ, ◌+◌, ◌*◌, ◌≤◌, ◌<◌, ltb, leb, length, get_or};
 ghost use Rattle.std.proofs.Math.Option;
 ghost use Rattle.std.proofs.Math.Option.{some};

@@ -7,13 +7,11 @@ use mathlib.Core.Logic.{⊎_elim}
 use mathlib.Core.Option.{Option, none, some}
 use native.Mathlib.Omega.{arith}
 use native.Mathlib.Numerals.{add-one}
-use types.Run.{OneOf, miss}
-use denote.Enum.Declared.{tag_of}
 use lib.ListN.{length, get_or, take, get_or-eq_default}
 use lib.Seq.{sets, take-suc}
 use lib.Dec.{eqb}
 use Rattle.rules.specs.Base.{Each, more, first, ◌when_some◌}
-use Rattle.rules.specs.File.{Tables, Hoisted, FieldPattern, Node, Slot, node_at, child_nodes, record_fields, constant_of, constants, is_constant}
+use Rattle.rules.specs.File.{Tables, FieldPattern, Node, Slot, node_at, child_nodes, record_fields, constants, is_constant}
 use Rattle.rules.specs.Constant.{const_bound, const_node, lookup, field_pattern}
 use Rattle.rules.specs.Lookup.{folded_field}
 use Rattle.rules.specs.Literals.{hoisted_const, folded_node, folded_below, folded}
@@ -23,17 +21,11 @@ use Rattle.rules.proofs.Each.{each-imply, each_first}
 use Rattle.rules.proofs.Sound.{Passed}
 use Rattle.rules.proofs.Literals.{record-node, constant-in}
 use Rattle.file.proofs.Readers.{lt-or-le}
-use Rattle.views.specs.Views.{node_of, SeenNode}
-use Rattle.views.specs.declared.NodeView.{NodeView}
-use Rattle.views.specs.declared.NodeView.TheVariants as Nv
-use Rattle.views.specs.contracts.NodeView as NodeViews
-use Rattle.fields.specs.Found.{hoisted_name}
 use Rattle.accepted_file.proofs.Ranges.{ConstOk, lookup-const, record-constant}
 use Rattle.resolve.specs.Resolved.{base_of}
 use Rattle.resolve.specs.Chains.{read_of, passing, chain, ending, bottom}
 use Rattle.resolve.specs.declared.Chain.{Chain}
 use Rattle.resolve.specs.declared.Read.{Read}
-use Rattle.resolve.specs.declared.Read.TheVariants as Rd
 use Rattle.resolve.specs.declared.Base.{Base}
 use Rattle.resolve.specs.declared.Base.TheVariants as Bs
 use Rattle.resolve.proofs.Steps.{Lower, constants-length}

@@ -9,7 +9,7 @@ use native.Mathlib.Numerals.{add-one}
 use lib.ListN.{length, get_or, drop, length-drop}
 use lib.Seq.{drop-cons}
 use Rattle.rules.specs.Base.{either}
-use Rattle.rules.specs.File.{Tables, FieldTy, FieldPattern, LevelEntry}
+use Rattle.rules.specs.File.{Tables, FieldTy, FieldPattern}
 use Rattle.rules.specs.Constant.{field_pattern}
 use Rattle.rules.specs.Literals.{any_field, level_meets, levels_meet}
 use Rattle.views.specs.Views.{level_entry_at}

@@ -1,7 +1,7 @@
 -- What is met hangs on no limit, as long as it is above the type; and what the index remembers of it.
-use Prim.Native.Nat.{ℕ, zero, suc, ◌≤◌, ◌<◌}
+use Prim.Native.Nat.{ℕ, zero, suc, ◌<◌}
 use mathlib.Core.Bool.{Bool, true, false}
-use mathlib.Core.List.{List, [], ◌∷◌}
+use mathlib.Core.List.{List, []}
 use mathlib.Core.Option.{Option, none, some, get_or}
 use mathlib.Core.Path.{◌≡◌, refl, sym, ap, ap₂, ◌∙◌}
 use native.Mathlib.Omega.{arith}
@@ -11,7 +11,6 @@ use Rattle.rules.specs.Base.{Each, done, more, either}
 use Rattle.rules.specs.File.{Tables, Ty, FieldTy, FieldPattern, Alternative, type_at, node_at, record_fields, record_ty, union_ty}
 use Rattle.rules.specs.Constant.{Const, field_pattern, alternative_of, only_field, constant}
 use Rattle.rules.specs.Literals.{folded, any_field, lacks_bytes, brought_by, brought_meets, payload_meets, record_meets, field_meets, meets_below, meets}
-use Rattle.rules.proofs.Cases.{some≢none}
 use Rattle.rules.proofs.Each.{each_first}
 use Rattle.rules.proofs.Sound.{Child, Sound}
 use Rattle.rules.proofs.Keeps.{record-children, union-children}

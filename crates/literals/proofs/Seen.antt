@@ -28,10 +28,9 @@ use Rattle.views.specs.declared.NodeView.{NodeView}
 use Rattle.views.specs.declared.NodeView.TheVariants as Nv
 use Rattle.views.specs.contracts.NodeView as NodeViews
 use Rattle.views.specs.declared.TypeView.{TypeView}
-use Rattle.views.specs.declared.TypeView.TheVariants as Tv
 use Rattle.views.specs.declared.FieldPattern.{FieldPattern}
 use Rattle.views.specs.declared.Alternative.{Alternative}
-use Rattle.fields.specs.Found.{name_option, hoisted_name}
+use Rattle.fields.specs.Found.{hoisted_name}
 use Rattle.tables.specs.Tables.{found_option, alternative_option, SeenRun}
 use Rattle.tables.specs.declared.Run.{Run}
 use Rattle.tables.proofs.Tags.{record_is, record-not}

@@ -1,17 +1,15 @@
 -- The steps come to what the written rules' pass says, and a payload's type is lower.
-use Prim.Native.Nat.{ℕ, zero, suc, ◌≤◌, ◌<◌}
-use mathlib.Core.Path.{◌≡◌, refl, sym, ap, ap₂, ◌∙◌, subst}
-use mathlib.Core.Bool.{Bool, true, false}
+use Prim.Native.Nat.{ℕ, zero, suc, ◌<◌}
+use mathlib.Core.Path.{◌≡◌, refl, sym, ap, ◌∙◌, subst}
+use mathlib.Core.Bool.{Bool, false}
 use mathlib.Core.List.{List, []}
 use mathlib.Core.Option.{Option, none, some, get_or}
 use native.Mathlib.Omega.{arith}
 use lib.ListN.{length}
-use Rattle.rules.specs.Base.{Each}
-use Rattle.rules.specs.File.{Tables, FieldTy, Alternative, Ty, FieldPattern, type_at, node_at, is_constant, record_fields, record_ty, union_ty}
-use Rattle.rules.specs.Constant.{alternative_of, only_field, constant}
+use Rattle.rules.specs.File.{Tables, FieldTy, Alternative, Ty, FieldPattern, type_at, node_at, record_fields, record_ty, union_ty}
+use Rattle.rules.specs.Constant.{alternative_of, only_field}
 use Rattle.rules.specs.Literals as Literals
 use Rattle.rules.specs.Literals.{folded, any_field, lacks_bytes, brought_meets, payload_meets, record_meets, field_meets, meets_below, meets, whole_meets}
-use Rattle.rules.proofs.Cases.{some≢none, some-injective}
 use Rattle.rules.proofs.Each.{each_first}
 use Rattle.rules.proofs.Sound.{Sound, Child}
 use Rattle.rules.proofs.Keeps.{union-children}

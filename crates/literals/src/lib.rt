@@ -1,6 +1,7 @@
 // What a level brings to a type that gives it no bytes: decided by node and type, before any level is walked. It writes nothing and asks no
 // list.
 #![tactic(auto)]
+
 ghost use Rattle.std.specs.Prelude.{◌≡◌, true, [], ℕ, ◌+◌, ◌*◌, ◌≤◌, ◌<◌, length, take};
 ghost use Rattle.std.proofs.Math.Option.{get_or, some};
 ghost use Rattle.rules.specs.File.{type_at, is_constant, record_ty};

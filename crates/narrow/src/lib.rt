@@ -1,6 +1,7 @@
 // A level narrowed by a constant and by a union's tag, with the node that made the narrowing. As in the Rust, `narrow_by` and
 // `narrow_by_tag` take the level lent.
 #![tactic(auto)]
+
 ghost use Rattle.std.specs.Prelude.{◌≡◌, List, ℕ};
 ghost use Rattle.rules.specs.File.{Tables};
 ghost use Rattle.rules.specs.Events.{Narrowing};

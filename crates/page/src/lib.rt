@@ -1,6 +1,7 @@
 // A level from the page to the plan. A level's walk writes its parts to the page, each by itself, and its residuals, before it is known
 // where they stand in the plan.
 #![tactic(auto)]
+
 ghost use Rattle.std.specs.Prelude.{◌≡◌, ◌<◌};
 ghost use Rattle.state.specs.Levels as StateLevels;
 ghost use Rattle.state.specs.Levels.{paged, join_parts, parts_from, from_page};

@@ -1,5 +1,6 @@
 // Register numbers, predicate numbers and the path to a field, as the Rust source tells them apart.
 #![tactic(auto)]
+
 ghost use Rattle.std.specs.Prelude.{◌≡◌, ◌+◌, ◌≤◌, ◌<◌};
 ghost use Rattle.rules.specs.Limits.{step_limit};
 ghost use Rattle.rules.specs.File.{field_path, then, payload};

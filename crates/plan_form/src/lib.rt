@@ -1,6 +1,7 @@
 // Where each item of a plan ends: request [1]'s walk over plan bytes, front to back, with no memory of its own.
 // Which items of the plan stand where: proofs/Places.antt, `item-at` of any number of items and `opened` of the five lists.
 #![tactic(auto)]
+
 ghost use Rattle.std.specs.Prelude.{◌≡◌, ◌≤◌, ◌<◌, length};
 ghost use Rattle.rules.specs.Read.{u8, u16, many};
 ghost use Rattle.rules.specs.Reader as Reader;

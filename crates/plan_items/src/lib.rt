@@ -3,6 +3,7 @@
 // Which item of the plan stands at a position is told by number in proofs/Plans.antt, and for the five lists in plan_form's
 // proofs/Places.antt.
 #![tactic(auto)]
+
 ghost use Rattle.std.specs.Prelude.{◌≡◌, ◌+◌, ◌*◌, ◌≤◌, ◌<◌, length, get_or, drop};
 ghost use Rattle.rules.specs.Limits.{step_limit};
 ghost use Rattle.rules.specs.Read.{u16, many};

@@ -1,6 +1,7 @@
 // The four lists copied from the work area into the plan, each after its count; of one that grew down the record at its top first. What
 // lies past the work area's end is left out, so nothing is asked of where a list ends.
 #![tactic(auto)]
+
 ghost use Rattle.std.specs.Prelude.{◌≡◌, ◌++◌, ◌+◌, ◌*◌, ◌-◌, ◌≤◌, min, length};
 ghost use Rattle.std.proofs.Math.Seq.{slice};
 ghost use Rattle.rules.specs.Plan as Plan;

@@ -1,5 +1,6 @@
 // The rules of 18, which every level of a plan keeps (request [1]). They are checked last: the plan was read whole before.
 #![tactic(auto)]
+
 ghost use Rattle.std.specs.Prelude.{◌≡◌, List, ℕ, ◌≤◌, ◌<◌};
 ghost use Rattle.std.proofs.Math.Option.{Option};
 ghost use Rattle.rules.specs.Base.{all};

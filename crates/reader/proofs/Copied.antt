@@ -1,13 +1,12 @@
 -- The lengths, and an accepted plan at the front of the output.
 use mathlib.Core.Bool.{Bool, true, false}
 use mathlib.Core.List.{List, ◌++◌}
-use mathlib.Core.Path.{◌≡◌, refl, sym, ap, ap₂, ◌∙◌}
+use mathlib.Core.Path.{◌≡◌, refl, sym, ap, ◌∙◌}
 use Prim.Native.Nat.{ℕ, ◌+◌, ◌≤◌, ◌<◌, min}
 use native.Mathlib.Omega.{arith}
 use borrow.Author.Tests.{le-leb}
-use lib.Dec.{leb}
 use lib.ListN.{length, take, drop, length-append}
-use lib.Seq.{sets, sets-eq, take_at, take-length, length-take-le}
+use lib.Seq.{sets, sets-eq, take_at, length-take-le}
 use Rattle.rules.specs.Limits.{plan_limit}
 use Rattle.rules.specs.Compile.{Outcome}
 use Rattle.rules.specs.Reader as Reader

@@ -1,5 +1,6 @@
 // The whole-file checks 8, 9 and 10.
 #![tactic(auto)]
+
 ghost use Rattle.std.specs.Prelude.{◌≡◌, ◌+◌, ◌≤◌, ◌<◌, length, ltb};
 ghost use Rattle.rules.specs.Base.{both, all, distinct};
 ghost use Rattle.rules.specs.File.{type_at, node_at, predicate_at, child_types, child_nodes};

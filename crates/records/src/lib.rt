@@ -1,6 +1,7 @@
 // Records of the plan's form, written at a place of a lent buffer and read back. A place outside the buffer takes nothing, so no caller
 // has to show that there is room.
 #![tactic(auto)]
+
 ghost use Rattle.std.specs.Prelude.{◌≡◌, true, false, List, [], ◌∷◌, ◌++◌, ℕ, ◌+◌, ◌*◌, ◌≤◌, ◌<◌, length, get_or};
 ghost use Rattle.rules.specs.Limits.{step_limit};
 ghost use Rattle.rules.specs.Constant.{union_tag};

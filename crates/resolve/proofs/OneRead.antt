@@ -1,5 +1,5 @@
 -- One read of a variable: `resolve` looks the variable up, and reads the field past a reference.
-use Prim.Native.Nat.{ℕ, ◌≤◌, ◌<◌}
+use Prim.Native.Nat.{ℕ}
 use mathlib.Core.Path.{◌≡◌, refl, sym, ap, ◌∙◌}
 use mathlib.Core.Bool.{Bool, true, false}
 use mathlib.Core.List.{List, []}
@@ -20,7 +20,7 @@ use Rattle.lists.specs.Lists.{state_with}
 use Rattle.lists.specs.declared.Lists.{Lists}
 use Rattle.views.specs.Views.{node_of, SeenNode}
 use Rattle.views.specs.declared.NodeView.{NodeView}
-use Rattle.slots.specs.Slots.{maybe, slot_of, IsSlot, SlotRoom, TidyRoom}
+use Rattle.slots.specs.Slots.{maybe, slot_of, IsSlot, TidyRoom}
 use Rattle.slots.specs.declared.MaybeSlot.{MaybeSlot}
 use Rattle.slots.proofs.Tidy.{tidy-there}
 use Rattle.resolve.specs.Resolved.{answer_with, Answers, Follows, base_of, field_past, leaf_slot}

@@ -1,6 +1,6 @@
 -- A claim about levels is a relation R of the walk before and after; `Keeps` lists what has to be shown of it for each primitive of the walk. Then it holds of
 -- every level of an accepted file (Alone.antt). Below it, what the induction over the walk needs of types, paths and slots.
-use mathlib.Core.List.{List, [], ◌∷◌}
+use mathlib.Core.List.{List}
 use mathlib.Core.Option.{Option, none, some}
 use mathlib.Core.Path.{◌≡◌, refl, sym, subst}
 use Prim.Native.Nat.{ℕ, suc, ◌≤◌}
@@ -12,7 +12,7 @@ use Rattle.rules.specs.File.{Tables, FieldTy, Alternative, Ty, FieldPath, Slot, 
 use Rattle.rules.specs.Constant.{Const, constant, lookup, const_node}
 use Rattle.rules.specs.Lookup.{FieldAt, field_from, field_of, slot_at, row_field, row_value, folded_field, folded_slot, hoisted_slot}
 use Rattle.rules.specs.Events.{Code, Narrowing, Event, Walk, bind, constrained, select, report, emit, brings}
-use Rattle.rules.specs.Walk.{narrowing, key}
+use Rattle.rules.specs.Walk.{narrowing}
 use Rattle.rules.proofs.Cases.{by-test, some≢none, some-injective, bind-some}
 use Rattle.rules.proofs.Each.{each_last, each-unmap}
 use Rattle.rules.proofs.Sound.{Fits, Child, SlotOk, BindingOk, Sound}

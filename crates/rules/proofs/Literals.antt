@@ -4,7 +4,6 @@ use mathlib.Core.Bool.{Bool, true, false}
 use mathlib.Core.List.{List, [], ◌∷◌}
 use mathlib.Core.Option.{Option, none, some, get_or}
 use mathlib.Core.Path.{◌≡◌, refl, sym, ap, ◌∙◌, subst}
-use mathlib.Core.Logic.{⊎_elim}
 use Prim.Native.Nat.{ℕ, zero, suc, ◌≤◌, ◌<◌}
 use native.Mathlib.Nat.{zero-add}
 use native.Mathlib.Omega.{arith}
@@ -12,7 +11,7 @@ use lib.Dec.{eqb}
 use lib.ListN.{length, take, get_or-eq_default}
 use Rattle.rules.specs.Base.{Each, done, more, either, first, ◌when_some◌}
 use Rattle.rules.specs.File.{Tables, FieldTy, Alternative, Ty, FieldPattern, Node, FieldPath, Slot, Binding, Hoisted, Constraint, LevelEntry, type_at, predicate_at, node_at, var_name, fact_ty, record_ty, union_ty, record_fields, field_path, then, payload, constant_of, constants, is_constant}
-use Rattle.rules.specs.Constant.{Const, const_bound, bytes_only, field_pattern, alternative_of, only_field, lookup, const_node, const_of, stands_for, encode_record, encode_union, constant_fields, constant_record, constant_node, constant}
+use Rattle.rules.specs.Constant.{Const, const_bound, bytes_only, field_pattern, alternative_of, only_field, lookup, const_node, const_of, stands_for, constant_fields, constant_record, constant_node, constant}
 use Rattle.rules.specs.Lookup.{FieldAt, field_of, slot_at, row_field, row_value, folded_field, folded_slot, hoisted_slot, fetched_register}
 use Rattle.rules.specs.Events.{Code, Narrowing, Event, Lists, Walk, walk_ops, bind, constrained, select, report, emit, unless_records, is_mistyped, brings}
 use Rattle.rules.specs.Resolve.{Answer, Resolver, follow, ◌when_found◌, give, declined, fetched_row, dereference, field_of_row, field_slot, value_slot, selected, select_slot, resolve_node, resolve_below, resolve}
@@ -23,7 +22,7 @@ use Rattle.rules.proofs.Cases.{by-test, by-option, by_order, ways, true≢false,
 use Rattle.rules.proofs.Choices.{by-test₂, by-option₂}
 use Rattle.rules.proofs.Each.{each-imply, each_first}
 use Rattle.rules.proofs.BottomUp.{extends, at_place}
-use Rattle.rules.proofs.Sound.{Child, BindingOk, Sound}
+use Rattle.rules.proofs.Sound.{Child, Sound}
 use Rattle.rules.proofs.Keeps.{narrow, skip, record-children, union-children}
 use Rattle.rules.proofs.Constants.{constant-is}
 use Rattle.rules.proofs.Sentences.{bound-is-read, new-is-bound}

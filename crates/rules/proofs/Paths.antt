@@ -8,7 +8,7 @@ use Rattle.rules.specs.Events.{Narrowing, Event, Lists, Walk, bind, constrained,
 use Rattle.rules.specs.Walk.{narrowing, walk_level}
 use Rattle.rules.proofs.Each.{each_append, each-imply}
 use Rattle.rules.proofs.Sound.{SlotOk, BindingOk, Sound}
-use Rattle.rules.proofs.Keeps.{Short, fits-short, Keeps, narrow, skip}
+use Rattle.rules.proofs.Keeps.{Short, fits-short, Keeps, narrow}
 use Rattle.rules.proofs.Alone.{walk-keeps}
 
 abbrev pub NarrowingShort : Narrowing → Type 0

@@ -13,7 +13,7 @@ use Rattle.rules.specs.Limits.{plan_limit}
 use Rattle.rules.specs.File.{Tables, FieldPath}
 use Rattle.rules.specs.Lookup.{same_steps, same_path}
 use Rattle.rules.specs.Placement.{Part, Guide, Range, RangeEdge, SeekKey, joined, nodes_of, unranged, seek, seek_key}
-use Rattle.rules.specs.Levels.{Level, narrowings}
+use Rattle.rules.specs.Levels.{Level}
 use Rattle.rules.specs.Plan
 use Rattle.rules.specs.Plan.{PlanLevel, plan_level, level_bytes}
 use Rattle.rules.specs.Demand3.{number, Kept, seek_range, seek_edges, WellFormed, AddsUp}

@@ -1,13 +1,13 @@
 -- Request [8]: "For these diagnostic 4 is no longer made." Nothing else ever made it, so no plan of an accepted file has it.
-use mathlib.Core.List.{List, [], ◌∷◌}
+use mathlib.Core.List.{List}
 use mathlib.Core.Option.{none}
-use mathlib.Core.Path.{◌≡◌, refl, subst}
-use Prim.Native.Nat.{ℕ, ◌<◌}
+use mathlib.Core.Path.{◌≡◌, subst}
+use Prim.Native.Nat.{◌<◌}
 use lib.ListN.{length}
 use Rattle.rules.specs.Base.{Each, done, more}
 use Rattle.rules.specs.File.{Tables, LevelEntry}
 use Rattle.rules.specs.Checks.{checks, fault}
-use Rattle.rules.specs.Events.{Code, Diagnostic, Lists, Walk, bind, constrained, select, report, emit, brings}
+use Rattle.rules.specs.Events.{Code, Diagnostic, Lists, bind, constrained, select, report, emit, brings}
 use Rattle.rules.specs.Walk.{walk_level}
 use Rattle.rules.specs.Levels.{starting, level_of, level, levels_from, levels, left_by}
 use Rattle.rules.specs.Plan.{plan_of, plan}

@@ -1,5 +1,5 @@
 -- What the checks 8 to 14 give: numbers in range, children lower and less deep, starting slots that fit.
-use mathlib.Core.Bool.{Bool, true, false}
+use mathlib.Core.Bool.{Bool, true}
 use mathlib.Core.List.{List, [], ◌∷◌}
 use mathlib.Core.Option.{Option, none, some}
 use mathlib.Core.Path.{◌≡◌, refl, sym, ap, ◌∙◌, subst}
@@ -12,7 +12,7 @@ use lib.Seq.{get_or-take}
 use Rattle.rules.specs.Base.{Each, done, more, all, all_from, bottom_up}
 use Rattle.rules.specs.Limits.{depth_limit}
 use Rattle.rules.specs.File.{Tables, Ty, Slot, Binding, FieldPath, type_at, predicate_at, fact_ty, child_types, deepest, depth_of, depths, depth}
-use Rattle.rules.specs.Checks.{Check, check, checks, fault, is_name, is_type, is_predicate, none_or, type_in, predicate_in, slot_in, binding_in, level_in, numbers_in, children_lower, types_distinct, types_shallow, children_once, consts_constant, slot_fits, paths_fit, node_in, hoisted_in, constraint_in, comparison_in}
+use Rattle.rules.specs.Checks.{Check, checks, fault, is_name, is_type, is_predicate, none_or, type_in, predicate_in, slot_in, binding_in, level_in, numbers_in, children_lower, types_distinct, types_shallow, children_once, consts_constant, slot_fits, paths_fit, node_in, hoisted_in, constraint_in, comparison_in}
 use Rattle.rules.proofs.Cases.{true≢false, some≢none, some-injective, by-test, leb-le, ltb-lt, both_left, both_right}
 use Rattle.rules.proofs.Each.{each-passes, each-imply, each_both, each_at}
 use Rattle.rules.proofs.BottomUp.{extends, at_place}

@@ -3,17 +3,15 @@ use mathlib.Core.Bool.{Bool, true, false}
 use mathlib.Core.List.{List, [], ◌∷◌, ◌++◌}
 use mathlib.Core.Option.{Option, none, some}
 use mathlib.Core.Path.{◌≡◌, refl, sym, ap, ◌∙◌, subst}
-use mathlib.Core.Logic.{◌⊎◌, inl, inr, ⊎_elim}
-use Prim.Native.Nat.{ℕ, zero, suc, ◌+◌, ◌-◌, ◌*◌, ◌/◌, ◌%◌, ◌≤◌, ◌<◌}
+use Prim.Native.Nat.{ℕ, zero, suc, ◌+◌, ◌-◌, ◌*◌, ◌/◌, ◌≤◌, ◌<◌}
 use native.Mathlib.Omega.{arith}
-use borrow.Author.Tests.{lt-ltb, le-ltb, le-leb, lt-leb, ltb-true, ltb-false}
+use borrow.Author.Tests.{lt-ltb, le-ltb, le-leb, lt-leb}
 use lib.Dec.{leb, ltb}
 use lib.ListN.{length, take, drop, length-append}
 use Rattle.rules.specs.Base.{Each, done, more, both, ◌when_some◌, all, first, concat_map}
-use Rattle.rules.specs.Utf8.{Octets, ◌to◌, has, Row, row, UTF8-tail, UTF8-1, UTF8-2, UTF8-3, UTF8-4, UTF8-char, begins, after, after_all, whole, UTF8-octets, six_bits, shortest, Scalar, lower, upper, Encodes}
+use Rattle.rules.specs.Utf8.{Octets, ◌to◌, has, Row, UTF8-tail, UTF8-char, begins, after, after_all, whole, UTF8-octets, six_bits, shortest, Scalar, lower, upper, Encodes}
 use Rattle.rules.specs.Read.{Read, got, refused, follow, ◌>>=◌, pure, u8, many, several, well_formed, name}
 use Rattle.rules.proofs.Cases.{by-test, by_order, by_equal, leb-le, ltb-lt, both_left, both_right, true≢false}
-use Rattle.rules.proofs.Each.{each-passes}
 
 -- an octet in a range, below it and above it
 pub has_in : (r : Octets) (b : ℕ) → r.least ≤ b → b ≤ r.most → has r b ≡ true

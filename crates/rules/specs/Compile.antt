@@ -1,5 +1,5 @@
 -- "Refusals, by place": the call. For any file, plan buffer and work area: the number returned and what the two buffers hold afterwards.
-use Rattle.std.specs.Prelude.{true, false, List, ◌++◌, ℕ, ◌+◌, ◌-◌, ◌*◌, min, length, replicate, leb}
+use Rattle.std.specs.Prelude.{true, false, List, ◌++◌, ℕ, ◌-◌, ◌*◌, min, length, replicate, leb}
 use Rattle.std.proofs.Math.Option.{Option, none, some}
 use Rattle.rules.specs.Limits.{file_limit, work_limit, plan_limit}
 use Rattle.rules.specs.File.{Tables}

@@ -1,6 +1,6 @@
 -- Request [4]: "A name's bytes must now be well-formed UTF-8 by RFC 3629". The grammar is its section 4, rule by rule, under the RFC's
 -- own names; the encodings are those of its section 3.
-use Rattle.std.specs.Prelude.{Bool, true, false, List, [], ◌∷◌, ◌++◌, ◌≡◌, ℕ, ◌+◌, ◌/◌, ◌%◌, ◌≤◌, ◌<◌, leb, ltb}
+use Rattle.std.specs.Prelude.{Bool, true, false, List, [], ◌∷◌, ◌++◌, ◌≡◌, ℕ, ◌+◌, ◌/◌, ◌%◌, ◌≤◌, leb, ltb}
 use Rattle.std.proofs.Math.Option.{Option, none, some}
 use Rattle.rules.specs.Base.{Each, both, ◌when_some◌, first, concat_map}
 

@@ -12,12 +12,10 @@ use Rattle.rules.specs.File.{Tables, CompareOp, op_number, node_at, var_name}
 use Rattle.rules.specs.Constant as ConstantRules
 use Rattle.rules.specs.Constant.{bytes_only}
 use Rattle.rules.specs.Placement.{is_var}
-use Rattle.views.specs.declared.Anchor.{Anchor}
 use Rattle.tables.specs.Tables.{found_option}
 use Rattle.tables.specs.declared.Found.{Found}
 use Rattle.tables.specs.declared.Found.TheVariants as Fo
 use Rattle.constant.specs.Sizes.{view_of, const_view}
-use Rattle.constant.specs.declared.Const.{Const}
 use Rattle.constant.specs.declared.Const.TheVariants as Co
 use Rattle.records.specs.Records.{written_at}
 use Rattle.records.specs.declared.Place.{Place}

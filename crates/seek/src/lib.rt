@@ -1,6 +1,7 @@
 // A level by value: what its placements count, set and write. Each placement is a method that takes the level and hands it back; once
 // `over` is set the level stays as it is.
 #![tactic(auto)]
+
 ghost use Rattle.std.specs.Prelude.{◌≡◌, false, List, ℕ};
 ghost use Rattle.rules.specs.Base.{both};
 ghost use Rattle.rules.specs.File.{Tables};

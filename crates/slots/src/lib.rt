@@ -1,5 +1,6 @@
 // A slot by value: its kind, with the path of a Field beside it.
 #![tactic(auto)]
+
 ghost use Rattle.std.specs.Prelude.{◌≡◌};
 ghost use Rattle.slots.specs.Slots.{plain_slot, field_slot, just_slot, no_slot};
 

@@ -4,7 +4,7 @@ use mathlib.Core.List.{List}
 use mathlib.Core.Option.{Option, none, some}
 use mathlib.Core.Path.{◌≡◌, refl, ap}
 use Prim.Native.Nat.{ℕ, ◌<◌}
-use lib.Dec.{leb, ltb, T as Passes, le→leb, lt→ltb}
+use lib.Dec.{ltb, T as Passes, le→leb, lt→ltb}
 use lib.ListN.{length}
 use Rattle.rules.specs.Base.{Each}
 use Rattle.rules.specs.File.{Tables, Slot, Binding}

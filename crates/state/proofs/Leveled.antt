@@ -1,13 +1,13 @@
 -- One level in the memory, walked onto the page and copied from there: it stands in the plan as the written rules have it, or the rules'
 -- plan is really too long.
 use mathlib.Core.Bool.{true, false}
-use mathlib.Core.List.{List, [], ◌∷◌, ◌++◌}
-use mathlib.Core.Path.{◌≡◌, refl, sym, ap, ◌∙◌, subst}
+use mathlib.Core.List.{List, ◌++◌}
+use mathlib.Core.Path.{◌≡◌, refl, sym, ap, ◌∙◌}
 use Prim.Native.Nat.{ℕ, ◌+◌, ◌<◌, min}
 use native.Mathlib.Nat.{zero-add}
 use native.Mathlib.Omega.{arith}
-use borrow.Author.Tests.{leb-false, eqb-true}
-use lib.Dec.{leb, eqb}
+use borrow.Author.Tests.{leb-false}
+use lib.Dec.{leb}
 use lib.ListN.{length, length-append}
 use lib.Seq.{sets, length-sets}
 use Rattle.rules.specs.Base.{Each, all, concat_map}
@@ -15,11 +15,11 @@ use Rattle.rules.specs.Limits.{plan_limit}
 use Rattle.rules.specs.File.{Tables, LevelEntry, predicate_at}
 use Rattle.rules.specs.Events.{Lists, Walk}
 use Rattle.rules.specs.Walk.{fresh_walk, walk_level}
-use Rattle.rules.specs.Placement.{SeekBuilder, new, place_all}
+use Rattle.rules.specs.Placement.{new, place_all}
 use Rattle.rules.specs.Levels as LevelsRules
 use Rattle.rules.specs.Plan as Plan
 use Rattle.rules.specs.Demand3.{Adds, number}
-use Rattle.rules.proofs.Cases.{by-test, true≢false, both_left, both_right}
+use Rattle.rules.proofs.Cases.{by-test, true≢false}
 use Rattle.rules.proofs.Alone.{walk-keeps}
 use Rattle.rules.proofs.Lists.{AddsTo, adds-keeps}
 use Rattle.rules.proofs.Runs.{goes-key}

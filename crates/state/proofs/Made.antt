@@ -4,9 +4,9 @@ use mathlib.Core.List.{List, [], ◌∷◌, ◌++◌, append_assoc}
 use mathlib.Core.Logic.{◌⊎◌, inl, inr, ⊎_elim}
 use mathlib.Core.Option.{Option, none, some}
 use mathlib.Core.Path.{◌≡◌, refl, sym, ap, ◌∙◌}
-use Prim.Native.Nat.{ℕ, zero, suc, ◌+◌, ◌*◌, ◌/◌, ◌%◌, ◌≤◌, ◌<◌}
+use Prim.Native.Nat.{ℕ, suc, ◌+◌, ◌*◌, ◌/◌, ◌%◌, ◌≤◌, ◌<◌}
 use native.Mathlib.Omega.{arith}
-use borrow.Author.Tests.{eqb-false, eq-eqb, ne_eqb, lt-ltb, le-ltb}
+use borrow.Author.Tests.{eq-eqb, ne_eqb, lt-ltb, le-ltb}
 use lib.Dec.{eqb, ltb}
 use lib.ListN.{length, drop, get_or, set, length-append, length-set}
 use lib.Seq.{sets, length-sets, get_or-set_same, get_or-set_other, drop-drop, drop-append_seam}
@@ -19,7 +19,7 @@ use Rattle.rules.specs.Constant.{lookup}
 use Rattle.rules.proofs.Cases.{some≢none, pick, by_order, by_equal}
 use Rattle.rules.proofs.Each.{each_all, each_both}
 use Rattle.rules.proofs.RoundTrip.{BindingNumbers, back-binding}
-use Rattle.state.specs.State.{names_at, places_at, number_at, place_at, word_in, noted, slot_named, made_slot}
+use Rattle.state.specs.State.{names_at, number_at, place_at, word_in, noted, slot_named, made_slot}
 use Rattle.state.specs.Ops.{or_else}
 
 -- a binding's plan form: its name, a kind, and a number at least

@@ -1,20 +1,20 @@
 -- A level from the page: what its walk wrote there, copied to its place in the plan, is what a walk writes at that place.
 use mathlib.Core.Bool.{Bool, true, false}
-use mathlib.Core.List.{List, [], ◌∷◌, ◌++◌, append-nil, append_assoc}
-use mathlib.Core.Path.{◌≡◌, refl, sym, ap, ◌∙◌, subst}
-use Prim.Native.Nat.{ℕ, zero, suc, ◌+◌, ◌-◌, ◌*◌, ◌/◌, ◌%◌, ◌≤◌, ◌<◌}
+use mathlib.Core.List.{List, [], ◌∷◌, ◌++◌, append_assoc}
+use mathlib.Core.Path.{◌≡◌, refl, sym, ap, ◌∙◌}
+use Prim.Native.Nat.{ℕ, ◌+◌, ◌-◌, ◌*◌, ◌/◌, ◌%◌, ◌≤◌, ◌<◌}
 use native.Mathlib.Nat.{zero-add, add-zero}
 use native.Mathlib.Omega.{arith}
 use lib.Dec.{leb}
-use lib.ListN.{length, take, drop, get_or, length-append, take-append-drop}
-use lib.Seq.{sets, slice, slice_empty, length-sets, get_or-append-add, drop-append-add, drop-append_seam, take_at}
-use Rattle.rules.specs.Base.{both, all, concat_map}
-use Rattle.rules.specs.Placement.{SeekKeyPart, Part, Residual, SeekBuilder}
+use lib.ListN.{length, drop, get_or, length-append, take-append-drop}
+use lib.Seq.{sets, slice, slice_empty, length-sets, get_or-append-add}
+use Rattle.rules.specs.Base.{all, concat_map}
+use Rattle.rules.specs.Placement.{SeekKeyPart, Part, SeekBuilder}
 use Rattle.rules.specs.Plan as Plan
 use Rattle.rules.proofs.Cases.{by-test, true≢false, both_left, both_right, leb-le}
 use Rattle.state.specs.State.{Target, Level, word_in}
 use Rattle.state.specs.Ops.{part_text, is_bytes, part_put}
-use Rattle.state.specs.Levels.{joins, joining, parts_at, nodes_at, rest_at, page_rest, page_length, paging, paged, join_parts, parts_from, from_page, writing_at}
+use Rattle.state.specs.Levels.{joining, parts_at, nodes_at, rest_at, page_rest, page_length, paging, paged, join_parts, parts_from, from_page, writing_at}
 use Rattle.state.proofs.Seqs.{slice-sets-past, slice-sets-at, length-snoc, slice-middle}
 use Rattle.state.proofs.Sizes.{text_of, plain_part, summary}
 use Rattle.state.proofs.Rel.{counts_of, parts_put, plan_as}

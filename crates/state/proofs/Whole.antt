@@ -29,8 +29,8 @@ use Rattle.rules.proofs.Alone.{walk-keeps}
 use Rattle.rules.proofs.Lists.{AddsTo, adds-keeps, Onwards}
 use Rattle.rules.proofs.Numbers.{bounded as read-bounded}
 use Rattle.rules.proofs.Sound.{BindingOk, Sound, Passed, passed-all, sound}
-use Rattle.state.specs.State.{State, state, stop, constrained_at, diagnostics_at, backwards}
-use Rattle.state.specs.Levels.{page_length, Written, written_to, level, levels, constrained_count, diagnostic_count, lists, finished, started, unpaged, compiled, written_outcome}
+use Rattle.state.specs.State.{State, stop, constrained_at, diagnostics_at, backwards}
+use Rattle.state.specs.Levels.{page_length, Written, level, levels, constrained_count, diagnostic_count, lists, finished, started, unpaged, compiled, written_outcome}
 use Rattle.state.proofs.Seqs.{sets-append, slice-sets-at, concat_map-append, length-drop-append}
 use Rattle.state.proofs.Mem.{Mem, mem-none, down-low, u16-length, diagnostic-length, new_is}
 use Rattle.state.proofs.Growth.{list_size}

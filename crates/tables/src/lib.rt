@@ -1,5 +1,6 @@
 // What stands in the tables under a number or a name.
 #![tactic(auto)]
+
 ghost use Rattle.std.specs.Prelude.{◌≡◌, ◌+◌, ◌*◌, ◌≤◌, ◌<◌, length, get_or};
 ghost use Rattle.rules.specs.Limits.{node_limit, type_limit};
 ghost use Rattle.rules.specs.File.{type_at, node_at, var_name, record_ty, union_ty, is_constant};

@@ -1,15 +1,12 @@
 -- Where a byte stands, one place after another.
-use mathlib.Core.Bool.{true, false}
-use mathlib.Core.List.{List, [], ◌∷◌}
-use mathlib.Core.Path.{◌≡◌, refl, sym, ap, ◌∙◌}
+use mathlib.Core.List.{List, ◌∷◌}
+use mathlib.Core.Path.{◌≡◌, refl, ap, ◌∙◌}
 use Prim.Native.Nat.{ℕ, suc, ◌+◌, ◌≤◌, ◌<◌}
 use native.Mathlib.Omega.{arith}
 use native.Mathlib.Numerals.{add-one}
 use borrow.Author.Tests.{eq-eqb, ne_eqb}
-use lib.Dec.{eqb}
-use lib.ListN.{length, get_or, take, drop, drop_of_length-le}
+use lib.ListN.{length, get_or, take, drop_of_length-le}
 use lib.Seq.{drop-cons, length-take-le, get_or-take}
-use Rattle.rules.proofs.Cases.{pick}
 use Rattle.tally.specs.Bytes.{index_of, index_after, slice}
 
 module _ (t : List ℕ) (i to : ℕ) (h : i < to) (g : to ≤ length t) where

@@ -1,5 +1,6 @@
 // A stored list of answers: which of its lines are compared, and how many differ.
 #![tactic(auto)]
+
 ghost use Rattle.std.specs.Prelude.{◌≡◌, ◌+◌, ◌≤◌, ◌<◌, true, length};
 ghost use Rattle.tally.specs.Bytes.{index_of, slice};
 ghost use Rattle.tally.specs.Tallies as Tallies;

@@ -1,6 +1,7 @@
 // The texts of a level's range and edges: constants that stayed positions until now. Any position has a text, as the written rules have
 // it, so that nothing is asked of a level here.
 #![tactic(auto)]
+
 ghost use Rattle.std.specs.Prelude.{◌≡◌, ◌≤◌, ◌<◌, min, length};
 ghost use Rattle.rules.specs.File.{name_at};
 ghost use Rattle.rules.specs.Constant.{encode_prefix};

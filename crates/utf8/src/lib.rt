@@ -1,5 +1,6 @@
 // Well-formed UTF-8 by RFC 3629: ASCII is looked at first, anything else by the block.
 #![tactic(auto)]
+
 ghost use Rattle.std.specs.Prelude.{◌≡◌, [], ◌+◌, ◌≤◌, ◌<◌, min, max, length};
 ghost use Rattle.std.proofs.Math.Option.{some};
 ghost use Rattle.rules.specs.Utf8.{begins, after, after_all, UTF8-octets};

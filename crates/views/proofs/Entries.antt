@@ -1,8 +1,8 @@
 -- The records of an accepted file: what stands at each one's start, and the view that it gives.
-use Prim.Native.Nat.{ℕ, zero, suc, ◌+◌, ◌*◌, ◌-◌, ◌≤◌, ◌<◌}
+use Prim.Native.Nat.{ℕ, zero, suc, ◌+◌, ◌*◌, ◌≤◌, ◌<◌}
 use mathlib.Core.Path.{◌≡◌, refl, sym, ap, ◌∙◌, subst}
 use mathlib.Core.Bool.{Bool, true, false}
-use mathlib.Core.List.{List, [], ◌∷◌}
+use mathlib.Core.List.{List, []}
 use mathlib.Core.Option.{Option, none, some}
 use mathlib.Core.Logic.{⊎_elim}
 use native.Mathlib.Omega.{arith}
@@ -12,7 +12,7 @@ use borrow.Author.Tests.{eq-eqb, ne_eqb}
 use Rattle.rules.specs.File as File
 use Rattle.rules.specs.File.{Ty, op_of_number, name_at, type_at, predicate_at}
 use Rattle.rules.specs.Utf8.{UTF8-octets}
-use Rattle.rules.specs.Read.{Read, Reader, ◌>>=◌, pure, refuse, u8, optional, many, several, kind, well_formed, name, type, fact_ty, record_ty, union_ty, predicate, node, one, two, hoisted, fetched, constraint, op, comparison, level}
+use Rattle.rules.specs.Read.{Reader, ◌>>=◌, pure, refuse, u8, optional, several, kind, well_formed, name, type, fact_ty, record_ty, union_ty, predicate, hoisted, constraint, op, comparison, level}
 use Rattle.rules.specs.Read.Read.{got}
 use Rattle.file.specs.Steps.{word, read_at, base_of}
 use Rattle.file.specs.Tables.{Stands, Section, Indexed, tables_of}
@@ -25,7 +25,7 @@ use Rattle.views.specs.declared.TypeView.{TypeView}
 use Rattle.views.specs.declared.TypeView.TheVariants as Tv
 use Rattle.views.specs.declared.MaybePredicate.{MaybePredicate}
 use Rattle.views.specs.declared.MaybePredicate.TheVariants as Mp
-use Rattle.views.proofs.Runs.{value_of, needs-room, First, first_byte, one_in, two_in, three-in, optional-in, finds-byte, finds-field, finds-alternative, Counts, counts, Made, several-made}
+use Rattle.views.proofs.Runs.{value_of, needs-room, first_byte, one_in, two_in, three-in, optional-in, finds-byte, finds-field, finds-alternative, Counts, counts, Made, several-made}
 
 -- a kind at p that was read: its byte, and what its reader found
 pub record Kinded {A : Type 0} (f : List ℕ) (rs : List (Reader A)) (p : ℕ) (a : A) (rest : List ℕ) : Type 0 where

@@ -1,12 +1,12 @@
 -- The nodes, bindings and fetched entries of an accepted file, and the views that they give.
-use Prim.Native.Nat.{ℕ, zero, suc, ◌+◌, ◌*◌, ◌-◌, ◌≤◌, ◌<◌}
+use Prim.Native.Nat.{ℕ, zero, suc, ◌+◌, ◌*◌, ◌≤◌, ◌<◌}
 use mathlib.Core.Path.{◌≡◌, refl, sym, ap, ◌∙◌}
 use mathlib.Core.List.{List, [], ◌∷◌}
 use native.Mathlib.Omega.{arith}
 use lib.ListN.{length, get_or, drop}
 use Rattle.rules.specs.File as File
 use Rattle.rules.specs.File.{Node, node_at}
-use Rattle.rules.specs.Read.{Reader, ◌>>=◌, pure, refuse, u8, many, anchor, node, one, two, int_node, bytes_node, fuzzy_node, record_node, fetched}
+use Rattle.rules.specs.Read.{Reader, ◌>>=◌, pure, refuse, u8, many, anchor, node, one, two, int_node, bytes_node, fuzzy_node, record_node}
 use Rattle.rules.specs.Read.Read.{got}
 use Rattle.file.specs.Steps.{word, read_at, base_of}
 use Rattle.file.specs.Tables.{Stands, Indexed, tables_of}

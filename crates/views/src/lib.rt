@@ -1,6 +1,7 @@
 // Views of the records of a file that was read. A view carries numbers and positions; what they stand for is the written rules' entry.
 // Types, nodes and predicates come by any number too: past a section's count they are what the written rules give there.
 #![tactic(auto)]
+
 ghost use Rattle.std.specs.Prelude.{◌≡◌, ◌+◌, ◌*◌, ◌≤◌, ◌<◌, length, get_or};
 ghost use Rattle.rules.specs.Limits.{step_limit};
 ghost use Rattle.rules.specs.File.{op_of_number, op_number, name_at, type_at, predicate_at, node_at};

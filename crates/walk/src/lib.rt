@@ -1,6 +1,7 @@
 // A level's walk by value: the lists' ends and the level, with the operations of the written walk. `node` is the node that made a
 // narrowing or a closer.
 #![tactic(auto)]
+
 ghost use Rattle.std.specs.Prelude.{◌≡◌, List, ℕ};
 ghost use Rattle.rules.specs.File.{Tables};
 ghost use Rattle.rules.specs.Events.{Narrowing};

@@ -1,5 +1,6 @@
 // Memory that is lent again and again, left all zero.
 #![tactic(auto)]
+
 ghost use Rattle.std.specs.Prelude.{◌≡◌, ◌+◌, ◌<◌, min};
 ghost use Rattle.zeroes.specs.Zeroed.{block_size, zeroed, bits_of};
 

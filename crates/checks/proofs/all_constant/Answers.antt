@@ -1,16 +1,6 @@
-use mathlib.Core.Path.{◌≡◌, refl, sym, ◌∙◌}
-use mathlib.Core.Bool.{true, false}
+use mathlib.Core.Path.{refl, sym, ◌∙◌}
 use native.Mathlib.Omega.{arith}
-use Prim.Native.Nat.{◌-◌}
-use lib.ListN.{get_or}
-use lib.Dec.{ltb}
-use borrow.Author.Rules.{rules}
-use Rattle.rules.specs.Base.{all}
-use Rattle.file.specs.Steps.{word}
-use Rattle.views.specs.Views.{run}
-use Rattle.record_checks.specs.RecordChecks.{Words}
 use Rattle.record_checks.proofs.Every.{words-first, words-next, run-done, run-yes, run-no}
-use Rattle.checks.specs.Checked.{flags_at}
 use Rattle.checks.proofs.Fill.{run-low, flag-yes, flag-no}
 use Rattle.checks.proofs.all_constant.Goals as goal
 

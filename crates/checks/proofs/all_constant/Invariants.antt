@@ -1,17 +1,12 @@
-use mathlib.Core.Path.{◌≡◌, refl, sym, ◌∙◌}
+use mathlib.Core.Path.{◌≡◌}
 use mathlib.Core.Bool.{true, false}
-use native.Mathlib.Omega.{arith}
-use Prim.Native.Nat.{◌-◌}
 use lib.ListN.{get_or}
 use lib.Dec.{ltb}
-use borrow.Author.Rules.{rules}
 use Rattle.rules.specs.Base.{all}
 use Rattle.file.specs.Steps.{word}
 use Rattle.views.specs.Views.{run}
 use Rattle.record_checks.specs.RecordChecks.{Words}
-use Rattle.record_checks.proofs.Every.{words-first, words-next, run-done, run-yes, run-no}
 use Rattle.checks.specs.Checked.{flags_at}
-use Rattle.checks.proofs.Fill.{run-low, flag-yes, flag-no}
 use Rattle.checks.proofs.all_constant.Given as goal
 
 abbrev pub invariant-loop-left : goal.invariant-loop-left

@@ -1,9 +1,7 @@
 use mathlib.Core.Path.{◌∙◌}
-use Prim.Native.Nat.{◌-◌}
 use Rattle.rules.specs.Checks.{slot_constant}
 use Rattle.record_checks.proofs.Seen.{by-slot}
 use Rattle.checks.proofs.Fill.{slot-in, const-node}
-use borrow.Author.Rules.{rules}
 use Rattle.checks.proofs.binding_constant.Goals as goal
 
 pub binding_at-v-requires : goal.binding_at-v-requires

@@ -1,11 +1,9 @@
 use native.Mathlib.Omega.{arith}
-use Prim.Native.Nat.{◌-◌}
 use Rattle.file.specs.Tables.{tables_of}
 use Rattle.rules.specs.Checks.{slot_fits}
 use Rattle.views.specs.Views.{PathInside}
 use Rattle.record_checks.proofs.Seen.{by-slot}
 use Rattle.checks.proofs.Fill.{slot-in, slot-inside, field-type, fits-field, depth-few}
-use borrow.Author.Rules.{rules}
 use Rattle.checks.proofs.binding_fits.Goals as goal
 
 pub binding_at-v-requires : goal.binding_at-v-requires

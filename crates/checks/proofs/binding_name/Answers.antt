@@ -5,7 +5,6 @@ use lib.ListN.{get_or}
 use Rattle.rules.specs.File.{Binding}
 use Rattle.file.proofs.Sections.{roomy}
 use Rattle.views.proofs.Slots.{binding-here}
-use borrow.Author.Rules.{rules}
 use Rattle.checks.proofs.binding_name.Goals as goal
 
 pub overflow_add-base : goal.overflow_add-base

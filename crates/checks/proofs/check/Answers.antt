@@ -1,14 +1,11 @@
 use mathlib.Core.Path.{sym, ◌∙◌}
 use native.Mathlib.Omega.{arith}
-use Prim.Native.Nat.{◌-◌}
-use borrow.Author.Tests.{not-true, not-false}
 use Rattle.file.specs.Steps.{depths_base, constants_base}
 use Rattle.file.specs.Tables.{tables_of}
 use Rattle.checks.proofs.Fill.{indexed-so}
 use Rattle.rules.specs.File.{depths}
 use Rattle.checks.proofs.Verdicts.{all-8, all-9, all-later, index-8, index-9, index-filled, areas, checked, numbered, refused-accepted}
 use Rattle.checks.specs.Checked.{flags_of}
-use borrow.Author.Rules.{rules}
 use Rattle.checks.proofs.check.Goals as goal
 
 pub numbers_in-requires : goal.numbers_in-requires

@@ -1,8 +1,6 @@
 use mathlib.Core.Path.{◌∙◌}
-use Prim.Native.Nat.{◌-◌}
 use Rattle.checks.proofs.Fill.{nodes-few}
 use Rattle.checks.proofs.Marks.{marks-tell}
-use borrow.Author.Rules.{rules}
 use Rattle.checks.proofs.children_once.Goals as goal
 
 pub returns : goal.returns

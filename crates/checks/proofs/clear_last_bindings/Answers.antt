@@ -1,10 +1,6 @@
 use native.Mathlib.Omega.{arith}
-use mathlib.Core.Path.{◌≡◌, refl}
-use Prim.Native.Nat.{◌-◌}
-use lib.ListN.{length, take, replicate, length-set}
-use lib.Seq.{sets}
-use borrow.Author.Rules.{rules}
-use Rattle.file.specs.Steps.{last_bindings_base}
+use mathlib.Core.Path.{refl}
+use lib.ListN.{length-set}
 use Rattle.checks.proofs.Last.{clear-more, clear-end}
 use Rattle.checks.proofs.clear_last_bindings.Goals as goal
 

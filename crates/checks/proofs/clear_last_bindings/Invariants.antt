@@ -1,11 +1,8 @@
-use native.Mathlib.Omega.{arith}
-use mathlib.Core.Path.{◌≡◌, refl}
+use mathlib.Core.Path.{◌≡◌}
 use Prim.Native.Nat.{◌-◌}
-use lib.ListN.{length, take, replicate, length-set}
+use lib.ListN.{length, take, replicate}
 use lib.Seq.{sets}
-use borrow.Author.Rules.{rules}
 use Rattle.file.specs.Steps.{last_bindings_base}
-use Rattle.checks.proofs.Last.{clear-more, clear-end}
 use Rattle.checks.proofs.clear_last_bindings.Given as goal
 
 abbrev pub invariant-loop-x : goal.invariant-loop-x

@@ -1,15 +1,10 @@
-use mathlib.Core.Path.{◌≡◌, sym, ◌∙◌}
-use native.Mathlib.Omega.{arith}
+use mathlib.Core.Path.{◌≡◌}
 use Prim.Native.Nat.{◌-◌, ◌≤◌}
 use lib.ListN.{length}
-use borrow.Author.Rules.{rules}
-use borrow.Author.Tests.{not-true, not-false}
 use Rattle.file.specs.Tables.{tables_of}
 use Rattle.rules.specs.Checks.{slot_constant, consts_constant}
 use Rattle.views.specs.Views.{binding_at}
-use Rattle.record_checks.proofs.Every.{every, every-none, every-yes, every-no}
-use Rattle.record_checks.proofs.Seen.{every-start}
-use Rattle.checks.proofs.Fill.{consts-every}
+use Rattle.record_checks.proofs.Every.{every}
 use Rattle.checks.proofs.consts_constant.Given as goal
 
 abbrev pub invariant-loop-b : goal.invariant-loop-b

@@ -1,15 +1,6 @@
-use mathlib.Core.Path.{◌≡◌, sym, ◌∙◌}
-use mathlib.Core.Bool.{true}
+use mathlib.Core.Path.{sym, ◌∙◌}
 use native.Mathlib.Omega.{arith}
-use Prim.Native.Nat.{◌+◌, ◌-◌, ◌<◌, max}
-use lib.ListN.{drop}
-use lib.Dec.{ltb}
-use borrow.Author.Rules.{rules}
-use Rattle.rules.specs.Base.{all}
-use Rattle.file.specs.Steps.{word, depths_base}
-use Rattle.views.specs.Views.{run}
-use Rattle.rules.specs.File.{deepest}
-use Rattle.record_checks.specs.RecordChecks.{Words}
+use Prim.Native.Nat.{◌+◌}
 use Rattle.record_checks.proofs.Every.{words-first, words-next}
 use Rattle.checks.proofs.Fill.{run-low, deepest-turn, deepest-end}
 use Rattle.checks.proofs.deepest_of.Goals as goal

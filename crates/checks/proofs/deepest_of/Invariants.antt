@@ -1,17 +1,13 @@
-use mathlib.Core.Path.{◌≡◌, sym, ◌∙◌}
+use mathlib.Core.Path.{◌≡◌}
 use mathlib.Core.Bool.{true}
-use native.Mathlib.Omega.{arith}
-use Prim.Native.Nat.{◌+◌, ◌-◌, ◌<◌, max}
+use Prim.Native.Nat.{◌<◌, max}
 use lib.ListN.{drop}
 use lib.Dec.{ltb}
-use borrow.Author.Rules.{rules}
 use Rattle.rules.specs.Base.{all}
 use Rattle.file.specs.Steps.{word, depths_base}
 use Rattle.views.specs.Views.{run}
 use Rattle.rules.specs.File.{deepest}
 use Rattle.record_checks.specs.RecordChecks.{Words}
-use Rattle.record_checks.proofs.Every.{words-first, words-next}
-use Rattle.checks.proofs.Fill.{run-low, deepest-turn, deepest-end}
 use Rattle.checks.proofs.deepest_of.Given as goal
 
 abbrev pub invariant-loop-left : goal.invariant-loop-left

@@ -1,8 +1,6 @@
 use mathlib.Core.Path.{◌∙◌}
 use native.Mathlib.Omega.{arith}
-use Prim.Native.Nat.{◌-◌}
 use Rattle.checks.proofs.Fill.{types-few}
-use borrow.Author.Rules.{rules}
 use Rattle.checks.proofs.depth_of.Goals as goal
 
 pub overflow_add-t : goal.overflow_add-t

@@ -1,14 +1,7 @@
-use mathlib.Core.Path.{◌≡◌, sym, ◌∙◌}
+use mathlib.Core.Path.{sym, ◌∙◌}
 use native.Mathlib.Omega.{arith}
-use Prim.Native.Nat.{◌-◌, ◌≤◌}
-use lib.ListN.{length}
-use lib.Dec.{leb}
-use borrow.Author.Rules.{rules}
-use Rattle.file.specs.Tables.{tables_of}
-use Rattle.rules.specs.Limits.{step_limit}
-use Rattle.checks.specs.Checked.{fetched_fit}
-use Rattle.views.specs.Views.{fetched_at, PathInside}
-use Rattle.record_checks.proofs.Every.{every, every-none, every-yes, every-no}
+use Rattle.views.specs.Views.{PathInside}
+use Rattle.record_checks.proofs.Every.{every-none, every-yes, every-no}
 use Rattle.record_checks.proofs.Seen.{every-start}
 use Rattle.checks.proofs.Fill.{fetched-every, fetched-steps, steps_low, steps_high}
 use Rattle.checks.proofs.fetched_fit.Goals as goal

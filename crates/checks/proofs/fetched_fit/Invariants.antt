@@ -1,16 +1,12 @@
-use mathlib.Core.Path.{◌≡◌, sym, ◌∙◌}
-use native.Mathlib.Omega.{arith}
+use mathlib.Core.Path.{◌≡◌}
 use Prim.Native.Nat.{◌-◌, ◌≤◌}
 use lib.ListN.{length}
 use lib.Dec.{leb}
-use borrow.Author.Rules.{rules}
 use Rattle.file.specs.Tables.{tables_of}
 use Rattle.rules.specs.Limits.{step_limit}
 use Rattle.checks.specs.Checked.{fetched_fit}
-use Rattle.views.specs.Views.{fetched_at, PathInside}
-use Rattle.record_checks.proofs.Every.{every, every-none, every-yes, every-no}
-use Rattle.record_checks.proofs.Seen.{every-start}
-use Rattle.checks.proofs.Fill.{fetched-every, fetched-steps, steps_low, steps_high}
+use Rattle.views.specs.Views.{fetched_at}
+use Rattle.record_checks.proofs.Every.{every}
 use Rattle.checks.proofs.fetched_fit.Given as goal
 
 abbrev pub invariant-loop-k : goal.invariant-loop-k

@@ -1,13 +1,10 @@
-use mathlib.Core.Path.{◌≡◌, refl, ◌∙◌}
-use native.Mathlib.Omega.{arith}
+use mathlib.Core.Path.{◌≡◌}
 use Prim.Native.Nat.{◌-◌, ◌≤◌}
-use lib.ListN.{length, take, length-set}
+use lib.ListN.{length, take}
 use lib.Seq.{sets}
-use borrow.Author.Rules.{rules}
 use Rattle.file.specs.Steps.{constants_base}
 use Rattle.file.specs.Tables.{tables_of}
 use Rattle.checks.specs.Checked.{flags_of}
-use Rattle.checks.proofs.Fill.{nodes-few, indexed-so, flag-stored, flags-done}
 use Rattle.checks.proofs.fill_constants.Given as goal
 
 abbrev pub invariant-loop-n : goal.invariant-loop-n

@@ -1,13 +1,10 @@
-use mathlib.Core.Path.{◌≡◌, refl, ◌∙◌}
-use native.Mathlib.Omega.{arith}
+use mathlib.Core.Path.{◌≡◌}
 use Prim.Native.Nat.{◌-◌, ◌≤◌}
-use lib.ListN.{length, take, length-set}
+use lib.ListN.{length, take}
 use lib.Seq.{sets}
-use borrow.Author.Rules.{rules}
 use Rattle.file.specs.Steps.{depths_base}
 use Rattle.file.specs.Tables.{tables_of}
 use Rattle.rules.specs.File.{depths}
-use Rattle.checks.proofs.Fill.{types-few, depths-done, indexed-so, depth-stored}
 use Rattle.checks.proofs.fill_depths.Given as goal
 
 abbrev pub invariant-loop-t : goal.invariant-loop-t

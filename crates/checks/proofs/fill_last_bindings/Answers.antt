@@ -1,9 +1,6 @@
 use native.Mathlib.Omega.{arith}
-use mathlib.Core.Path.{◌∙◌}
-use Prim.Native.Nat.{◌-◌}
-use borrow.Author.Rules.{rules}
 use Rattle.checks.proofs.Fill.{names-few, bindings-few, name-few}
-use Rattle.checks.proofs.Last.{Written, cleared-length, written_none, written-more, written_all}
+use Rattle.checks.proofs.Last.{written_none, written-more, written_all}
 use Rattle.checks.proofs.fill_last_bindings.Goals as goal
 
 pub clear_last_bindings-requires : goal.clear_last_bindings-requires

@@ -1,6 +1,4 @@
 use mathlib.Core.Path.{sym, ◌∙◌}
-use Prim.Native.Nat.{◌-◌}
-use borrow.Author.Tests.{not-true, not-false}
 use Rattle.checks.proofs.Verdicts.{later-10, later-11, later-12, later-13, later-14, later-none}
 use Rattle.checks.proofs.later_checks.Goals as goal
 

@@ -1,7 +1,5 @@
 use mathlib.Core.Path.{sym, ◌∙◌}
-use Prim.Native.Nat.{◌-◌}
 use Rattle.checks.proofs.Marks.{first-met, met-again, once-none, marked-none}
-use borrow.Author.Rules.{rules}
 use Rattle.checks.proofs.mark.Goals as goal
 
 pub returns-then-marks-c-ne0 : goal.returns-then-marks-c-ne0

@@ -1,10 +1,8 @@
 use native.Mathlib.Omega.{arith}
-use Prim.Native.Nat.{◌-◌}
 use Rattle.rules.specs.File.{child_nodes}
 use Rattle.record_checks.proofs.Seen.{by-node, node-as, words-4}
 use Rattle.checks.proofs.Views.{patterns-are, lower-run, single-low}
 use Rattle.checks.proofs.Verdicts.{none-marked, marked-as}
-use borrow.Author.Rules.{rules}
 use Rattle.checks.proofs.mark_children.Goals as goal
 
 named : {A B : Type 0} → A × B → record { gives : A; leaves : B }

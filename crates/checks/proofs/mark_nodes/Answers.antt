@@ -1,13 +1,8 @@
-use mathlib.Core.Path.{◌≡◌, refl, sym, ◌∙◌}
+use mathlib.Core.Path.{refl, sym, ◌∙◌}
 use native.Mathlib.Omega.{arith}
-use Prim.Native.Nat.{◌-◌, ◌≤◌, ◌<◌}
-use lib.ListN.{length, drop}
-use borrow.Author.Rules.{rules}
-use borrow.Author.Tests.{not-true, not-false}
-use Rattle.rules.specs.Base.{concat_map}
+use Prim.Native.Nat.{◌<◌}
+use lib.ListN.{length}
 use Rattle.file.specs.Tables.{tables_of}
-use Rattle.rules.specs.File.{child_nodes}
-use Rattle.checks.specs.Checked.{once, marked}
 use Rattle.checks.proofs.Fill.{nodes-few}
 use Rattle.checks.proofs.Marks.{nodes-end, nodes-on, nodes-stop, child-marks}
 use Rattle.checks.proofs.mark_nodes.Goals as goal

@@ -1,19 +1,12 @@
-use mathlib.Core.Path.{◌≡◌, refl, sym, ◌∙◌}
+use mathlib.Core.Path.{◌≡◌}
 use mathlib.Core.Bool.{true}
-use native.Mathlib.Omega.{arith}
-use Prim.Native.Nat.{◌-◌}
 use lib.ListN.{length}
 use lib.Dec.{ltb}
-use borrow.Author.Rules.{rules}
-use borrow.Author.Tests.{not-true, not-false}
 use Rattle.rules.specs.Base.{all}
 use Rattle.file.specs.Steps.{word}
 use Rattle.views.specs.Views.{run}
 use Rattle.checks.specs.Checked.{once, marked}
 use Rattle.record_checks.specs.RecordChecks.{Words}
-use Rattle.record_checks.proofs.Every.{words-first, words-next}
-use Rattle.checks.proofs.Fill.{run-low}
-use Rattle.checks.proofs.Marks.{run_end, run_on, run-stop}
 use Rattle.checks.proofs.mark_run.Given as goal
 
 abbrev pub invariant-loop-left : goal.invariant-loop-left

@@ -1,12 +1,10 @@
 use mathlib.Core.Path.{◌∙◌}
 use native.Mathlib.Omega.{arith}
-use Prim.Native.Nat.{◌-◌}
 use Rattle.rules.specs.File.{constant_of}
 use Rattle.record_checks.proofs.Seen.{by-node, node-as, words-4}
 use Rattle.checks.proofs.Bottom.{node-lower}
 use Rattle.checks.proofs.Fill.{nodes-few}
 use Rattle.checks.proofs.Views.{patterns-are, lower-run, constant-record}
-use borrow.Author.Rules.{rules}
 use Rattle.checks.proofs.node_constant.Goals as goal
 
 pub overflow_add-at : goal.overflow_add-at

@@ -1,10 +1,7 @@
 use mathlib.Core.Path.{sym, ◌∙◌}
-use Prim.Native.Nat.{◌-◌}
-use borrow.Author.Tests.{not-true, not-false}
 use Rattle.rules.specs.Checks.{paths_fit}
 use Rattle.checks.specs.Checked.{slots_fit, fetched_fit}
 use Rattle.record_checks.proofs.Every.{both_false, both-then}
-use borrow.Author.Rules.{rules}
 use Rattle.checks.proofs.paths_fit.Goals as goal
 
 pub returns-then-not-slots_fit : goal.returns-then-not-slots_fit

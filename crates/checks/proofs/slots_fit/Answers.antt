@@ -1,14 +1,6 @@
-use mathlib.Core.Path.{◌≡◌, sym, ◌∙◌}
+use mathlib.Core.Path.{sym, ◌∙◌}
 use native.Mathlib.Omega.{arith}
-use Prim.Native.Nat.{◌-◌, ◌≤◌}
-use lib.ListN.{length}
-use borrow.Author.Rules.{rules}
-use borrow.Author.Tests.{not-true, not-false}
-use Rattle.file.specs.Tables.{tables_of}
-use Rattle.rules.specs.Checks.{slot_fits}
-use Rattle.checks.specs.Checked.{slots_fit}
-use Rattle.views.specs.Views.{binding_at}
-use Rattle.record_checks.proofs.Every.{every, every-none, every-yes, every-no}
+use Rattle.record_checks.proofs.Every.{every-none, every-yes, every-no}
 use Rattle.record_checks.proofs.Seen.{every-start}
 use Rattle.checks.proofs.Fill.{slots-every}
 use Rattle.checks.proofs.slots_fit.Goals as goal

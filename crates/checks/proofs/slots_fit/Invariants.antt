@@ -1,16 +1,11 @@
-use mathlib.Core.Path.{◌≡◌, sym, ◌∙◌}
-use native.Mathlib.Omega.{arith}
+use mathlib.Core.Path.{◌≡◌}
 use Prim.Native.Nat.{◌-◌, ◌≤◌}
 use lib.ListN.{length}
-use borrow.Author.Rules.{rules}
-use borrow.Author.Tests.{not-true, not-false}
 use Rattle.file.specs.Tables.{tables_of}
 use Rattle.rules.specs.Checks.{slot_fits}
 use Rattle.checks.specs.Checked.{slots_fit}
 use Rattle.views.specs.Views.{binding_at}
-use Rattle.record_checks.proofs.Every.{every, every-none, every-yes, every-no}
-use Rattle.record_checks.proofs.Seen.{every-start}
-use Rattle.checks.proofs.Fill.{slots-every}
+use Rattle.record_checks.proofs.Every.{every}
 use Rattle.checks.proofs.slots_fit.Given as goal
 
 abbrev pub invariant-loop-b : goal.invariant-loop-b

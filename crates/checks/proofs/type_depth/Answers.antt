@@ -1,11 +1,9 @@
 use native.Mathlib.Omega.{arith}
-use Prim.Native.Nat.{◌-◌}
 use Rattle.rules.specs.File.{depth_of, child_types, deepest}
 use Rattle.record_checks.proofs.Seen.{by-type, type-as, words-4, words-8}
 use Rattle.checks.proofs.Bottom.{type-lower}
 use Rattle.checks.proofs.Fill.{types-few}
 use Rattle.checks.proofs.Views.{fields-are, alternatives-are, lower-run, depth_is}
-use borrow.Author.Rules.{rules}
 use Rattle.checks.proofs.type_depth.Goals as goal
 
 pub overflow_add-at : goal.overflow_add-at

@@ -1,14 +1,6 @@
-use mathlib.Core.Path.{◌≡◌, sym, ◌∙◌}
+use mathlib.Core.Path.{sym, ◌∙◌}
 use native.Mathlib.Omega.{arith}
-use Prim.Native.Nat.{◌-◌, ◌≤◌}
-use lib.ListN.{length}
-use lib.Dec.{leb}
-use borrow.Author.Rules.{rules}
-use Rattle.file.specs.Tables.{tables_of}
-use Rattle.rules.specs.Limits.{depth_limit}
-use Rattle.rules.specs.File.{depth}
-use Rattle.rules.specs.Checks.{types_shallow}
-use Rattle.record_checks.proofs.Every.{every, every-none, every-yes, every-no}
+use Rattle.record_checks.proofs.Every.{every-none, every-yes, every-no}
 use Rattle.record_checks.proofs.Seen.{every-start}
 use Rattle.checks.proofs.Fill.{shallow-every, steps_low, steps_high}
 use Rattle.checks.proofs.types_shallow.Goals as goal

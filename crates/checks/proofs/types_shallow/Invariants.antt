@@ -1,16 +1,12 @@
-use mathlib.Core.Path.{◌≡◌, sym, ◌∙◌}
-use native.Mathlib.Omega.{arith}
+use mathlib.Core.Path.{◌≡◌}
 use Prim.Native.Nat.{◌-◌, ◌≤◌}
 use lib.ListN.{length}
 use lib.Dec.{leb}
-use borrow.Author.Rules.{rules}
 use Rattle.file.specs.Tables.{tables_of}
 use Rattle.rules.specs.Limits.{depth_limit}
 use Rattle.rules.specs.File.{depth}
 use Rattle.rules.specs.Checks.{types_shallow}
-use Rattle.record_checks.proofs.Every.{every, every-none, every-yes, every-no}
-use Rattle.record_checks.proofs.Seen.{every-start}
-use Rattle.checks.proofs.Fill.{shallow-every, steps_low, steps_high}
+use Rattle.record_checks.proofs.Every.{every}
 use Rattle.checks.proofs.types_shallow.Given as goal
 
 abbrev pub invariant-loop-t : goal.invariant-loop-t

@@ -1,7 +1,5 @@
 use mathlib.Core.Path.{sym, ◌∙◌}
-use Prim.Native.Nat.{◌-◌}
 use Rattle.checks.proofs.Verdicts.{file-read, file-refused, refused-accepted}
-use borrow.Author.Rules.{rules}
 use Rattle.checks.proofs.verify.Goals as goal
 
 pub check-requires : goal.check-requires

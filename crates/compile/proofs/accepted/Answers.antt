@@ -1,6 +1,5 @@
 use mathlib.Core.Path.{sym, ◌∙◌}
 use Rattle.compile.proofs.Verdicts.{met-outcome, met-memory, too_long, short-enough, kept_memory}
-use borrow.Author.Rules.{rules}
 use Rattle.compile.proofs.accepted.Goals as goal
 
 pub returns-then-levels_meet : goal.returns-then-levels_meet

@@ -1,7 +1,6 @@
 use mathlib.Core.Path.{refl, sym, ◌∙◌}
 use Rattle.endings.proofs.Ends.{bytes}
 use Rattle.compile.proofs.Verdicts.{own-length, ready, accepted-outcome, refused-outcome, file-decides, refused-memory, left_by_lem}
-use borrow.Author.Rules.{rules}
 use Rattle.compile.proofs.checked.Goals as goal
 
 pub walked-requires : goal.walked-requires

@@ -1,6 +1,5 @@
 use mathlib.Core.Path.{sym}
 use Rattle.compile.proofs.Verdicts.{long-file, small-area, file-decides, refused-outcome, refused-memory, left_by_lem}
-use borrow.Author.Rules.{rules}
 use Rattle.compile.proofs.decide.Goals as goal
 
 pub returns-then-file-gt-FILE_LIMIT : goal.returns-then-file-gt-FILE_LIMIT

@@ -1,5 +1,4 @@
 use Rattle.fates.proofs.Right.{remembered-accepted}
-use borrow.Author.Rules.{rules}
 use Rattle.compile.proofs.remembered.Goals as goal
 
 pub accepted-requires : goal.accepted-requires

@@ -1,5 +1,4 @@
 use Rattle.compile.proofs.Ends.{called, demand1-is, demand3-is}
-use borrow.Author.Rules.{rules}
 use Rattle.compile.proofs.sinalvento_compile.Goals as goal
 
 pub returns : goal.returns

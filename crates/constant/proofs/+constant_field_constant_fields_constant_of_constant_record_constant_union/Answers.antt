@@ -1,19 +1,11 @@
-use Prim.Native.Nat.{ℕ, ◌+◌, ◌*◌, ◌<◌}
-use Rattle.file.specs.Tables.{tables_of}
-use Rattle.accepted_file.specs.AcceptedFile.{constant_rank}
 use Rattle.constant.proofs.Measured.{field-none, field-some, pattern-ok, only-const}
 use borrow.Author.Rules.{rules}
 use native.Mathlib.Omega.{arith}
-use Prim.Native.Nat.{ℕ}
-use Rattle.constant.proofs.Measured.{Adding, add_start, add_none, add-more, add-end, field-type, size_small}
+use Rattle.constant.proofs.Measured.{add_start, add_none, add-more, add-end, field-type, size_small}
 use mathlib.Core.Path.{subst}
-use Rattle.rules.specs.Constant as ConstantRules
-use Rattle.views.specs.Views.{run, pattern_at}
 use Rattle.constant.specs.Sizes.{Small}
-use Prim.Native.Nat.{ℕ, ◌-◌}
 use Rattle.constant.proofs.Arms.{met, as_int, as-str, as_bytes_lem, as-prefix, as-fuzzy, as-pairs, as-other, name_in, stood-in, pairs-ok, bytes_inside}
 use Rattle.constant.proofs.Has.{record-at, lacks-pairs}
-use borrow.Author.Tests.{not-true}
 use Rattle.constant.proofs.Measured.{as-record, as-union, as-neither, size_small}
 use Rattle.constant.proofs.Arms.{fields-ok, alternatives-ok}
 use Rattle.constant.proofs.Measured.{payload-many, payload-none, payload-some, only-ok, alternative-ok, only-const}

@@ -1,22 +1,10 @@
-use Prim.Native.Nat.{ℕ, ◌+◌, ◌*◌, ◌<◌}
+use Prim.Native.Nat.{◌+◌, ◌*◌}
 use Rattle.file.specs.Tables.{tables_of}
 use Rattle.accepted_file.specs.AcceptedFile.{constant_rank}
-use Rattle.constant.proofs.Has.{has-int, has-str, has-raw, has-pairs, has_other, record-at}
-use Rattle.constant.proofs.Arms.{met, stood-in}
-use borrow.Author.Rules.{rules}
-use native.Mathlib.Omega.{arith}
-use Prim.Native.Nat.{ℕ}
-use Rattle.constant.proofs.Measured.{field-absent, field-present, pattern-ok}
-use Rattle.constant.proofs.Has.{has_some, has-none}
-use borrow.Author.Tests.{not-true, not-false}
-use Rattle.constant.proofs.Measured.{field-type}
-use Rattle.constant.proofs.Has.{Having, have-start, have-none, have-more, have-end}
+use Rattle.constant.proofs.Has.{Having}
 use Rattle.rules.specs.Constant as ConstantRules
 use Rattle.views.specs.Views.{run, pattern_at}
-use Prim.Native.Nat.{ℕ, ◌-◌}
-use Rattle.constant.proofs.Measured.{payload-absent, payload-unnamed, payload-named, only-ok, alternative-ok}
-use Rattle.constant.proofs.Has.{at-record, at-union, at-neither, has-recalled, few}
-use Rattle.constant.proofs.Arms.{fields-ok, alternatives-ok}
+use Prim.Native.Nat.{◌-◌}
 use Rattle.constant.proofs.+has_bytes_has_field_has_fields_has_payload_has_record.Given as goal
 
 abbrev pub decreases-has_bytes : goal.decreases-has_bytes

@@ -1,6 +1,5 @@
 use mathlib.Core.Path.{sym, ap}
 use Rattle.constant.specs.Sizes.{size_of}
-use borrow.Author.Rules.{rules}
 use Rattle.constant.proofs.bytes_only.Goals as goal
 
 pub returns-in-Bytes : goal.returns-in-Bytes

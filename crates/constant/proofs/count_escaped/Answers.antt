@@ -1,7 +1,5 @@
 use native.Mathlib.Omega.{arith}
-use borrow.Author.Rules.{rules}
-use Prim.Native.Nat.{◌-◌}
-use Rattle.constant.proofs.Escapes.{Counted, count-start, count-more, count-end, width-at}
+use Rattle.constant.proofs.Escapes.{count-start, count-more, count-end, width-at}
 use Rattle.constant.proofs.count_escaped.Goals as goal
 
 named : {A B : Type 0} → A × B → record { gives : A; bounded : B }

@@ -1,7 +1,5 @@
-use native.Mathlib.Omega.{arith}
-use borrow.Author.Rules.{rules}
 use Prim.Native.Nat.{◌-◌}
-use Rattle.constant.proofs.Escapes.{Counted, count-start, count-more, count-end, width-at}
+use Rattle.constant.proofs.Escapes.{Counted}
 use Rattle.constant.proofs.count_escaped.Given as goal
 
 abbrev pub invariant-loop-i : goal.invariant-loop-i

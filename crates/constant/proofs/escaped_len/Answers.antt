@@ -1,5 +1,4 @@
 use mathlib.Core.Path.{sym, ◌∙◌}
-use borrow.Author.Rules.{rules}
 use Rattle.constant.proofs.Plain.{plain-length}
 use Rattle.constant.proofs.escaped_len.Goals as goal
 

@@ -1,6 +1,5 @@
 use mathlib.Core.Path.{ap, ◌∙◌}
 use lib.Dec.{ltb}
-use borrow.Author.Rules.{rules}
 use Rattle.constant.proofs.Plain.{plain-least}
 use Rattle.constant.proofs.is_plain.Goals as goal
 

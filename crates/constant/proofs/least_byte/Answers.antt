@@ -1,7 +1,4 @@
-use native.Mathlib.Omega.{arith}
-use borrow.Author.Rules.{rules}
-use Prim.Native.Nat.{◌-◌}
-use Rattle.constant.proofs.Plain.{Least, least_start, least_more, least-end}
+use Rattle.constant.proofs.Plain.{least_start, least_more, least-end}
 use Rattle.constant.proofs.least_byte.Goals as goal
 
 pub loop-i-init : goal.loop-i-init

@@ -1,7 +1,5 @@
-use native.Mathlib.Omega.{arith}
-use borrow.Author.Rules.{rules}
 use Prim.Native.Nat.{◌-◌}
-use Rattle.constant.proofs.Plain.{Least, least_start, least_more, least-end}
+use Rattle.constant.proofs.Plain.{Least}
 use Rattle.constant.proofs.least_byte.Given as goal
 
 abbrev pub invariant-loop-i : goal.invariant-loop-i

@@ -1,4 +1,3 @@
-use borrow.Author.Rules.{rules}
 use Rattle.constant.proofs.Has.{asked}
 use Rattle.constant.proofs.may_have.Goals as goal
 

@@ -1,6 +1,5 @@
 use Rattle.constant.proofs.Caps.{prefix-length}
 use native.Mathlib.Omega.{arith}
-use borrow.Author.Rules.{rules}
 use Rattle.constant.proofs.prefix_len.Goals as goal
 
 pub returns : goal.returns

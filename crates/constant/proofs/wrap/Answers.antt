@@ -2,7 +2,6 @@ use Rattle.constant.proofs.Caps.{wrap-is}
 use mathlib.Core.Path.{subst}
 use native.Mathlib.Omega.{arith}
 use Rattle.constant.specs.Sizes.{Small}
-use borrow.Author.Rules.{rules}
 use Rattle.constant.proofs.wrap.Goals as goal
 
 pub capped-requires : goal.capped-requires

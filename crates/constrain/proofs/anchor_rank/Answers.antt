@@ -1,5 +1,4 @@
 use Rattle.constrain.proofs.Ranks.{prefix-last, whole-first}
-use borrow.Author.Rules.{rules}
 use Rattle.constrain.proofs.anchor_rank.Goals as goal
 
 pub returns-in-Prefix : goal.returns-in-Prefix

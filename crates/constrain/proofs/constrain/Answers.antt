@@ -1,7 +1,6 @@
 use Rattle.state.specs.Ops.{skip}
 use Rattle.constrain.proofs.Ranks.{constrain-none, constrain-some}
 use mathlib.Core.Path.{sym, ap, ◌∙◌}
-use borrow.Author.Rules.{rules}
 use Rattle.walk.specs.Walk.{walk_state}
 use Rattle.walk.proofs.Parts.{placed-is}
 use Rattle.constrain.proofs.constrain.Goals as goal

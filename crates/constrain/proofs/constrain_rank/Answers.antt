@@ -1,10 +1,5 @@
-use Prim.Native.Nat.{◌-◌}
 use native.Mathlib.Omega.{arith}
-use borrow.Author.Rules.{rules}
-use Rattle.file.specs.Tables.{tables_of}
-use Rattle.paths.specs.Paths.{path_of}
-use Rattle.walk.specs.Walk.{walk_state}
-use Rattle.constrain.proofs.Ranks.{Going, going-first, going-not, going-one, going_end}
+use Rattle.constrain.proofs.Ranks.{going-first, going-not, going-one, going_end}
 use Rattle.constrain.proofs.constrain_rank.Goals as goal
 
 pub count_of-n-requires : goal.count_of-n-requires

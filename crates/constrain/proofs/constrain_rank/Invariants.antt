@@ -1,10 +1,8 @@
 use Prim.Native.Nat.{◌-◌}
-use native.Mathlib.Omega.{arith}
-use borrow.Author.Rules.{rules}
 use Rattle.file.specs.Tables.{tables_of}
 use Rattle.paths.specs.Paths.{path_of}
 use Rattle.walk.specs.Walk.{walk_state}
-use Rattle.constrain.proofs.Ranks.{Going, going-first, going-not, going-one, going_end}
+use Rattle.constrain.proofs.Ranks.{Going}
 use Rattle.constrain.proofs.constrain_rank.Given as goal
 
 abbrev pub invariant-loop-k : goal.invariant-loop-k

@@ -1,8 +1,6 @@
 use Prim.Native.Nat.{◌-◌}
-use native.Mathlib.Omega.{arith}
-use borrow.Author.Rules.{rules}
 use Rattle.file.specs.Tables.{tables_of}
-use Rattle.constrain.proofs.Ranks.{Seeking, seek-first, seek-more, seek_hit, seek-end}
+use Rattle.constrain.proofs.Ranks.{Seeking}
 use Rattle.constrain.proofs.is_constrained.Given as goal
 
 abbrev pub invariant-loop-k : goal.invariant-loop-k

@@ -5,7 +5,6 @@ use Rattle.constrain.proofs.Narrowings.{known_past, known-here}
 use Prim.Native.Nat.{◌<◌}
 use lib.ListN.{length}
 use Rattle.file.specs.Tables.{tables_of}
-use borrow.Author.Rules.{rules}
 use Rattle.constrain.proofs.known.Goals as goal
 
 pub returns-then-node-count_of : goal.returns-then-node-count_of

@@ -1,7 +1,6 @@
 use mathlib.Core.Path.{◌∙◌}
 use Rattle.walk.specs.Walk.{walk_state}
 use Rattle.walk.proofs.Parts.{placed-is}
-use borrow.Author.Rules.{rules}
 use Rattle.constrain.proofs.narrow.Goals as goal
 
 pub returns : goal.returns

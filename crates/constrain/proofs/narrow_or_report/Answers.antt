@@ -2,7 +2,6 @@ use mathlib.Core.Path.{sym, ◌∙◌}
 use Rattle.constrain.proofs.Narrowings.{or_yes, or_no, or-over}
 use Rattle.walk.specs.Walk.{walk_state}
 use Rattle.seek.specs.Seek.{state_of}
-use borrow.Author.Rules.{rules}
 use Rattle.constrain.proofs.narrow_or_report.Goals as goal
 
 -- src/lib.rt:105:9

@@ -1,5 +1,4 @@
 use Rattle.constrain.proofs.Ranks.{not_named, of-rank, not-of-rank}
-use borrow.Author.Rules.{rules}
 use Rattle.constrain.proofs.pattern_for.Goals as goal
 
 pub returns-then-c-name : goal.returns-then-c-name

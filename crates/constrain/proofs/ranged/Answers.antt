@@ -1,5 +1,4 @@
 use Rattle.constrain.proofs.Narrowings.{ranged-is}
-use borrow.Author.Rules.{rules}
 use Rattle.constrain.proofs.ranged.Goals as goal
 
 pub returns : goal.returns

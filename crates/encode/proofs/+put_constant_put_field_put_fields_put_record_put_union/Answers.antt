@@ -1,21 +1,13 @@
-use Prim.Native.Nat.{ℕ, ◌+◌, ◌*◌, ◌<◌}
-use Rattle.file.specs.Tables.{tables_of}
-use Rattle.accepted_file.specs.AcceptedFile.{constant_rank}
 use Rattle.constant.proofs.Arms.{met, name_in, stood-in, pairs-ok, bytes_inside, int-inside}
 use Rattle.encode.proofs.Parts.{here-as, wrote-same, put-int, put-text, put-raw, pairs-bytes, put_other}
 use borrow.Author.Rules.{rules}
 use native.Mathlib.Omega.{arith}
-use Prim.Native.Nat.{ℕ}
 use Rattle.constant.proofs.Measured.{pattern-ok}
 use Rattle.encode.proofs.Parts.{here-as, wrote-same, field-bytes, field-missing}
 use Rattle.constant.proofs.Measured.{field-type}
-use Rattle.encode.proofs.Parts.{Fielding, put-start, put-here, put-more, put-end}
-use Rattle.rules.specs.Constant as ConstantRules
-use Rattle.views.specs.Views.{run, pattern_at}
-use Prim.Native.Nat.{ℕ, ◌-◌}
+use Rattle.encode.proofs.Parts.{put-start, put-here, put-more, put-end}
 use Rattle.constant.proofs.Arms.{fields-ok, alternatives-ok}
 use Rattle.encode.proofs.Parts.{here-as, wrote-same, fields-here, put_record, union-same, put-neither}
-use mathlib.Core.Path.{◌∙◌}
 use Rattle.constant.proofs.Measured.{only-ok, alternative-ok}
 use Rattle.encode.proofs.Parts.{union-one, union-none, payload-here, put-union}
 use Rattle.encode.proofs.+put_constant_put_field_put_fields_put_record_put_union.Goals as goal

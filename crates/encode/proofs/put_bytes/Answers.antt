@@ -1,6 +1,5 @@
 use Rattle.encode.proofs.Puts.{wrote-bytes, text-far}
 use native.Mathlib.Omega.{arith}
-use borrow.Author.Rules.{rules}
 use Rattle.encode.proofs.put_bytes.Goals as goal
 
 pub overflow_add-result : goal.overflow_add-result

@@ -1,6 +1,4 @@
-use Rattle.encode.proofs.Puts.{Falling, fall-start, fall-more, fall-end}
-use native.Mathlib.Omega.{arith}
-use borrow.Author.Rules.{rules}
+use Rattle.encode.proofs.Puts.{fall-start, fall-more, fall-end}
 use Rattle.encode.proofs.put_down.Goals as goal
 
 pub loop-left-init : goal.loop-left-init

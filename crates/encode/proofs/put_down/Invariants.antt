@@ -1,6 +1,4 @@
-use Rattle.encode.proofs.Puts.{Falling, fall-start, fall-more, fall-end}
-use native.Mathlib.Omega.{arith}
-use borrow.Author.Rules.{rules}
+use Rattle.encode.proofs.Puts.{Falling}
 use Rattle.encode.proofs.put_down.Given as goal
 
 abbrev pub invariant-loop-left : goal.invariant-loop-left

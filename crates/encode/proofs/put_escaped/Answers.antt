@@ -1,5 +1,4 @@
 use Rattle.encode.proofs.Puts.{wrote-zero, wrote-other}
-use borrow.Author.Rules.{rules}
 use Rattle.encode.proofs.put_escaped.Goals as goal
 
 pub returns-then-b-eq0 : goal.returns-then-b-eq0

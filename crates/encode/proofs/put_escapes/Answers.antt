@@ -1,6 +1,4 @@
-use Rattle.encode.proofs.Puts.{Texting, text-start, text-more, text-end}
-use native.Mathlib.Omega.{arith}
-use Prim.Native.Nat.{◌-◌}
+use Rattle.encode.proofs.Puts.{text-start, text-more, text-end}
 use Rattle.encode.proofs.put_escapes.Goals as goal
 
 pub loop-i-init : goal.loop-i-init

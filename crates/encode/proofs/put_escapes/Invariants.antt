@@ -1,5 +1,4 @@
-use Rattle.encode.proofs.Puts.{Texting, text-start, text-more, text-end}
-use native.Mathlib.Omega.{arith}
+use Rattle.encode.proofs.Puts.{Texting}
 use Prim.Native.Nat.{◌-◌}
 use Rattle.encode.proofs.put_escapes.Given as goal
 

@@ -1,7 +1,6 @@
 use Rattle.encode.proofs.Puts.{wrote-int}
 use mathlib.Core.Path.{ap}
 use Prim.Native.Nat.{ℕ, ◌+◌, ◌%◌}
-use borrow.Author.Rules.{rules}
 use Rattle.encode.proofs.put_i64.Goals as goal
 
 pub returns : goal.returns

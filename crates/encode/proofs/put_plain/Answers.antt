@@ -1,6 +1,4 @@
-use native.Mathlib.Omega.{arith}
-use Prim.Native.Nat.{◌-◌}
-use Rattle.encode.proofs.Puts.{Copying, copy_start, copy_more, copy-end}
+use Rattle.encode.proofs.Puts.{copy_start, copy_more, copy-end}
 use Rattle.encode.proofs.put_plain.Goals as goal
 
 pub loop-i-init : goal.loop-i-init

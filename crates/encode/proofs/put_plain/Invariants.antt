@@ -1,6 +1,5 @@
-use native.Mathlib.Omega.{arith}
 use Prim.Native.Nat.{◌-◌}
-use Rattle.encode.proofs.Puts.{Copying, copy_start, copy_more, copy-end}
+use Rattle.encode.proofs.Puts.{Copying}
 use Rattle.encode.proofs.put_plain.Given as goal
 
 abbrev pub invariant-loop-i : goal.invariant-loop-i

@@ -1,7 +1,6 @@
 use Rattle.encode.proofs.Puts.{wrote-prefix, text-far}
 use native.Mathlib.Omega.{arith}
 use Prim.Native.Nat.{◌≤◌}
-use borrow.Author.Rules.{rules}
 use Rattle.encode.proofs.put_prefix.Goals as goal
 
 pub returns : goal.returns

@@ -1,6 +1,5 @@
 use Rattle.encode.proofs.Puts.{wrote-str}
 use native.Mathlib.Omega.{arith}
-use borrow.Author.Rules.{rules}
 use Rattle.encode.proofs.put_str.Goals as goal
 
 pub overflow_add-result : goal.overflow_add-result

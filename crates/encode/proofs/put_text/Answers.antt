@@ -1,5 +1,4 @@
 use mathlib.Core.Path.{sym, ◌∙◌}
-use borrow.Author.Rules.{rules}
 use Rattle.encode.proofs.Puts.{text-plain}
 use Rattle.encode.proofs.put_text.Goals as goal
 

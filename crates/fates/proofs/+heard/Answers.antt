@@ -1,12 +1,8 @@
 use Rattle.field_cases.proofs.Opens.{count-is}
 use mathlib.Core.Path.{sym, ◌∙◌}
 use native.Mathlib.Omega.{arith}
-use borrow.Author.Rules.{rules}
-use Rattle.file.specs.Tables.{tables_of}
-use Rattle.accepted_file.specs.Fates.{heard_below}
-use Rattle.literals.proofs.Going.{Going, going-first, going-missing, going-clear, going-met, going_end}
+use Rattle.literals.proofs.Going.{going-first, going-missing, going-clear, going-met, going_end}
 use Rattle.fates.proofs.Hearing.{heard-none, heard-pieces}
-use Prim.Native.Nat.{ℕ, ◌<◌, ◌+◌, ◌-◌}
 use Rattle.fates.proofs.+heard.Goals as goal
 
 pub pieces-opened-requires : goal.pieces-opened-requires

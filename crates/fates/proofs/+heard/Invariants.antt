@@ -1,12 +1,7 @@
-use Rattle.field_cases.proofs.Opens.{count-is}
-use mathlib.Core.Path.{sym, ◌∙◌}
-use native.Mathlib.Omega.{arith}
-use borrow.Author.Rules.{rules}
 use Rattle.file.specs.Tables.{tables_of}
 use Rattle.accepted_file.specs.Fates.{heard_below}
-use Rattle.literals.proofs.Going.{Going, going-first, going-missing, going-clear, going-met, going_end}
-use Rattle.fates.proofs.Hearing.{heard-none, heard-pieces}
-use Prim.Native.Nat.{ℕ, ◌<◌, ◌+◌, ◌-◌}
+use Rattle.literals.proofs.Going.{Going}
+use Prim.Native.Nat.{◌-◌}
 use Rattle.fates.proofs.+heard.Given as goal
 
 abbrev pub decreases-heard : goal.decreases-heard

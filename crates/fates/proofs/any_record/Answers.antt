@@ -1,10 +1,7 @@
 use mathlib.Core.Path.{sym, ap, ◌∙◌}
-use Prim.Native.Nat.{◌-◌}
 use native.Mathlib.Omega.{arith}
-use borrow.Author.Rules.{rules}
-use Rattle.file.specs.Tables.{tables_of}
 use Rattle.tables.specs.Tables.{found_option}
-use Rattle.fates.proofs.Bindings.{Searched, searched-none, searched-more, searched-found, searched-all}
+use Rattle.fates.proofs.Bindings.{searched-none, searched-more, searched-found, searched-all}
 use Rattle.fates.proofs.any_record.Goals as goal
 
 pub loop-k-init : goal.loop-k-init

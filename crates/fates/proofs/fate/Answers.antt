@@ -1,8 +1,5 @@
-use mathlib.Core.Path.{◌≡◌, refl, sym, ap, ◌∙◌}
-use native.Mathlib.Omega.{arith}
-use borrow.Author.Tests.{not-true, not-false}
+use mathlib.Core.Path.{sym, ◌∙◌}
 use Rattle.fates.proofs.Hearing.{fate-bytes, fate-met, fate-heard, fate-quiet}
-use borrow.Author.Rules.{rules}
 use Rattle.fates.proofs.fate.Goals as goal
 
 pub returns-then-not-lacks_bytes : goal.returns-then-not-lacks_bytes

@@ -1,7 +1,6 @@
-use mathlib.Core.Path.{◌≡◌, refl, sym, ap, ◌∙◌}
+use mathlib.Core.Path.{◌∙◌}
 use native.Mathlib.Omega.{arith}
 use Rattle.fates.proofs.Hearing.{or-in, or-past}
-use borrow.Author.Rules.{rules}
 use Rattle.fates.proofs.fate_or.Goals as goal
 
 pub fate-requires : goal.fate-requires

@@ -1,9 +1,6 @@
-use mathlib.Core.Path.{◌≡◌, refl, sym, ap, ◌∙◌}
-use native.Mathlib.Omega.{arith}
-use Rattle.file.specs.Tables.{tables_of}
+use mathlib.Core.Path.{refl, sym, ◌∙◌}
 use Rattle.views.proofs.Runs.{length_run}
 use Rattle.fates.proofs.Parts.{no-parent, parent-if, parent-not}
-use borrow.Author.Rules.{rules}
 use Rattle.fates.proofs.is_parent.Goals as goal
 
 pub returns-in_default : goal.returns-in_default

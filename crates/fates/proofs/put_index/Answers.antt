@@ -1,10 +1,6 @@
-use mathlib.Core.Path.{◌≡◌, refl, sym, ap, ◌∙◌}
+use mathlib.Core.Path.{refl}
 use native.Mathlib.Omega.{arith}
-use borrow.Author.Rules.{rules}
-use Prim.Native.Nat.{◌+◌, ◌-◌, ◌≤◌, ◌<◌}
-use lib.ListN.{length, drop, length-set}
-use lib.Seq.{sets}
-use Rattle.accepted_file.specs.Fates.{long_length}
+use lib.ListN.{length-set}
 use Rattle.fates.proofs.Packed.{front-more, front-all}
 use Rattle.fates.proofs.put_index.Goals as goal
 

@@ -1,11 +1,8 @@
-use mathlib.Core.Path.{◌≡◌, refl, sym, ap, ◌∙◌}
-use native.Mathlib.Omega.{arith}
-use borrow.Author.Rules.{rules}
-use Prim.Native.Nat.{◌+◌, ◌-◌, ◌≤◌, ◌<◌}
-use lib.ListN.{length, drop, length-set}
+use mathlib.Core.Path.{◌≡◌}
+use Prim.Native.Nat.{◌-◌}
+use lib.ListN.{length, drop}
 use lib.Seq.{sets}
 use Rattle.accepted_file.specs.Fates.{long_length}
-use Rattle.fates.proofs.Packed.{front-more, front-all}
 use Rattle.fates.proofs.put_index.Given as goal
 
 abbrev pub invariant-loop-i : goal.invariant-loop-i

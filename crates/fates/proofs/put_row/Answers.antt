@@ -1,12 +1,7 @@
-use mathlib.Core.Path.{◌≡◌, refl, sym, ap, ◌∙◌}
+use mathlib.Core.Path.{refl}
 use native.Mathlib.Omega.{arith}
-use borrow.Author.Rules.{rules}
-use Prim.Native.Nat.{◌+◌, ◌-◌, ◌*◌, ◌≤◌, ◌<◌}
-use lib.ListN.{length, length-set}
-use lib.Seq.{sets}
-use Rattle.file.specs.Tables.{tables_of}
-use Rattle.accepted_file.specs.Fates.{long_length}
-use Rattle.fates.specs.Rows.{words, word_of, row_of}
+use lib.ListN.{length-set}
+use Rattle.fates.specs.Rows.{row_of}
 use Rattle.fates.proofs.Packed.{row-none, row_more, row-all}
 use Rattle.fates.proofs.put_row.Goals as goal
 

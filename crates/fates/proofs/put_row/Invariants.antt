@@ -1,13 +1,10 @@
-use mathlib.Core.Path.{◌≡◌, refl, sym, ap, ◌∙◌}
-use native.Mathlib.Omega.{arith}
-use borrow.Author.Rules.{rules}
-use Prim.Native.Nat.{◌+◌, ◌-◌, ◌*◌, ◌≤◌, ◌<◌}
-use lib.ListN.{length, length-set}
+use mathlib.Core.Path.{◌≡◌}
+use Prim.Native.Nat.{◌+◌, ◌-◌}
+use lib.ListN.{length}
 use lib.Seq.{sets}
 use Rattle.file.specs.Tables.{tables_of}
 use Rattle.accepted_file.specs.Fates.{long_length}
-use Rattle.fates.specs.Rows.{words, word_of, row_of}
-use Rattle.fates.proofs.Packed.{row-none, row_more, row-all}
+use Rattle.fates.specs.Rows.{words, word_of}
 use Rattle.fates.proofs.put_row.Given as goal
 
 abbrev pub invariant-loop-q : goal.invariant-loop-q

@@ -1,10 +1,6 @@
-use mathlib.Core.Path.{◌≡◌, refl, sym, ap, ◌∙◌}
 use native.Mathlib.Omega.{arith}
-use borrow.Author.Rules.{rules}
-use Rattle.file.specs.Tables.{tables_of}
-use Rattle.fates.specs.Rows.{kept}
 use Rattle.fates.proofs.Bindings.{front_length, bound-long}
-use Rattle.fates.proofs.Parts.{Held, held_first, held_more, held_all}
+use Rattle.fates.proofs.Parts.{held_first, held_more, held_all}
 use Rattle.fates.proofs.remember.Goals as goal
 
 pub put_index-requires : goal.put_index-requires

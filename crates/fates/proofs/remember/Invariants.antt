@@ -1,10 +1,6 @@
-use mathlib.Core.Path.{◌≡◌, refl, sym, ap, ◌∙◌}
-use native.Mathlib.Omega.{arith}
-use borrow.Author.Rules.{rules}
 use Rattle.file.specs.Tables.{tables_of}
 use Rattle.fates.specs.Rows.{kept}
-use Rattle.fates.proofs.Bindings.{front_length, bound-long}
-use Rattle.fates.proofs.Parts.{Held, held_first, held_more, held_all}
+use Rattle.fates.proofs.Parts.{Held}
 use Rattle.fates.proofs.remember.Given as goal
 
 abbrev pub invariant-loop-n : goal.invariant-loop-n

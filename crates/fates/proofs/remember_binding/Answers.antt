@@ -1,9 +1,6 @@
-use mathlib.Core.Path.{◌≡◌, refl, sym, ap, ◌∙◌}
-use native.Mathlib.Omega.{arith}
-use Rattle.file.specs.Tables.{tables_of}
+use mathlib.Core.Path.{sym, ap, ◌∙◌}
 use Rattle.tables.specs.Tables.{found_option}
 use Rattle.fates.proofs.Bindings.{binding-none, binding-part}
-use borrow.Author.Rules.{rules}
 use Rattle.fates.proofs.remember_binding.Goals as goal
 
 pub returns-in-Just : goal.returns-in-Just

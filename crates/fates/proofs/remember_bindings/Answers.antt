@@ -1,10 +1,5 @@
-use mathlib.Core.Path.{◌≡◌, refl, sym, ap, ◌∙◌}
 use native.Mathlib.Omega.{arith}
-use borrow.Author.Rules.{rules}
-use Rattle.file.specs.Tables.{tables_of}
-use Prim.Native.Nat.{◌-◌}
-use Rattle.fates.specs.Rows.{kept}
-use Rattle.fates.proofs.Bindings.{Remembers, remembers-none, remembers-more, remembers-all}
+use Rattle.fates.proofs.Bindings.{remembers-none, remembers-more, remembers-all}
 use Rattle.fates.proofs.remember_bindings.Goals as goal
 
 pub loop-b-init : goal.loop-b-init

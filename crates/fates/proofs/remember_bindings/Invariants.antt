@@ -1,10 +1,7 @@
-use mathlib.Core.Path.{◌≡◌, refl, sym, ap, ◌∙◌}
-use native.Mathlib.Omega.{arith}
-use borrow.Author.Rules.{rules}
 use Rattle.file.specs.Tables.{tables_of}
 use Prim.Native.Nat.{◌-◌}
 use Rattle.fates.specs.Rows.{kept}
-use Rattle.fates.proofs.Bindings.{Remembers, remembers-none, remembers-more, remembers-all}
+use Rattle.fates.proofs.Bindings.{Remembers}
 use Rattle.fates.proofs.remember_bindings.Given as goal
 
 abbrev pub invariant-loop-b : goal.invariant-loop-b

@@ -1,9 +1,7 @@
-use mathlib.Core.Path.{◌≡◌, refl, sym, ap, ◌∙◌}
+use mathlib.Core.Path.{sym, ◌∙◌}
 use native.Mathlib.Omega.{arith}
-use Rattle.file.specs.Tables.{tables_of}
 use Rattle.accepted_file.proofs.Given.{few-nodes}
 use Rattle.fates.proofs.Parts.{held_none, held-parts}
-use borrow.Author.Rules.{rules}
 use Rattle.fates.proofs.remember_held.Goals as goal
 
 pub overflow_add-node : goal.overflow_add-node

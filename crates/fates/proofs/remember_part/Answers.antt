@@ -1,11 +1,8 @@
-use mathlib.Core.Path.{◌≡◌, refl, sym, ap, ◌∙◌}
+use mathlib.Core.Path.{sym, ◌∙◌}
 use native.Mathlib.Omega.{arith}
-use Rattle.file.specs.Tables.{tables_of}
-use borrow.Author.Tests.{not-true, not-false}
 use Rattle.rules.proofs.Literals.{constant-in}
 use Rattle.accepted_file.proofs.Given.{few-nodes}
 use Rattle.fates.proofs.Parts.{parent-constant, part-full, part_no, part-has, part-row}
-use borrow.Author.Rules.{rules}
 use Rattle.fates.proofs.remember_part.Goals as goal
 
 pub returns-then-k-ge-ROW_LIMIT : goal.returns-then-k-ge-ROW_LIMIT

@@ -1,9 +1,7 @@
-use mathlib.Core.Path.{◌≡◌, refl, sym, ap, ◌∙◌}
 use native.Mathlib.Omega.{arith}
-use borrow.Author.Rules.{rules}
-use Prim.Native.Nat.{◌+◌, ◌-◌, ◌*◌, ◌≤◌, ◌<◌}
+use Prim.Native.Nat.{◌+◌, ◌-◌, ◌*◌}
 use Rattle.file.specs.Tables.{tables_of}
-use Rattle.fates.specs.Rows.{packed, fate_or, word_of}
+use Rattle.fates.specs.Rows.{word_of}
 use Rattle.fates.proofs.Right.{or-small}
 use Rattle.fates.proofs.Packed.{digits-none, digits_more, digits-all, digits-small}
 use Rattle.fates.proofs.word.Goals as goal

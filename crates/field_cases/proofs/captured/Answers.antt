@@ -1,7 +1,6 @@
 use mathlib.Core.Path.{ap}
 use Rattle.slots.specs.Slots.{slot_of}
 use Rattle.field_cases.proofs.Starts.{captured-is}
-use borrow.Author.Rules.{rules}
 use Rattle.field_cases.proofs.captured.Goals as goal
 
 pub returns : goal.returns

@@ -1,6 +1,5 @@
 use mathlib.Core.Path.{sym, ◌∙◌}
 use Rattle.field_cases.proofs.Choices.{unchosen-is, whole-constant, whole-other}
-use borrow.Author.Rules.{rules}
 use Rattle.field_cases.proofs.choose.Goals as goal
 
 pub returns-then-is_nothing : goal.returns-then-is_nothing

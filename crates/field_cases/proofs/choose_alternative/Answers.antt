@@ -2,7 +2,6 @@ use native.Mathlib.Omega.{arith}
 use Rattle.field_cases.proofs.Opens.{run_inside}
 use Rattle.field_cases.proofs.Choices.{unchosen-is, no_record_lem, no-union, arity, unknown, known}
 use mathlib.Core.Path.{◌∙◌}
-use borrow.Author.Rules.{rules}
 use Rattle.field_cases.proofs.choose_alternative.Goals as goal
 
 pub returns-in_default : goal.returns-in_default

@@ -1,5 +1,4 @@
 use Rattle.field_cases.proofs.Silent.{no_record, has-pairs, no-record-type, opened-for-none}
-use borrow.Author.Rules.{rules}
 use Rattle.field_cases.proofs.is_empty_at.Goals as goal
 
 pub returns-in_default : goal.returns-in_default

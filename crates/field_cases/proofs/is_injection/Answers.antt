@@ -1,5 +1,4 @@
 use Rattle.field_cases.proofs.Starts.{no_record_lem, no-union, record-and-union}
-use borrow.Author.Rules.{rules}
 use Rattle.field_cases.proofs.is_injection.Goals as goal
 
 pub returns-in_default : goal.returns-in_default

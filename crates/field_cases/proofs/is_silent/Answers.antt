@@ -1,6 +1,5 @@
 use Rattle.field_cases.proofs.Silent.{first_holds, first-fails}
 use mathlib.Core.Path.{sym, ◌∙◌}
-use borrow.Author.Rules.{rules}
 use Rattle.field_cases.proofs.is_silent.Goals as goal
 
 pub returns-then-is_quiet : goal.returns-then-is_quiet

@@ -1,6 +1,5 @@
 use mathlib.Core.Path.{sym, ap, ◌∙◌}
 use Rattle.field_cases.specs.FieldCases.{literal_way}
-use borrow.Author.Rules.{rules}
 use Rattle.field_cases.proofs.literal_way.Goals as goal
 
 pub returns-then-constant_node : goal.returns-then-constant_node

@@ -1,5 +1,4 @@
 use Rattle.field_cases.proofs.Meetings.{meets-row, meets-own, meets-register, meets-mistyped, meets-key, meets-derived, meets-value, of-const}
-use borrow.Author.Rules.{rules}
 use Rattle.field_cases.proofs.meet.Goals as goal
 
 pub returns-then-refers_to : goal.returns-then-refers_to

@@ -1,6 +1,5 @@
 use Rattle.accepted_file.proofs.Given.{sound-tables}
 use Rattle.field_cases.proofs.Opens.{piece_is}
-use borrow.Author.Rules.{rules}
 use Rattle.field_cases.proofs.piece_at.Goals as goal
 
 pub returns : goal.returns

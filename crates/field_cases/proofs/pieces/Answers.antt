@@ -2,7 +2,6 @@ use mathlib.Core.Path.{ap}
 use native.Mathlib.Omega.{arith}
 use Rattle.field_cases.specs.declared.Places.{Places}
 use Rattle.field_cases.proofs.Opens.{no_pairs, run_inside, no_fields, opened_both, opened-none}
-use borrow.Author.Rules.{rules}
 use Rattle.field_cases.proofs.pieces.Goals as goal
 
 pub returns-in_default : goal.returns-in_default

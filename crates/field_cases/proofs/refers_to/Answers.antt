@@ -1,5 +1,4 @@
 use Rattle.field_cases.proofs.Meetings.{refers-none, refers-nothing, refers-both}
-use borrow.Author.Rules.{rules}
 use Rattle.field_cases.proofs.refers_to.Goals as goal
 
 pub returns-in_default : goal.returns-in_default

@@ -1,5 +1,4 @@
 use Rattle.field_cases.proofs.Reading.{unresolved-deferred, unresolved-quiet, unresolved-told}
-use borrow.Author.Rules.{rules}
 use Rattle.field_cases.proofs.unresolved.Goals as goal
 
 pub returns-then-is_deferred : goal.returns-then-is_deferred

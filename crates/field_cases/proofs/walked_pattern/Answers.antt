@@ -1,5 +1,4 @@
 use Rattle.field_cases.proofs.Starts.{none-walked, skip-walked, other-walked}
-use borrow.Author.Rules.{rules}
 use Rattle.field_cases.proofs.walked_pattern.Goals as goal
 
 pub returns-in_default : goal.returns-in_default

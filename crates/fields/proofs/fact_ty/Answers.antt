@@ -1,6 +1,5 @@
 use Rattle.rules.specs.File.{fact_ty}
 use Rattle.fields.proofs.Slots.{fact-seen}
-use borrow.Author.Rules.{rules}
 use Rattle.fields.proofs.fact_ty.Goals as goal
 
 pub returns-in-Int : goal.returns-in-Int

@@ -1,11 +1,6 @@
 use native.Mathlib.Omega.{arith}
-use mathlib.Core.Path.{◌≡◌, sym, ◌∙◌}
-use Prim.Native.Nat.{◌≤◌, ◌-◌}
-use lib.ListN.{length}
-use Rattle.file.specs.Tables.{tables_of}
-use Rattle.rules.specs.Lookup.{fetched_register}
-use Rattle.paths.specs.Paths.{path_of}
-use Rattle.fields.proofs.Searches.{fetched_from, fetched-start, fetched-more, fetched-here, fetched-end}
+use mathlib.Core.Path.{sym, ◌∙◌}
+use Rattle.fields.proofs.Searches.{fetched-start, fetched-more, fetched-here, fetched-end}
 use Rattle.fields.proofs.fetched_register.Goals as goal
 
 pub count_of-n-requires : goal.count_of-n-requires

@@ -1,11 +1,10 @@
-use native.Mathlib.Omega.{arith}
-use mathlib.Core.Path.{◌≡◌, sym, ◌∙◌}
+use mathlib.Core.Path.{◌≡◌}
 use Prim.Native.Nat.{◌≤◌, ◌-◌}
 use lib.ListN.{length}
 use Rattle.file.specs.Tables.{tables_of}
 use Rattle.rules.specs.Lookup.{fetched_register}
 use Rattle.paths.specs.Paths.{path_of}
-use Rattle.fields.proofs.Searches.{fetched_from, fetched-start, fetched-more, fetched-here, fetched-end}
+use Rattle.fields.proofs.Searches.{fetched_from}
 use Rattle.fields.proofs.fetched_register.Given as goal
 
 abbrev pub invariant-loop-i : goal.invariant-loop-i

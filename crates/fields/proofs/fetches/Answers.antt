@@ -1,6 +1,5 @@
 use mathlib.Core.Path.{sym, ◌∙◌}
 use borrow.Author.Tests.{ne_eqb, eq-eqb}
-use borrow.Author.Rules.{rules}
 use Rattle.fields.proofs.fetches.Goals as goal
 
 pub returns-then-from-address : goal.returns-then-from-address

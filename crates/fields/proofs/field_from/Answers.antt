@@ -1,8 +1,5 @@
 use native.Mathlib.Omega.{arith}
-use mathlib.Core.Path.{◌≡◌, sym, ◌∙◌}
-use Prim.Native.Nat.{◌≤◌, ◌-◌, ◌+◌, ◌*◌}
-use Rattle.rules.specs.Lookup.{field_from}
-use Rattle.views.specs.Views.{run, field_at}
+use mathlib.Core.Path.{sym, ◌∙◌}
 use Rattle.fields.proofs.Searches.{field-more, field-here, field_end, field-start}
 use Rattle.fields.proofs.field_from.Goals as goal
 

@@ -1,9 +1,7 @@
-use native.Mathlib.Omega.{arith}
-use mathlib.Core.Path.{◌≡◌, sym, ◌∙◌}
+use mathlib.Core.Path.{◌≡◌}
 use Prim.Native.Nat.{◌≤◌, ◌-◌, ◌+◌, ◌*◌}
 use Rattle.rules.specs.Lookup.{field_from}
 use Rattle.views.specs.Views.{run, field_at}
-use Rattle.fields.proofs.Searches.{field-more, field-here, field_end, field-start}
 use Rattle.fields.proofs.field_from.Given as goal
 
 abbrev pub invariant-loop-i : goal.invariant-loop-i

@@ -4,7 +4,6 @@ use Rattle.rules.specs.File.{record_ty}
 use Rattle.rules.specs.Lookup.{field_of}
 use Rattle.fields.proofs.Searches.{field-seen, fields-inside}
 use mathlib.Core.Path.{◌∙◌}
-use borrow.Author.Rules.{rules}
 use Rattle.fields.proofs.field_of.Goals as goal
 
 pub field_from-requires : goal.field_from-requires

@@ -2,7 +2,6 @@ use mathlib.Core.Path.{sym, ap, ◌∙◌}
 use Rattle.tables.specs.Tables.{found_option}
 use Rattle.fields.proofs.Slots.{folded-slot-is, no-folded-slot}
 use Rattle.slots.proofs.Tidy.{plain-is}
-use borrow.Author.Rules.{rules}
 use Rattle.fields.proofs.folded_slot.Goals as goal
 
 pub returns-in-Nothing : goal.returns-in-Nothing

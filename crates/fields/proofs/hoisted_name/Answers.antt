@@ -1,10 +1,6 @@
 use native.Mathlib.Omega.{arith}
-use mathlib.Core.Path.{◌≡◌, sym, ◌∙◌}
-use Prim.Native.Nat.{◌≤◌, ◌-◌}
-use lib.ListN.{length}
-use Rattle.file.specs.Tables.{tables_of}
-use Rattle.fields.specs.Found.{hoisted_name}
-use Rattle.fields.proofs.Searches.{hoisted_from, hoisted-start, hoisted-more, hoisted-here, hoisted-end}
+use mathlib.Core.Path.{sym, ◌∙◌}
+use Rattle.fields.proofs.Searches.{hoisted-start, hoisted-more, hoisted-here, hoisted-end}
 use Rattle.fields.proofs.hoisted_name.Goals as goal
 
 pub count_of-n-requires : goal.count_of-n-requires

@@ -1,10 +1,9 @@
-use native.Mathlib.Omega.{arith}
-use mathlib.Core.Path.{◌≡◌, sym, ◌∙◌}
+use mathlib.Core.Path.{◌≡◌}
 use Prim.Native.Nat.{◌≤◌, ◌-◌}
 use lib.ListN.{length}
 use Rattle.file.specs.Tables.{tables_of}
 use Rattle.fields.specs.Found.{hoisted_name}
-use Rattle.fields.proofs.Searches.{hoisted_from, hoisted-start, hoisted-more, hoisted-here, hoisted-end}
+use Rattle.fields.proofs.Searches.{hoisted_from}
 use Rattle.fields.proofs.hoisted_name.Given as goal
 
 abbrev pub invariant-loop-k : goal.invariant-loop-k

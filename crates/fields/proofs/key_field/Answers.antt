@@ -2,7 +2,6 @@ use mathlib.Core.Path.{sym, ap, ◌∙◌}
 use Rattle.fields.specs.Found.{place_of}
 use Rattle.slots.proofs.Clear.{for-cleared}
 use Rattle.fields.proofs.Slots.{no_field, field_at}
-use borrow.Author.Rules.{rules}
 use Rattle.fields.proofs.key_field.Goals as goal
 
 pub returns-in-Nothing : goal.returns-in-Nothing

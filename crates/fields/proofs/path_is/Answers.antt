@@ -1,11 +1,9 @@
-use lib.ListN.{length}
 use Rattle.rules.specs.Limits.{step_limit}
 use native.Mathlib.Omega.{arith}
 use borrow.Author.Rules.{rules}
-use mathlib.Core.Path.{◌≡◌, refl, sym, ◌∙◌}
-use Prim.Native.Nat.{◌≤◌, ◌-◌, ◌+◌}
+use mathlib.Core.Path.{refl, sym, ◌∙◌}
 use Rattle.views.specs.Views.{PathInside}
-use Rattle.fields.proofs.PathsAt.{fields-differ, counts-differ, same_from, same_more, same_stop, same_end, steps-decide}
+use Rattle.fields.proofs.PathsAt.{fields-differ, counts-differ, same_more, same_stop, same_end, steps-decide}
 use Rattle.fields.proofs.path_is.Goals as goal
 
 pub word_at-requires : goal.word_at-requires

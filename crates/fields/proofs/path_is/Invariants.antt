@@ -1,11 +1,8 @@
 use lib.ListN.{length}
 use Rattle.rules.specs.Limits.{step_limit}
-use native.Mathlib.Omega.{arith}
-use borrow.Author.Rules.{rules}
-use mathlib.Core.Path.{◌≡◌, refl, sym, ◌∙◌}
+use mathlib.Core.Path.{◌≡◌}
 use Prim.Native.Nat.{◌≤◌, ◌-◌, ◌+◌}
-use Rattle.views.specs.Views.{PathInside}
-use Rattle.fields.proofs.PathsAt.{fields-differ, counts-differ, same_from, same_more, same_stop, same_end, steps-decide}
+use Rattle.fields.proofs.PathsAt.{same_from}
 use Rattle.fields.proofs.path_is.Given as goal
 
 abbrev pub invariant-loop-i : goal.invariant-loop-i

@@ -1,7 +1,6 @@
 use mathlib.Core.Path.{ap}
 use Rattle.views.specs.Views.{predicate_option}
 use Rattle.fields.proofs.Slots.{no-row-value, row-value-is}
-use borrow.Author.Rules.{rules}
 use Rattle.fields.proofs.row_value.Goals as goal
 
 pub returns-in-Nothing : goal.returns-in-Nothing

@@ -2,7 +2,6 @@ use mathlib.Core.Path.{ap}
 use Rattle.views.specs.Views.{type_option}
 use Rattle.fields.proofs.Slots.{no_value, value-is}
 use Rattle.slots.proofs.Tidy.{plain-is}
-use borrow.Author.Rules.{rules}
 use Rattle.fields.proofs.value_side.Goals as goal
 
 pub returns-in-Nothing : goal.returns-in-Nothing

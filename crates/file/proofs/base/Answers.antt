@@ -1,6 +1,5 @@
 use mathlib.Core.Path.{refl}
 use Rattle.file.specs.Steps.{base_of}
-use borrow.Author.Rules.{rules}
 use Rattle.file.proofs.base.Goals as goal
 
 pub returns : goal.returns

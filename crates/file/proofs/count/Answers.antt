@@ -2,7 +2,6 @@ use mathlib.Core.Path.{sym, ap, ◌∙◌}
 use native.Mathlib.Omega.{arith}
 use Rattle.file.proofs.Sections.{count_cut, count-over, count-in}
 use Rattle.file.specs.declared.Step.TheVariants.{Next}
-use borrow.Author.Rules.{rules}
 use Rattle.file.proofs.count.Goals as goal
 
 pub returns-then-file-p-lt2 : goal.returns-then-file-p-lt2

@@ -1,7 +1,6 @@
 use mathlib.Core.Path.{sym}
 use native.Mathlib.Omega.{arith}
 use Rattle.file.proofs.Readers.{fixed-bytes, fixed_in, cut_short, needs-fixed}
-use borrow.Author.Rules.{rules}
 use Rattle.file.proofs.fixed.Goals as goal
 
 pub returns-then-n-file : goal.returns-then-n-file

@@ -1,7 +1,6 @@
 use mathlib.Core.Path.{sym}
 use native.Mathlib.Omega.{arith}
 use Rattle.file.proofs.Leaves.{fuzzy-cut, fuzzy-bad, fuzzy-in}
-use borrow.Author.Rules.{rules}
 use Rattle.file.proofs.fuzzy_end.Goals as goal
 
 pub returns-then-file-p-lt4 : goal.returns-then-file-p-lt4

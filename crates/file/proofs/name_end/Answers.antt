@@ -1,7 +1,6 @@
 use mathlib.Core.Path.{sym, ◌∙◌}
 use native.Mathlib.Omega.{arith}
 use Rattle.file.proofs.Leaves.{name-cut, name-short, name-whole}
-use borrow.Author.Rules.{rules}
 use Rattle.file.proofs.name_end.Goals as goal
 
 pub returns-then-at-file : goal.returns-then-at-file

@@ -1,9 +1,6 @@
-use borrow.Author.Rules.{rules}
-use mathlib.Core.Path.{◌≡◌, refl, sym, ◌∙◌}
+use mathlib.Core.Path.{refl, sym, ◌∙◌}
 use native.Mathlib.Omega.{arith}
-use Prim.Native.Nat.{◌≤◌, ◌-◌}
-use lib.ListN.{length, length-set}
-use Rattle.file.specs.Steps.{emptied}
+use lib.ListN.{length-set}
 use Rattle.file.proofs.Sections.{roomy}
 use Rattle.file.proofs.Empty.{emptied-none, emptied-more}
 use Rattle.file.proofs.no_records.Goals as goal

@@ -1,11 +1,7 @@
-use borrow.Author.Rules.{rules}
-use mathlib.Core.Path.{◌≡◌, refl, sym, ◌∙◌}
-use native.Mathlib.Omega.{arith}
+use mathlib.Core.Path.{◌≡◌}
 use Prim.Native.Nat.{◌≤◌, ◌-◌}
-use lib.ListN.{length, length-set}
+use lib.ListN.{length}
 use Rattle.file.specs.Steps.{emptied}
-use Rattle.file.proofs.Sections.{roomy}
-use Rattle.file.proofs.Empty.{emptied-none, emptied-more}
 use Rattle.file.proofs.no_records.Given as goal
 
 abbrev pub invariant-loop-s : goal.invariant-loop-s

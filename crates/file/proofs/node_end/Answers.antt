@@ -1,4 +1,3 @@
-use borrow.Author.Rules.{rules}
 use mathlib.Core.Path.{sym, ◌∙◌}
 use native.Mathlib.Omega.{arith}
 use Rattle.file.proofs.Leaves.{node-cut, node-plain, node-bytes, node-fuzzy, node-record, node-bad, node-small}

@@ -1,7 +1,6 @@
 use mathlib.Core.Path.{sym, ◌∙◌}
 use native.Mathlib.Omega.{arith}
 use Rattle.file.proofs.Leaves.{record-name, record-type, record-node, record-binding, record-fetched, record-comparison, record-fixed, record-small}
-use borrow.Author.Rules.{rules}
 use Rattle.file.proofs.record_end.Goals as goal
 
 pub fixed-requires : goal.fixed-requires

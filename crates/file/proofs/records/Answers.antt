@@ -1,11 +1,7 @@
 use mathlib.Core.Path.{◌≡◌, sym, ◌∙◌}
 use native.Mathlib.Omega.{arith}
 use Rattle.file.specs.declared.Step.TheVariants.{Next, Refused}
-use Rattle.file.specs.Steps.{step_at, record_of, starts}
-use Rattle.rules.specs.Read.{many}
-use lib.Seq.{sets}
-use lib.ListN.{length}
-use Prim.Native.Nat.{◌≤◌, ◌+◌}
+use Rattle.file.specs.Steps.{step_at, record_of}
 use borrow.Author.Rules.{rules}
 use Rattle.file.proofs.Sections.{record-within, records-none, records-more, records-fault, stored-none, stored_more, stored-fault}
 use Rattle.file.proofs.records.Goals as goal

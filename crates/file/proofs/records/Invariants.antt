@@ -1,13 +1,9 @@
-use mathlib.Core.Path.{◌≡◌, sym, ◌∙◌}
-use native.Mathlib.Omega.{arith}
-use Rattle.file.specs.declared.Step.TheVariants.{Next, Refused}
+use mathlib.Core.Path.{◌≡◌}
 use Rattle.file.specs.Steps.{step_at, record_of, starts}
 use Rattle.rules.specs.Read.{many}
 use lib.Seq.{sets}
 use lib.ListN.{length}
 use Prim.Native.Nat.{◌≤◌, ◌+◌}
-use borrow.Author.Rules.{rules}
-use Rattle.file.proofs.Sections.{record-within, records-none, records-more, records-fault, stored-none, stored_more, stored-fault}
 use Rattle.file.proofs.records.Given as goal
 
 abbrev pub invariant-loop-left : goal.invariant-loop-left

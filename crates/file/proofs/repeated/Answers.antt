@@ -2,7 +2,6 @@ use mathlib.Core.Path.{sym, ◌∙◌}
 use native.Mathlib.Omega.{arith}
 use Rattle.file.proofs.Readers.{fixed-bytes}
 use Rattle.file.proofs.Leaves.{times, several-cut, several-fixed}
-use borrow.Author.Rules.{rules}
 use Rattle.file.proofs.repeated.Goals as goal
 
 pub returns-then-p-file : goal.returns-then-p-file

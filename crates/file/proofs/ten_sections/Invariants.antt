@@ -1,11 +1,8 @@
-use borrow.Author.Rules.{rules}
-use mathlib.Core.Path.{◌≡◌, refl, sym, ◌∙◌}
-use native.Mathlib.Omega.{arith}
+use mathlib.Core.Path.{◌≡◌}
 use Prim.Native.Nat.{◌≤◌, ◌-◌}
 use lib.ListN.{length}
 use Rattle.rules.specs.Read as Read
 use Rattle.file.specs.Steps.{step_at, sections, filled}
-use Rattle.file.proofs.Sections.{section-within, sections-more, sections-fault, sections-over, sections-whole, filled_none, filled_more, filled-fault, ten-sections}
 use Rattle.file.proofs.ten_sections.Given as goal
 
 abbrev pub invariant-loop-s : goal.invariant-loop-s

@@ -1,7 +1,6 @@
 use mathlib.Core.Path.{sym, ◌∙◌}
 use native.Mathlib.Omega.{arith}
 use Rattle.file.proofs.Leaves.{text-good, text-bad}
-use borrow.Author.Rules.{rules}
 use Rattle.file.proofs.text_end.Goals as goal
 
 pub returns-then-well_formed : goal.returns-then-well_formed

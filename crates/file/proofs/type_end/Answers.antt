@@ -1,7 +1,6 @@
 use mathlib.Core.Path.{sym, ◌∙◌}
 use native.Mathlib.Omega.{arith}
 use Rattle.file.proofs.Leaves.{type-cut, type-plain, type-record, type-union, type-bad, type-small}
-use borrow.Author.Rules.{rules}
 use Rattle.file.proofs.type_end.Goals as goal
 
 pub returns-then-at-file : goal.returns-then-at-file

@@ -1,6 +1,5 @@
 use native.Mathlib.Omega.{arith}
 use Rattle.file.specs.Steps.{word}
-use borrow.Author.Rules.{rules}
 use Rattle.file.proofs.word_at.Goals as goal
 
 pub returns : goal.returns

@@ -1,11 +1,9 @@
-use Prim.Native.Nat.{ℕ, ◌*◌, ◌+◌, ◌<◌}
 use mathlib.Core.Path.{sym, ◌∙◌}
 use native.Mathlib.Omega.{arith}
 use borrow.Author.Rules.{rules}
 use Rattle.rules.proofs.Sound.{passed-all}
 use Rattle.accepted_file.proofs.Ranges.{nodes-lower}
 use Rattle.key.proofs.Rounds.{field-over, field-inject, field_skip, field-report, field-range, field-bytes, field-pieces, field_bound, field-new, field-read, field-opened, field-unresolved}
-use Prim.Native.Nat.{ℕ}
 use mathlib.Core.Path.{◌∙◌}
 use Rattle.accepted_file.proofs.Given.{sound-tables}
 use Rattle.key.proofs.Deeper.{has_room, fits-payload}
@@ -14,15 +12,10 @@ use Rattle.key.proofs.Rounds.{matched-met, matched-bytes, matched-pieces}
 use Rattle.field_cases.proofs.Opens.{count-is}
 use Rattle.tables.specs.Tables.{found_option}
 use mathlib.Core.Path.{ap, refl, sym, ◌∙◌}
-use Rattle.rules.specs.File.{then}
-use Rattle.file.specs.Tables.{tables_of}
-use Rattle.paths.specs.Paths.{path_of}
-use Rattle.walk.specs.Walk.{walk_state}
 use Rattle.key.proofs.Deeper.{has_room, fits-then}
 use Rattle.key.proofs.Quiet.{partial-quiet}
 use Rattle.key.proofs.Rounds.{partial-end}
-use Rattle.key.proofs.Going.{Going, going-first, going-missing, going-given}
-use Prim.Native.Nat.{ℕ, ◌-◌}
+use Rattle.key.proofs.Going.{going-first, going-missing, going-given}
 use Rattle.key.proofs.+field_inject_matched_partial.Goals as goal
 
 pub field-returns-then-level : goal.field-returns-then-level

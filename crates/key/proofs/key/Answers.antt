@@ -1,6 +1,5 @@
 use Rattle.key.proofs.Keys.{fits-field, key-scalar, key-record, key-whole}
 use Rattle.accepted_file.proofs.Given.{sound-tables}
-use borrow.Author.Rules.{rules}
 use Rattle.key.proofs.key.Goals as goal
 
 pub field-requires : goal.field-requires

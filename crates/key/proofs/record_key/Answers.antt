@@ -1,16 +1,10 @@
 use Rattle.field_cases.proofs.Opens.{count-is}
-use borrow.Author.Rules.{rules}
 use mathlib.Core.Path.{refl}
 use native.Mathlib.Omega.{arith}
-use Prim.Native.Nat.{◌-◌}
-use Rattle.rules.specs.File.{field_path}
 use Rattle.rules.proofs.Sound.{passed-all}
-use Rattle.state.specs.Ops.{skip}
-use Rattle.file.specs.Tables.{tables_of}
-use Rattle.walk.specs.Walk.{walk_state}
 use Rattle.accepted_file.proofs.Given.{sound-tables}
 use Rattle.accepted_file.proofs.Ranges.{nodes-lower}
-use Rattle.key.proofs.Going.{Going, going-first}
+use Rattle.key.proofs.Going.{going-first}
 use Rattle.key.proofs.Walked.{going-closed, going-walked}
 use Rattle.key.proofs.Keys.{fits-field, record-end}
 use Rattle.key.proofs.record_key.Goals as goal

@@ -1,5 +1,4 @@
 use Rattle.key.proofs.Answered.{field-none, field-some}
-use borrow.Author.Rules.{rules}
 use Rattle.key.proofs.whole_field.Goals as goal
 
 pub matched-requires : goal.matched-requires

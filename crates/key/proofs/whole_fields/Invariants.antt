@@ -1,12 +1,8 @@
-use native.Mathlib.Omega.{arith}
 use Prim.Native.Nat.{◌-◌}
-use borrow.Author.Rules.{rules}
 use Rattle.file.specs.Tables.{tables_of}
 use Rattle.slots.specs.Slots.{slot_of}
 use Rattle.walk.specs.Walk.{walk_state}
-use Rattle.accepted_file.proofs.Given.{sound-tables}
-use Rattle.key.proofs.Keys.{fits-field}
-use Rattle.key.proofs.Whole.{Matching, matching-first, matching-turn, matching-end, matching-none, fields-inside, fields-count, field-known}
+use Rattle.key.proofs.Whole.{Matching}
 use Rattle.key.proofs.whole_fields.Given as goal
 
 abbrev pub invariant-loop-i : goal.invariant-loop-i

@@ -4,7 +4,6 @@ use Rattle.resolve.proofs.Rooms.{resolved-room}
 use Rattle.resolve.proofs.Answers.{rooms-of, rooms-from}
 use Rattle.slots.proofs.Tidy.{tidy-there}
 use Rattle.resolve.specs.Resolved.{found}
-use borrow.Author.Rules.{rules}
 use Rattle.key.proofs.whole_read.Goals as goal
 
 pub whole_fields-requires : goal.whole_fields-requires

@@ -2,7 +2,6 @@ use mathlib.Core.Path.{ap}
 use Rattle.slots.specs.declared.Slot.{Slot}
 use Rattle.key.proofs.Whole.{whole-bound, whole-new}
 use Rattle.slots.proofs.Tidy.{kind-is}
-use borrow.Author.Rules.{rules}
 use Rattle.key.proofs.whole_variable.Goals as goal
 
 pub returns-then-found : goal.returns-then-found

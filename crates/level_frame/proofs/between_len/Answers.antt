@@ -1,5 +1,4 @@
 use Rattle.level_frame.proofs.Middles.{edges-size, range_size, none-size}
-use borrow.Author.Rules.{rules}
 use Rattle.level_frame.proofs.between_len.Goals as goal
 
 pub returns-then-seek-eq3 : goal.returns-then-seek-eq3

@@ -1,6 +1,5 @@
 use native.Mathlib.Omega.{arith}
 use Rattle.level_frame.proofs.Puts.{none-size, guide-size}
-use borrow.Author.Rules.{rules}
 use Rattle.level_frame.proofs.guide_len.Goals as goal
 
 pub returns-then-kept : goal.returns-then-kept

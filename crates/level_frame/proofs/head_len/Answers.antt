@@ -1,6 +1,5 @@
 use native.Mathlib.Omega.{arith}
 use Rattle.level_frame.proofs.Puts.{head-joined, head-other}
-use borrow.Author.Rules.{rules}
 use Rattle.level_frame.proofs.head_len.Goals as goal
 
 pub returns-then-seek_number-eq0 : goal.returns-then-seek_number-eq0

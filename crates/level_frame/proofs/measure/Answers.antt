@@ -1,5 +1,4 @@
 use Rattle.level_frame.proofs.Middles.{framed}
-use borrow.Author.Rules.{rules}
 use Rattle.level_frame.proofs.measure.Goals as goal
 
 pub returns : goal.returns

@@ -1,5 +1,4 @@
 use Rattle.level_frame.proofs.Middles.{middle-size}
-use borrow.Author.Rules.{rules}
 use Rattle.level_frame.proofs.middle_len.Goals as goal
 
 pub returns : goal.returns

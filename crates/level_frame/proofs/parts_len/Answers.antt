@@ -1,6 +1,5 @@
 use native.Mathlib.Omega.{arith}
 use Rattle.level_frame.proofs.Puts.{parts-joined, parts-other}
-use borrow.Author.Rules.{rules}
 use Rattle.level_frame.proofs.parts_len.Goals as goal
 
 pub returns-then-seek_number-eq0 : goal.returns-then-seek_number-eq0

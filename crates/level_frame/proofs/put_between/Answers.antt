@@ -1,7 +1,6 @@
 use native.Mathlib.Omega.{arith}
 use Rattle.file.specs.Tables.{tables_of}
 use Rattle.level_frame.proofs.Middles.{edges-small, range_small, put-edges, put-range, put-bare}
-use borrow.Author.Rules.{rules}
 use Rattle.level_frame.proofs.put_between.Goals as goal
 
 pub put_edge-p-requires : goal.put_edge-p-requires

@@ -1,6 +1,5 @@
 use Rattle.level_frame.proofs.Middles.{put-frame}
 use Rattle.level_frame.proofs.Places.{middle-small, middle-near, at-near, tail-near}
-use borrow.Author.Rules.{rules}
 use Rattle.level_frame.proofs.put_frame.Goals as goal
 
 pub put_head-requires : goal.put_head-requires

@@ -1,5 +1,4 @@
 use Rattle.level_frame.proofs.Puts.{put-unset, put-set}
-use borrow.Author.Rules.{rules}
 use Rattle.level_frame.proofs.put_guide.Goals as goal
 
 pub returns-then-kept : goal.returns-then-kept

@@ -1,6 +1,5 @@
 use native.Mathlib.Omega.{arith}
 use Rattle.level_frame.proofs.Middles.{between-small, guide-near, count-near, put-middle}
-use borrow.Author.Rules.{rules}
 use Rattle.level_frame.proofs.put_middle.Goals as goal
 
 pub put_between-p-requires : goal.put_between-p-requires

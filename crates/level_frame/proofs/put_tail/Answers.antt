@@ -1,6 +1,5 @@
 use native.Mathlib.Omega.{arith}
 use Rattle.level_frame.proofs.Puts.{tail_none, tail-one, tail-two}
-use borrow.Author.Rules.{rules}
 use Rattle.level_frame.proofs.put_tail.Goals as goal
 
 pub returns-then-n-eq0 : goal.returns-then-n-eq0

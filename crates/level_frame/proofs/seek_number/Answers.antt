@@ -1,5 +1,4 @@
 use Rattle.level_frame.proofs.Seeks.{with-lo, with-hi, with-range, plain-parts, other-parts}
-use borrow.Author.Rules.{rules}
 use Rattle.level_frame.proofs.seek_number.Goals as goal
 
 pub returns-then-lo : goal.returns-then-lo

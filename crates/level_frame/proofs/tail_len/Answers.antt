@@ -1,6 +1,5 @@
 use native.Mathlib.Omega.{arith}
 use Rattle.level_frame.proofs.Puts.{tail-size}
-use borrow.Author.Rules.{rules}
 use Rattle.level_frame.proofs.tail_len.Goals as goal
 
 pub returns : goal.returns

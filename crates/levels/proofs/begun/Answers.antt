@@ -2,7 +2,6 @@ use mathlib.Core.Path.{ap}
 use Rattle.lists.specs.Lists.{ends_of}
 use Rattle.walk.specs.Walk.{with_lists}
 use Rattle.levels.proofs.Walks.{begun-is}
-use borrow.Author.Rules.{rules}
 use Rattle.levels.proofs.begun.Goals as goal
 
 pub returns : goal.returns

@@ -7,7 +7,6 @@ use Rattle.lists.specs.Lists.{ends_of}
 use Rattle.level_frame.proofs.Places.{past-limit, past_room, in-room, end_is}
 use Rattle.levels.specs.declared.Written.{Written}
 use Rattle.levels.proofs.Writes.{over-left, long-left, fits-left}
-use borrow.Author.Rules.{rules}
 use Rattle.levels.proofs.ended.Goals as goal
 
 pub returns-then-lists : goal.returns-then-lists

@@ -1,6 +1,5 @@
 use native.Mathlib.Omega.{arith}
 use Rattle.levels.proofs.Writes.{finished-over, finished-long, finished-fits}
-use borrow.Author.Rules.{rules}
 use Rattle.levels.proofs.finished.Goals as goal
 
 pub returns-then-lists : goal.returns-then-lists

@@ -1,7 +1,6 @@
 use Rattle.file.specs.Tables.{tables_of}
 use Rattle.views.specs.Views.{level_entry_at}
 use Rattle.levels.proofs.Writes.{level-is}
-use borrow.Author.Rules.{rules}
 use Rattle.levels.proofs.level.Goals as goal
 
 pub ended-requires : goal.ended-requires

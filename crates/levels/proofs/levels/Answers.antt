@@ -1,8 +1,5 @@
 use native.Mathlib.Omega.{arith}
-use Prim.Native.Nat.{◌-◌}
-use borrow.Author.Rules.{rules}
-use Rattle.file.specs.Tables.{tables_of}
-use Rattle.levels.proofs.Between.{Going, going_start, going_more, going-over, going_end}
+use Rattle.levels.proofs.Between.{going_start, going_more, going-over, going_end}
 use Rattle.levels.proofs.levels.Goals as goal
 
 named : {A B : Type 0} → A × B → record { writes : A; bounded : B }

@@ -1,8 +1,6 @@
-use native.Mathlib.Omega.{arith}
 use Prim.Native.Nat.{◌-◌}
-use borrow.Author.Rules.{rules}
 use Rattle.file.specs.Tables.{tables_of}
-use Rattle.levels.proofs.Between.{Going, going_start, going_more, going-over, going_end}
+use Rattle.levels.proofs.Between.{Going}
 use Rattle.levels.proofs.levels.Given as goal
 
 abbrev pub invariant-loop-k : goal.invariant-loop-k

@@ -7,7 +7,6 @@ use Rattle.lists.specs.Lists.{ends_of}
 use Rattle.level_frame.proofs.Middles.{nodes-near}
 use Rattle.level_frame.proofs.Places.{parts-near, rest-near}
 use Rattle.levels.proofs.Walks.{paged-is, again-is, lists-left}
-use borrow.Author.Rules.{rules}
 use Rattle.levels.proofs.placed.Goals as goal
 
 pub writing-t-requires : goal.writing-t-requires

@@ -1,6 +1,5 @@
 use Rattle.file.specs.Tables.{tables_of}
 use Rattle.levels.proofs.Walks.{walked-is, key_in}
-use borrow.Author.Rules.{rules}
 use Rattle.levels.proofs.walked.Goals as goal
 
 pub key-requires : goal.key-requires

@@ -1,7 +1,6 @@
 use mathlib.Core.Path.{refl}
 use Rattle.file.specs.Tables.{tables_of}
 use Rattle.levels.proofs.Writes.{write-is}
-use borrow.Author.Rules.{rules}
 use Rattle.levels.proofs.write.Goals as goal
 
 pub returns : goal.returns

@@ -1,5 +1,4 @@
 use Rattle.levels.proofs.Walks.{target_is}
-use borrow.Author.Rules.{rules}
 use Rattle.levels.proofs.writing.Goals as goal
 
 pub returns : goal.returns

@@ -1,6 +1,5 @@
 use mathlib.Core.Path.{ap₂}
 use Prim.Native.Nat.{ℕ, ◌+◌, ◌*◌, ◌%◌}
-use borrow.Author.Rules.{rules}
 use Rattle.lines.specs.Lines.{byte}
 use Rattle.lines.proofs.byte.Goals as goal
 

@@ -1,5 +1,4 @@
 use Rattle.lines.proofs.Hexes.{digit_low, digit-high}
-use borrow.Author.Rules.{rules}
 use Rattle.lines.proofs.digit.Goals as goal
 
 pub returns-then-n-lt10 : goal.returns-then-n-lt10

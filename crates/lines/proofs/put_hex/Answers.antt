@@ -1,9 +1,6 @@
-use mathlib.Core.Path.{◌≡◌, refl, sym, ◌∙◌}
-use Prim.Native.Nat.{◌*◌, ◌-◌, ◌≤◌}
+use mathlib.Core.Path.{refl, sym, ◌∙◌}
 use native.Mathlib.Omega.{arith}
-use lib.ListN.{length, drop, length-set}
-use lib.Seq.{sets}
-use Rattle.lines.specs.Lines.{hex}
+use lib.ListN.{length-set}
 use Rattle.lines.proofs.Hexes.{hex-more, hex-end}
 use Rattle.lines.proofs.put_hex.Goals as goal
 

@@ -1,7 +1,6 @@
 use mathlib.Core.Path.{sym}
 use lib.Seq.{length-take-le}
 use Rattle.lines.proofs.Calls.{hex-fits, put-planned, put_refused}
-use borrow.Author.Rules.{rules}
 use Rattle.lines.proofs.put_line.Goals as goal
 
 named : {A B : Type 0} → A × B → record { gives : A; leaves : B }

@@ -3,7 +3,6 @@ use native.Mathlib.Omega.{arith}
 use lib.ListN.{length, length-set}
 use lib.Seq.{sets}
 use Rattle.lines.proofs.Hexes.{refusal-one, refusal-two}
-use borrow.Author.Rules.{rules}
 use Rattle.lines.proofs.put_refusal.Goals as goal
 
 pub bounds-out-1 : goal.bounds-out-1

@@ -1,10 +1,6 @@
-use mathlib.Core.Path.{◌≡◌, refl, sym, ◌∙◌}
-use Prim.Native.Nat.{◌*◌, ◌/◌, ◌-◌, ◌≤◌}
+use mathlib.Core.Path.{refl, sym, ◌∙◌}
 use native.Mathlib.Omega.{arith}
-use borrow.Author.Rules.{rules}
-use lib.ListN.{length, drop, length-set}
-use lib.Seq.{sets}
-use Rattle.lines.specs.Lines.{unhex}
+use lib.ListN.{length-set}
 use Rattle.lines.proofs.Hexes.{unhex-more, unhex-end}
 use Rattle.lines.proofs.unhex.Goals as goal
 

@@ -5,7 +5,6 @@ use Rattle.records.proofs.Stores.{next}
 use Rattle.state.specs.Ops as Ops
 use Rattle.lists.proofs.Appends.{over, not-over, stops, appended, no_room, counted, too_many}
 use Rattle.lists.proofs.Forms.{binding-end, noted-after}
-use borrow.Author.Rules.{rules}
 use Rattle.lists.proofs.bind.Goals as goal
 
 pub returns-then-l : goal.returns-then-l

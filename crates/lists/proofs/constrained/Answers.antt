@@ -1,7 +1,6 @@
 use Rattle.rules.specs.Plan as Plan
 use Rattle.state.specs.Ops as Ops
 use Rattle.lists.proofs.Appends.{over, not-over, stops, appended-down, no-room-down}
-use borrow.Author.Rules.{rules}
 use Rattle.lists.proofs.constrained.Goals as goal
 
 pub returns-then-l : goal.returns-then-l

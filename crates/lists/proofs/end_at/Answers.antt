@@ -1,6 +1,5 @@
 use native.Mathlib.Omega.{arith}
 use Rattle.lists.proofs.Bounds.{size_small, end-cut, end-bad, plain_in, plain-cut}
-use borrow.Author.Rules.{rules}
 use Rattle.lists.proofs.end_at.Goals as goal
 
 pub returns-then-left-lt3 : goal.returns-then-left-lt3

@@ -1,6 +1,5 @@
 use native.Mathlib.Omega.{arith}
 use Rattle.lists.proofs.Bounds.{field-short, field_in, field_cut}
-use borrow.Author.Rules.{rules}
 use Rattle.lists.proofs.field_end.Goals as goal
 
 pub returns-then-left-lt8 : goal.returns-then-left-lt8

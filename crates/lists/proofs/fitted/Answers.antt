@@ -1,6 +1,5 @@
 use mathlib.Core.Path.{sym, ◌∙◌}
 use Rattle.lists.proofs.Fits.{short, fitted-yes, fitted-no}
-use borrow.Author.Rules.{rules}
 use Rattle.lists.proofs.fitted.Goals as goal
 
 pub slot_of-requires : goal.slot_of-requires

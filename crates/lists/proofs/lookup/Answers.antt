@@ -1,6 +1,5 @@
 use Rattle.slots.proofs.Tidy.{slot-as}
 use Rattle.lists.proofs.Finds.{view-inside, of-made, of-file}
-use borrow.Author.Rules.{rules}
 use Rattle.lists.proofs.lookup.Goals as goal
 
 pub fitted-requires : goal.fitted-requires

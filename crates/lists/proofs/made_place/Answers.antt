@@ -1,7 +1,6 @@
 use mathlib.Core.Path.{sym, ◌∙◌}
 use Rattle.state.specs.State.{number_at, place_at}
 use Rattle.lists.proofs.Scans.{place-past, place_here, place_none}
-use borrow.Author.Rules.{rules}
 use Rattle.lists.proofs.made_place.Goals as goal
 
 named : {A B : Type 0} → A × B → record { shows : A; place : B }

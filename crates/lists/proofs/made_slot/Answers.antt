@@ -1,5 +1,4 @@
 use Rattle.lists.proofs.Scans.{found-reads, found-slot, found_none, view-found, view-none}
-use borrow.Author.Rules.{rules}
 use Rattle.lists.proofs.made_slot.Goals as goal
 
 pub slot_at-requires : goal.slot_at-requires

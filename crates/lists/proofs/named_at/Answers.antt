@@ -1,9 +1,7 @@
-use native.Mathlib.Omega.{arith}
 use mathlib.Core.Path.{ap, ◌∙◌}
 use Prim.Native.Nat.{ℕ}
 use lib.Dec.{eqb}
 use Rattle.lists.proofs.Scans.{named_past, named_none, name-inside, named-word}
-use borrow.Author.Rules.{rules}
 use Rattle.lists.proofs.named_at.Goals as goal
 
 pub returns-then-bytes-p : goal.returns-then-bytes-p

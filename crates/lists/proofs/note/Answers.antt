@@ -4,7 +4,6 @@ use Prim.Native.Nat.{ℕ}
 use Rattle.rules.specs.Plan as Plan
 use Rattle.state.specs.State.{number_at, place_at, noted}
 use Rattle.records.specs.Records.{put}
-use borrow.Author.Rules.{rules}
 use Rattle.lists.proofs.note.Goals as goal
 
 pub returns : goal.returns

@@ -1,5 +1,4 @@
 use Rattle.lists.proofs.Fits.{in-section, past-section}
-use borrow.Author.Rules.{rules}
 use Rattle.lists.proofs.numbered.Goals as goal
 
 pub returns-then-n-count_of : goal.returns-then-n-count_of

@@ -3,7 +3,6 @@ use Rattle.file.specs.Tables.{tables_of}
 use Rattle.state.specs.Ops.{checked_slot}
 use Rattle.slots.proofs.Tidy.{no-slot, slot-as}
 use Rattle.lists.proofs.Finds.{view-inside, view-is, nothing_is}
-use borrow.Author.Rules.{rules}
 use Rattle.lists.proofs.own_slot.Goals as goal
 
 pub fitted-requires : goal.fitted-requires

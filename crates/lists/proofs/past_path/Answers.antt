@@ -1,7 +1,6 @@
 use mathlib.Core.Path.{ap, ◌∙◌}
 use Prim.Native.Nat.{ℕ, ◌+◌, ◌*◌}
 use Rattle.file.specs.Steps.{word}
-use borrow.Author.Rules.{rules}
 use Rattle.lists.proofs.past_path.Goals as goal
 
 pub returns : goal.returns

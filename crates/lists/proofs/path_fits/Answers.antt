@@ -1,9 +1,7 @@
 use Prim.Native.Nat.{◌+◌}
 use native.Mathlib.Omega.{arith}
-use borrow.Author.Tests.{not-true, not-false}
 use Rattle.views.specs.Views.{PathInside}
 use Rattle.lists.proofs.Fits.{type-low, no-type, has_room, no_room}
-use borrow.Author.Rules.{rules}
 use Rattle.lists.proofs.path_fits.Goals as goal
 
 pub returns-then-not-numbered : goal.returns-then-not-numbered

@@ -1,5 +1,4 @@
 use Rattle.lists.proofs.Bounds.{size-four}
-use borrow.Author.Rules.{rules}
 use Rattle.lists.proofs.plain_size.Goals as goal
 
 pub returns : goal.returns

@@ -1,7 +1,6 @@
 use mathlib.Core.Path.{ap, ◌∙◌}
 use Rattle.views.specs.Views.{predicate_maybe}
 use Rattle.views.proofs.Entries.{no-predicate, a-predicate}
-use borrow.Author.Rules.{rules}
 use Rattle.lists.proofs.predicate_from.Goals as goal
 
 pub returns-then-n-eq65535 : goal.returns-then-n-eq65535

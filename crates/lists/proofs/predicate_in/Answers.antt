@@ -1,5 +1,4 @@
 use Rattle.lists.proofs.Fits.{no-predicate, some-predicate}
-use borrow.Author.Rules.{rules}
 use Rattle.lists.proofs.predicate_in.Goals as goal
 
 pub returns-in-Nothing : goal.returns-in-Nothing

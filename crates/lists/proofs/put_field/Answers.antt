@@ -3,7 +3,6 @@ use native.Mathlib.Omega.{arith}
 use Rattle.rules.specs.Plan as Plan
 use Rattle.records.proofs.Stores.{next}
 use Rattle.lists.proofs.Forms.{one-is}
-use borrow.Author.Rules.{rules}
 use Rattle.lists.proofs.put_field.Goals as goal
 
 pub returns : goal.returns

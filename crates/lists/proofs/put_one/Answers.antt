@@ -1,7 +1,6 @@
 use mathlib.Core.Path.{refl}
 use Rattle.rules.specs.Plan as Plan
 use Rattle.records.proofs.Stores.{next}
-use borrow.Author.Rules.{rules}
 use Rattle.lists.proofs.put_one.Goals as goal
 
 pub returns : goal.returns

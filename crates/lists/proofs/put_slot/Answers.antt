@@ -3,7 +3,6 @@ use Rattle.rules.specs.Plan as Plan
 use mathlib.Core.List.{◌∷◌, ◌++◌}
 use Prim.Native.Nat.{ℕ}
 use Rattle.lists.proofs.Forms.{slot-put, two_is}
-use borrow.Author.Rules.{rules}
 use Rattle.lists.proofs.put_slot.Goals as goal
 
 pub returns-in-Row : goal.returns-in-Row

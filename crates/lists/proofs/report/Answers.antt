@@ -3,7 +3,6 @@ use Rattle.rules.specs.Plan as Plan
 use Rattle.state.specs.Ops as Ops
 use Rattle.records.proofs.Stores.{next, byte-is}
 use Rattle.lists.proofs.Appends.{over, not-over, stops, appended-down, no-room-down}
-use borrow.Author.Rules.{rules}
 use Rattle.lists.proofs.report.Goals as goal
 
 pub returns-then-l : goal.returns-then-l

@@ -5,7 +5,6 @@ use Rattle.rules.specs.Plan as Plan
 use Rattle.state.specs.Ops as Ops
 use Rattle.records.proofs.Stores.{next, word-is}
 use Rattle.lists.proofs.Appends.{over, not-over, stops, appended, no_room, counted, too_many}
-use borrow.Author.Rules.{rules}
 use Rattle.lists.proofs.select.Goals as goal
 
 pub returns-then-l : goal.returns-then-l

@@ -2,7 +2,6 @@ use mathlib.Core.Path.{refl}
 use Rattle.rules.specs.Checks.{is_type}
 use Rattle.state.specs.Ops.{roomy}
 use Rattle.lists.proofs.Fits.{fits-as, inside-as}
-use borrow.Author.Rules.{rules}
 use Rattle.lists.proofs.slot_fits.Goals as goal
 
 pub path_fits-requires : goal.path_fits-requires

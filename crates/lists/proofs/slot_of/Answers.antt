@@ -1,6 +1,5 @@
 use mathlib.Core.Path.{refl}
 use Rattle.lists.proofs.Fits.{plain-slot, field-slot, inside-as, short-as}
-use borrow.Author.Rules.{rules}
 use Rattle.lists.proofs.slot_of.Goals as goal
 
 pub path_at-requires : goal.path_at-requires

@@ -2,7 +2,6 @@ use mathlib.Core.Path.{refl}
 use native.Mathlib.Omega.{arith}
 use Rattle.rules.specs.Plan as Plan
 use Rattle.lists.proofs.Forms.{slot-size, field-size}
-use borrow.Author.Rules.{rules}
 use Rattle.lists.proofs.slot_size.Goals as goal
 
 pub returns-in-Row : goal.returns-in-Row

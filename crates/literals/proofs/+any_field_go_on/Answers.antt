@@ -1,16 +1,13 @@
 use Rattle.field_cases.proofs.Opens.{count-is}
 use mathlib.Core.Path.{sym, ap, ◌∙◌}
 use native.Mathlib.Omega.{arith}
-use borrow.Author.Rules.{rules}
-use Rattle.rules.specs.Literals.{meets_below}
 use Rattle.file.specs.Tables.{tables_of}
 use Rattle.accepted_file.proofs.Given.{sound-tables}
 use Rattle.tables.specs.Tables.{found_option}
 use Rattle.tables.proofs.Recalls.{any-node, any-recalled}
-use Rattle.literals.proofs.Going.{Going, going-first, going-missing, going-clear, going-met, going_end}
+use Rattle.literals.proofs.Going.{going-first, going-missing, going-clear, going-met, going_end}
 use Rattle.literals.proofs.Steps.{met-known, met-fields, met-below, met-payload, payload-below, stepped-in}
 use Rattle.literals.proofs.Same.{recalled-met}
-use Prim.Native.Nat.{ℕ, ◌<◌, ◌+◌, ◌-◌, ◌*◌}
 use Rattle.literals.proofs.+any_field_go_on.Goals as goal
 
 pub any_field-pieces-opened-requires : goal.any_field-pieces-opened-requires

@@ -1,5 +1,4 @@
 use Rattle.literals.proofs.Seen.{brought-plain, brought-lacks, brought-opens}
-use borrow.Author.Rules.{rules}
 use Rattle.literals.proofs.brought.Goals as goal
 
 pub returns-in_default : goal.returns-in_default

@@ -1,6 +1,5 @@
 use Rattle.accepted_file.proofs.Given.{sound-tables}
 use Rattle.literals.proofs.Steps.{met-brought, put_in}
-use borrow.Author.Rules.{rules}
 use Rattle.literals.proofs.brought_meets.Goals as goal
 
 pub go_on-requires : goal.go_on-requires

@@ -1,10 +1,6 @@
-use mathlib.Core.Path.{◌≡◌, ap, ◌∙◌}
-use native.Mathlib.Omega.{arith}
-use borrow.Author.Rules.{rules}
-use lib.ListN.{length}
 use Rattle.file.specs.Tables.{tables_of}
 use Rattle.tables.specs.Tables.{found_option}
-use Rattle.literals.proofs.Chains.{Up, up_first, up_more, up_none, up-end}
+use Rattle.literals.proofs.Chains.{Up}
 use Rattle.literals.proofs.climb.Given as goal
 
 abbrev pub invariant-loop-k : goal.invariant-loop-k

@@ -5,7 +5,6 @@ use Rattle.accepted_file.proofs.Ranges.{nodes-lower}
 use Rattle.accepted_file.proofs.Given.{few-nodes}
 use Rattle.resolve.proofs.Chains.{chain-few, passed-within}
 use Rattle.literals.proofs.Chains.{chain-is}
-use borrow.Author.Rules.{rules}
 use Rattle.literals.proofs.folded_long.Goals as goal
 
 pub climb-requires : goal.climb-requires

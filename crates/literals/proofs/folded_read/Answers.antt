@@ -1,10 +1,8 @@
-use native.Mathlib.Omega.{arith}
 use lib.ListN.{replicate}
 use Rattle.rules.proofs.Sound.{passed-all}
 use Rattle.accepted_file.proofs.Ranges.{nodes-lower}
 use Rattle.resolve.proofs.Chains.{not-filled, passed-within}
 use Rattle.literals.proofs.Chains.{chain-is}
-use borrow.Author.Rules.{rules}
 use Rattle.literals.proofs.folded_read.Goals as goal
 
 pub climb-requires : goal.climb-requires

@@ -1,9 +1,6 @@
-use mathlib.Core.Path.{sym, ◌∙◌}
 use Prim.Native.Nat.{◌-◌}
-use native.Mathlib.Omega.{arith}
-use borrow.Author.Rules.{rules}
 use Rattle.file.specs.Tables.{tables_of}
-use Rattle.literals.proofs.Constants.{Seeking, seeking-first, seeking-more, seeking-found, seeking-end}
+use Rattle.literals.proofs.Constants.{Seeking}
 use Rattle.literals.proofs.has_constant.Given as goal
 
 abbrev pub invariant-loop-k : goal.invariant-loop-k

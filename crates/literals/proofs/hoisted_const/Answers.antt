@@ -3,7 +3,6 @@ use mathlib.Core.Option.{none, some}
 use Rattle.rules.specs.Base.{◌when_some◌}
 use Rattle.fields.specs.Found.{name_option}
 use Rattle.literals.proofs.Seen.{hoisted_by}
-use borrow.Author.Rules.{rules}
 use Rattle.literals.proofs.hoisted_const.Goals as goal
 
 pub returns-in-Nothing : goal.returns-in-Nothing

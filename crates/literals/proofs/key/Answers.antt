@@ -1,7 +1,6 @@
 use Rattle.accepted_file.proofs.Given.{sound-tables}
 use Rattle.literals.proofs.Steps.{met-whole, stepped-in}
 use Rattle.literals.proofs.Seen.{key-scalar, key-record, key-whole}
-use borrow.Author.Rules.{rules}
 use Rattle.literals.proofs.key.Goals as goal
 
 pub go_on-requires : goal.go_on-requires

@@ -1,6 +1,5 @@
 use Rattle.accepted_file.proofs.Given.{sound-tables}
 use Rattle.literals.proofs.Seen.{level-is, key_in, key-sound}
-use borrow.Author.Rules.{rules}
 use Rattle.literals.proofs.level_meets.Goals as goal
 
 pub key-requires : goal.key-requires

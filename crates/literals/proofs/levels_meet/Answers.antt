@@ -1,12 +1,8 @@
 use mathlib.Core.Path.{sym, ◌∙◌}
-use Prim.Native.Nat.{◌-◌}
 use native.Mathlib.Omega.{arith}
-use borrow.Author.Rules.{rules}
-use borrow.Author.Tests.{not-true}
 use Rattle.rules.proofs.Sound.{passed-all}
-use Rattle.file.specs.Tables.{tables_of}
 use Rattle.literals.proofs.Constants.{levels-none}
-use Rattle.literals.proofs.Going.{Clear, clear_first, clear-more, clear-met, clear-end}
+use Rattle.literals.proofs.Going.{clear_first, clear-more, clear-met, clear-end}
 use Rattle.literals.proofs.levels_meet.Goals as goal
 
 pub returns-then-not-has_constant : goal.returns-then-not-has_constant

@@ -1,5 +1,4 @@
 use Rattle.literals.proofs.Seen.{payload-many, payload-none, payload-some}
-use borrow.Author.Rules.{rules}
 use Rattle.literals.proofs.payload.Goals as goal
 
 pub returns-then-n-ne1 : goal.returns-then-n-ne1

@@ -1,7 +1,6 @@
 use mathlib.Core.Path.{refl, ap}
 use Rattle.tables.specs.Tables.{found_option}
 use Rattle.literals.proofs.Seen.{standing-none, standing-some}
-use borrow.Author.Rules.{rules}
 use Rattle.literals.proofs.standing.Goals as goal
 
 pub brought-requires : goal.brought-requires

@@ -4,7 +4,6 @@ use Rattle.rules.proofs.Sound.{passed-all}
 use Rattle.tables.specs.Tables.{found_option}
 use Rattle.literals.proofs.Chains.{folded-is-constant}
 use Rattle.literals.proofs.Seen.{whole-none, whole_plain, whole-record}
-use borrow.Author.Rules.{rules}
 use Rattle.literals.proofs.whole.Goals as goal
 
 pub returns-in_default : goal.returns-in_default

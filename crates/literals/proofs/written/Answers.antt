@@ -1,10 +1,8 @@
 use mathlib.Core.Path.{refl, ap, subst}
-use Rattle.rules.specs.File.{type_at}
 use Rattle.views.specs.Views.{SeenType}
 use Rattle.literals.specs.Steps.{record_step}
 use Rattle.literals.specs.declared.Step.TheVariants.{Known}
 use Rattle.literals.proofs.Seen.{at-type}
-use borrow.Author.Rules.{rules}
 use Rattle.literals.proofs.written.Goals as goal
 
 pub payload-requires : goal.payload-requires

@@ -3,7 +3,6 @@ use mathlib.Core.Path.{ap, ◌∙◌}
 use lib.Dec.{leb}
 use Rattle.seek.specs.Seek.{counts_of, sums_of}
 use Rattle.page.proofs.Pages.{no_room, room}
-use borrow.Author.Rules.{rules}
 use Rattle.page.proofs.is_paged.Goals as goal
 
 pub returns-then-wide32-gt-PAGE_REST : goal.returns-then-wide32-gt-PAGE_REST

@@ -1,7 +1,6 @@
 use native.Mathlib.Omega.{arith}
-use Prim.Native.Nat.{◌-◌}
 use mathlib.Core.Path.{refl, ◌∙◌}
-use Rattle.page.proofs.Pages.{Joining, joining-start, joining-more, joining-end}
+use Rattle.page.proofs.Pages.{joining-start, joining-more, joining-end}
 use Rattle.page.proofs.join_parts.Goals as goal
 
 pub loop-i-init : goal.loop-i-init

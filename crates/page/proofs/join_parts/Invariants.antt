@@ -1,7 +1,5 @@
-use native.Mathlib.Omega.{arith}
 use Prim.Native.Nat.{◌-◌}
-use mathlib.Core.Path.{refl, ◌∙◌}
-use Rattle.page.proofs.Pages.{Joining, joining-start, joining-more, joining-end}
+use Rattle.page.proofs.Pages.{Joining}
 use Rattle.page.proofs.join_parts.Given as goal
 
 abbrev pub invariant-loop-i : goal.invariant-loop-i

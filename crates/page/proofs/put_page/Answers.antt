@@ -1,6 +1,5 @@
 use Rattle.seek.specs.Seek.{counts_of, sums_of, target_of}
 use Rattle.page.proofs.Pages.{page-put}
-use borrow.Author.Rules.{rules}
 use Rattle.page.proofs.put_page.Goals as goal
 
 pub returns : goal.returns

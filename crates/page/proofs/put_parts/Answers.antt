@@ -2,7 +2,6 @@ use Prim.Native.Nat.{◌+◌}
 use native.Mathlib.Omega.{arith}
 use Rattle.seek.specs.Seek.{counts_of, sums_of, target_of}
 use Rattle.page.proofs.Pages.{parts-joined, parts-apart}
-use borrow.Author.Rules.{rules}
 use Rattle.page.proofs.put_parts.Goals as goal
 
 pub returns-then-t : goal.returns-then-t

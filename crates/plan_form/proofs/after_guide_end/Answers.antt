@@ -2,7 +2,6 @@ use mathlib.Core.Path.{sym, ◌∙◌}
 use native.Mathlib.Omega.{arith}
 use Rattle.plan_form.proofs.Cases.{within}
 use Rattle.plan_form.proofs.Lists.{after_guide-next, after_guide-fault, suffix-residuals}
-use borrow.Author.Rules.{rules}
 use Rattle.plan_form.proofs.after_guide_end.Goals as goal
 
 pub words_end-requires : goal.words_end-requires

@@ -3,7 +3,6 @@ use native.Mathlib.Omega.{arith}
 use Rattle.plan_form.proofs.Cases.{within}
 use Rattle.plan_form.proofs.Lists.{after_seek-next, after_seek-fault}
 use Rattle.plan_form.proofs.Forward.{suffix-guide}
-use borrow.Author.Rules.{rules}
 use Rattle.plan_form.proofs.after_seek_end.Goals as goal
 
 pub after_guide_end-requires : goal.after_guide_end-requires

@@ -2,7 +2,6 @@ use mathlib.Core.Path.{sym, ◌∙◌}
 use native.Mathlib.Omega.{arith}
 use Rattle.plan_form.proofs.Cases.{within}
 use Rattle.plan_form.proofs.Lists.{bounded_seek-next, bounded_seek-fault, suffix-parts}
-use borrow.Author.Rules.{rules}
 use Rattle.plan_form.proofs.bounded_seek_end.Goals as goal
 
 pub edges_end-requires : goal.edges_end-requires

@@ -1,7 +1,6 @@
 use mathlib.Core.Path.{sym}
 use native.Mathlib.Omega.{arith}
 use Rattle.plan_form.proofs.Cases.{diagnostic-cut, diagnostic-zero, diagnostic-bad, diagnostic-in}
-use borrow.Author.Rules.{rules}
 use Rattle.plan_form.proofs.diagnostic_end.Goals as goal
 
 pub returns-then-plan-p-lt3 : goal.returns-then-plan-p-lt3

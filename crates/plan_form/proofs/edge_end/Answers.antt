@@ -1,7 +1,6 @@
 use mathlib.Core.Path.{sym, ◌∙◌}
 use native.Mathlib.Omega.{arith}
 use Rattle.plan_form.proofs.Cases.{edge-cut, edge_none, edge-some, edge-bad}
-use borrow.Author.Rules.{rules}
 use Rattle.plan_form.proofs.edge_end.Goals as goal
 
 pub returns-then-p-plan : goal.returns-then-p-plan

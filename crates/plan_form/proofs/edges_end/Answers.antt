@@ -3,7 +3,6 @@ use native.Mathlib.Omega.{arith}
 use Rattle.plan_form.proofs.Cases.{within}
 use Rattle.plan_form.proofs.Lists.{edges-next, edges-fault}
 use Rattle.plan_form.proofs.Forward.{suffix-edge}
-use borrow.Author.Rules.{rules}
 use Rattle.plan_form.proofs.edges_end.Goals as goal
 
 pub edge_end-requires-in-Next : goal.edge_end-requires-in-Next

@@ -2,7 +2,6 @@ use native.Mathlib.Omega.{arith}
 use mathlib.Core.Path.{◌∙◌, subst}
 use Rattle.plan_form.specs.Pieces.{EndsIn}
 use Rattle.plan_form.proofs.Cases.{then_next, then-fault}
-use borrow.Author.Rules.{rules}
 use Rattle.plan_form.proofs.fixed_after.Goals as goal
 
 pub fixed-requires : goal.fixed-requires

@@ -3,7 +3,6 @@ use mathlib.Core.Path.{sym, ap, ◌∙◌}
 use Rattle.plan_form.specs.Pieces.{then_at}
 use Rattle.plan_form.proofs.Cases.{ends-in, within, guide_that-next, guide_that-fault}
 use Rattle.plan_form.proofs.Forward.{suffix-path, suffix-fuzzy_node}
-use borrow.Author.Rules.{rules}
 use Rattle.plan_form.proofs.guide_that_end.Goals as goal
 
 pub fuzzy_end-requires : goal.fuzzy_end-requires

@@ -1,7 +1,6 @@
 use mathlib.Core.Path.{◌∙◌}
 use native.Mathlib.Omega.{arith}
 use Rattle.plan_form.proofs.Lists.{item-part, item-residual, item-binding, item-select, item-diagnostic}
-use borrow.Author.Rules.{rules}
 use Rattle.plan_form.proofs.item_end.Goals as goal
 
 pub returns-in-0 : goal.returns-in-0

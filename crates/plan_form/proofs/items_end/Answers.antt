@@ -1,15 +1,9 @@
-use borrow.Author.Rules.{rules}
 use native.Mathlib.Omega.{arith}
 use Rattle.plan_form.proofs.Cases.{within}
 use Rattle.plan_form.proofs.Lists.{each_more, each-fault}
 use Rattle.plan_form.proofs.Forward.{suffix-item}
-use mathlib.Core.Path.{◌≡◌, sym, ◌∙◌}
-use Prim.Native.Nat.{◌≤◌}
-use lib.ListN.{length}
-use Rattle.rules.specs.Read.{many}
-use Rattle.file.specs.Steps.{step_at}
+use mathlib.Core.Path.{sym, ◌∙◌}
 use Rattle.file.proofs.Readers.{many-none}
-use Rattle.plan_form.specs.Pieces.{item_of}
 use Rattle.plan_form.proofs.items_end.Goals as goal
 
 pub loop-left-preserved : goal.loop-left-preserved

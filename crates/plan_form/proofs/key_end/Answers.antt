@@ -1,7 +1,6 @@
 use mathlib.Core.Path.{sym, ◌∙◌}
 use native.Mathlib.Omega.{arith}
 use Rattle.plan_form.proofs.Cases.{key-cut, key-bytes, key-register, key-fact, key-bad}
-use borrow.Author.Rules.{rules}
 use Rattle.plan_form.proofs.key_end.Goals as goal
 
 pub returns-then-p-plan : goal.returns-then-p-plan

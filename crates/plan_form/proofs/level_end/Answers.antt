@@ -3,7 +3,6 @@ use native.Mathlib.Omega.{arith}
 use Rattle.plan_form.proofs.Cases.{within}
 use Rattle.plan_form.proofs.Lists.{level-cut, level-next, level-fault}
 use Rattle.plan_form.proofs.Forward.{suffix-seek}
-use borrow.Author.Rules.{rules}
 use Rattle.plan_form.proofs.level_end.Goals as goal
 
 pub returns-then-plan-p-lt6 : goal.returns-then-plan-p-lt6

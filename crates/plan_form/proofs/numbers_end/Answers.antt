@@ -1,7 +1,6 @@
 use native.Mathlib.Omega.{arith}
 use mathlib.Core.Path.{sym}
 use Rattle.plan_form.proofs.Cases.{numbers-in, numbers-short}
-use borrow.Author.Rules.{rules}
 use Rattle.plan_form.proofs.numbers_end.Goals as goal
 
 pub returns-then-n-plan : goal.returns-then-n-plan

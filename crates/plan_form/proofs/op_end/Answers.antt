@@ -1,7 +1,6 @@
 use mathlib.Core.Path.{sym, ◌∙◌}
 use native.Mathlib.Omega.{arith}
 use Rattle.plan_form.proofs.Cases.{op-cut, op-text, op-register, op-fact, op-tag, op-fuzzy, op-own, op-bad}
-use borrow.Author.Rules.{rules}
 use Rattle.plan_form.proofs.op_end.Goals as goal
 
 pub returns-then-p-plan : goal.returns-then-p-plan

@@ -1,7 +1,6 @@
 use mathlib.Core.Path.{sym, ◌∙◌}
 use native.Mathlib.Omega.{arith}
 use Rattle.plan_form.proofs.Cases.{path-cut, path-over, path-in}
-use borrow.Author.Rules.{rules}
 use Rattle.plan_form.proofs.path_end.Goals as goal
 
 pub returns-then-plan-p-lt3 : goal.returns-then-plan-p-lt3

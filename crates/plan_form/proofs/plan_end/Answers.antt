@@ -1,11 +1,5 @@
-use mathlib.Core.Path.{◌≡◌, sym, ◌∙◌}
+use mathlib.Core.Path.{sym, ◌∙◌}
 use native.Mathlib.Omega.{arith}
-use borrow.Author.Rules.{rules}
-use Prim.Native.Nat.{◌≤◌, ◌-◌}
-use lib.ListN.{length}
-use Rattle.rules.specs.Reader as Reader
-use Rattle.file.specs.Steps.{step_at}
-use Rattle.plan_form.specs.Pieces.{lists}
 use Rattle.plan_form.proofs.Cases.{within}
 use Rattle.plan_form.proofs.Forward.{suffix-list}
 use Rattle.plan_form.proofs.Lists.{plan-lists, lists-more, lists-fault, lists-over, lists-whole}

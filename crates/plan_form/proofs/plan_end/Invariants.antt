@@ -1,14 +1,9 @@
-use mathlib.Core.Path.{◌≡◌, sym, ◌∙◌}
-use native.Mathlib.Omega.{arith}
-use borrow.Author.Rules.{rules}
+use mathlib.Core.Path.{◌≡◌}
 use Prim.Native.Nat.{◌≤◌, ◌-◌}
 use lib.ListN.{length}
 use Rattle.rules.specs.Reader as Reader
 use Rattle.file.specs.Steps.{step_at}
 use Rattle.plan_form.specs.Pieces.{lists}
-use Rattle.plan_form.proofs.Cases.{within}
-use Rattle.plan_form.proofs.Forward.{suffix-list}
-use Rattle.plan_form.proofs.Lists.{plan-lists, lists-more, lists-fault, lists-over, lists-whole}
 use Rattle.plan_form.proofs.plan_end.Given as goal
 
 abbrev pub invariant-loop-s : goal.invariant-loop-s

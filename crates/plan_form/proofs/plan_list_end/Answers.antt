@@ -1,7 +1,6 @@
 use mathlib.Core.Path.{◌∙◌}
 use native.Mathlib.Omega.{arith}
 use Rattle.plan_form.proofs.Lists.{list-levels, list-bindings, list-constrained, list-selects, list-diagnostics}
-use borrow.Author.Rules.{rules}
 use Rattle.plan_form.proofs.plan_list_end.Goals as goal
 
 pub returns-in-0 : goal.returns-in-0

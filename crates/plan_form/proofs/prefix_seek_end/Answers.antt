@@ -3,7 +3,6 @@ use mathlib.Core.Path.{sym, ◌∙◌}
 use Rattle.plan_form.proofs.Lists.{prefix_seek-next, prefix_seek-fault}
 use Rattle.plan_form.proofs.Cases.{within}
 use Rattle.plan_form.proofs.Forward.{suffix-text}
-use borrow.Author.Rules.{rules}
 use Rattle.plan_form.proofs.prefix_seek_end.Goals as goal
 
 pub numbers_end-requires : goal.numbers_end-requires

@@ -4,7 +4,6 @@ use Rattle.plan_form.specs.Pieces.{then_at}
 use Rattle.plan_form.proofs.Lists.{range-next, range-fault}
 use Rattle.plan_form.proofs.Cases.{ends-in, within}
 use Rattle.plan_form.proofs.Forward.{suffix-text, suffix-path}
-use borrow.Author.Rules.{rules}
 use Rattle.plan_form.proofs.range_end.Goals as goal
 
 pub path_end-requires : goal.path_end-requires

@@ -2,7 +2,6 @@ use mathlib.Core.Path.{sym, ◌∙◌}
 use native.Mathlib.Omega.{arith}
 use Rattle.plan_form.proofs.Cases.{within}
 use Rattle.plan_form.proofs.Lists.{range_seek-next, range_seek-fault, suffix-parts}
-use borrow.Author.Rules.{rules}
 use Rattle.plan_form.proofs.range_seek_end.Goals as goal
 
 pub range_end-requires : goal.range_end-requires

@@ -1,7 +1,6 @@
 use mathlib.Core.Path.{sym, ◌∙◌}
 use native.Mathlib.Omega.{arith}
 use Rattle.plan_form.proofs.Cases.{register-cut, register-in}
-use borrow.Author.Rules.{rules}
 use Rattle.plan_form.proofs.register_end.Goals as goal
 
 pub returns-then-plan-p-lt2 : goal.returns-then-plan-p-lt2

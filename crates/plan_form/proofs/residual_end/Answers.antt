@@ -3,7 +3,6 @@ use mathlib.Core.Path.{sym, ap, ◌∙◌}
 use Rattle.plan_form.specs.Pieces.{then_at}
 use Rattle.plan_form.proofs.Cases.{ends-in, within, residual-next, residual-fault}
 use Rattle.plan_form.proofs.Forward.{suffix-path, suffix-op}
-use borrow.Author.Rules.{rules}
 use Rattle.plan_form.proofs.residual_end.Goals as goal
 
 pub op_end-requires : goal.op_end-requires

@@ -1,7 +1,6 @@
 use mathlib.Core.Path.{sym, ◌∙◌}
 use native.Mathlib.Omega.{arith}
 use Rattle.plan_form.proofs.Lists.{seek-cut, seek-prefix, seek-composite, seek-range, seek-bounded, seek-bad}
-use borrow.Author.Rules.{rules}
 use Rattle.plan_form.proofs.seek_end.Goals as goal
 
 pub returns-then-p-plan : goal.returns-then-p-plan

@@ -3,7 +3,6 @@ use mathlib.Core.Path.{sym, ap, ◌∙◌}
 use Rattle.plan_form.specs.Pieces.{then_at}
 use Rattle.plan_form.proofs.Cases.{select-is, ends-in}
 use Rattle.plan_form.proofs.Forward.{suffix-register_part}
-use borrow.Author.Rules.{rules}
 use Rattle.plan_form.proofs.select_end.Goals as goal
 
 pub fixed_after-requires : goal.fixed_after-requires

@@ -1,7 +1,6 @@
 use mathlib.Core.Path.{sym, ◌∙◌}
 use native.Mathlib.Omega.{arith}
 use Rattle.plan_form.proofs.Cases.{text-cut, text_in}
-use borrow.Author.Rules.{rules}
 use Rattle.plan_form.proofs.text_end.Goals as goal
 
 pub returns-then-plan-p-lt2 : goal.returns-then-plan-p-lt2

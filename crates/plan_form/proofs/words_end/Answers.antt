@@ -1,7 +1,6 @@
 use native.Mathlib.Omega.{arith}
 use mathlib.Core.Path.{sym, ◌∙◌}
 use Rattle.plan_form.proofs.Cases.{counted-cut, counted-in}
-use borrow.Author.Rules.{rules}
 use Rattle.plan_form.proofs.words_end.Goals as goal
 
 pub returns-then-plan-p-lt2 : goal.returns-then-plan-p-lt2

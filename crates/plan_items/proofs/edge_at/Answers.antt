@@ -1,7 +1,6 @@
 use native.Mathlib.Omega.{arith}
 use Rattle.plan_items.proofs.Leaves.{edge-inside, edge-known, edge_none, exclusive-text, inclusive-text, edge-exclusive, edge-inclusive}
 use Rattle.plan_items.proofs.Views.{edge-none-view, exclusive-view, inclusive-view}
-use borrow.Author.Rules.{rules}
 use Rattle.plan_items.proofs.edge_at.Goals as goal
 
 pub overflow_add-q : goal.overflow_add-q

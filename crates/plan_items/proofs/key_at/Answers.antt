@@ -1,7 +1,6 @@
 use native.Mathlib.Omega.{arith}
 use Rattle.plan_items.proofs.Leaves.{key-inside, key-known, key-text, key-bytes, key-address, key-path, key-register, key-fact-inside, key-fact}
 use Rattle.plan_items.proofs.Views.{key-bytes-view, key-register-view, key-fact-view}
-use borrow.Author.Rules.{rules}
 use Rattle.plan_items.proofs.key_at.Goals as goal
 
 pub overflow_add-q : goal.overflow_add-q

@@ -2,7 +2,6 @@ use native.Mathlib.Omega.{arith}
 use mathlib.Core.Path.{refl}
 use Rattle.plan_items.proofs.Leaves.{op-inside, op-known, op-address, op-path, op-register, op-fact-inside, op-fact, op-tag-inside, op-tag, op-fuzzy-room, op-fuzzy-anchor, op-fuzzy, op-own-path, op-own}
 use Rattle.plan_items.proofs.Views.{op-register-view, op-fact-view, op-tag-view, op-fuzzy-view, op-own-view}
-use borrow.Author.Rules.{rules}
 use Rattle.plan_items.proofs.op_at.Goals as goal
 
 named : {A B C : Type 0} → A × (B × C) → record { reads : A; inside : B; view : C }

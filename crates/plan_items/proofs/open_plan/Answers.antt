@@ -1,5 +1,4 @@
 use native.Mathlib.Omega.{arith}
-use borrow.Author.Rules.{rules}
 use mathlib.Core.Path.{refl}
 use Rattle.plan_items.proofs.Plans.{levels-inside, at-bindings, at-constrained, at-selects, at-diagnostics, past-levels, past-bindings, past-constrained, past-selects, plan-opened}
 use Rattle.plan_items.proofs.Views.{levels-past, bindings-past, constrained-past, selects-past, plan-view}
@@ -31,10 +30,14 @@ list_at-diagnostics-requires c = at-diagnostics _ c.requires c.past-d.result (pa
 
 pub returns : goal.returns
 returns c =
-    let v = plan-opened _ c.requires _ _ _ _ (past-levels _ c.requires 0 c.level_list_end.result c.past-b.result c.past-b.ensures refl c.level_list_end.ensures) (past-bindings _ c.requires c.past-b.result c.list_end.result c.past-k.result c.past-k.ensures (past-levels _ c.requires 0 c.level_list_end.result c.past-b.result c.past-b.ensures refl c.level_list_end.ensures) c.list_end.ensures) (past-constrained _ c.requires c.past-k.result c.words_end.result c.past-s.result c.past-s.ensures (past-bindings _ c.requires c.past-b.result c.list_end.result c.past-k.result c.past-k.ensures (past-levels _ c.requires 0 c.level_list_end.result c.past-b.result c.past-b.ensures refl c.level_list_end.ensures) c.list_end.ensures) c.words_end.ensures) (past-selects _ c.requires c.past-s.result c.list_end-2.result c.past-d.result c.past-d.ensures (past-constrained _ c.requires c.past-k.result c.words_end.result c.past-s.result c.past-s.ensures (past-bindings _ c.requires c.past-b.result c.list_end.result c.past-k.result c.past-k.ensures (past-levels _ c.requires 0 c.level_list_end.result c.past-b.result c.past-b.ensures refl c.level_list_end.ensures) c.list_end.ensures) c.words_end.ensures) c.list_end-2.ensures) _ _ _ _ _ c.list_at-levels.result c.list_at-bindings.result c.list_at-constrained.result c.list_at-selects.result c.list_at-diagnostics.result c.list_at-levels.ensures.is c.list_at-bindings.ensures.is c.list_at-constrained.ensures.is c.list_at-selects.ensures.is c.list_at-diagnostics.ensures.is c.list_at-levels.ensures.few c.list_at-bindings.ensures.few c.list_at-constrained.ensures.few c.list_at-selects.ensures.few c.list_at-diagnostics.ensures.few in record { reads = v.0; inside = v.1; view = plan-view _ c.past-b.result c.past-k.result c.past-s.result c.past-d.result
-            (levels-past _ 0 c.level_list_end.result c.past-b.result c.past-b.ensures c.level_list_end.ensures)
-            (bindings-past _ c.past-b.result c.list_end.result c.past-k.result c.past-k.ensures c.list_end.ensures)
-            (constrained-past _ c.past-k.result c.words_end.result c.past-s.result c.past-s.ensures c.words_end.ensures)
-            (selects-past _ c.past-s.result c.list_end-2.result c.past-d.result c.past-d.ensures c.list_end-2.ensures)
-            c.list_at-levels.result c.list_at-bindings.result c.list_at-constrained.result c.list_at-selects.result c.list_at-diagnostics.result
-            c.list_at-levels.ensures.is c.list_at-bindings.ensures.is c.list_at-constrained.ensures.is c.list_at-selects.ensures.is c.list_at-diagnostics.ensures.is }
+    let v = plan-opened _ c.requires _ _ _ _ (past-levels _ c.requires 0 c.level_list_end.result c.past-b.result c.past-b.ensures refl c.level_list_end.ensures) (past-bindings _ c.requires c.past-b.result c.list_end.result c.past-k.result c.past-k.ensures (past-levels _ c.requires 0 c.level_list_end.result c.past-b.result c.past-b.ensures refl c.level_list_end.ensures) c.list_end.ensures) (past-constrained _ c.requires c.past-k.result c.words_end.result c.past-s.result c.past-s.ensures (past-bindings _ c.requires c.past-b.result c.list_end.result c.past-k.result c.past-k.ensures (past-levels _ c.requires 0 c.level_list_end.result c.past-b.result c.past-b.ensures refl c.level_list_end.ensures) c.list_end.ensures) c.words_end.ensures) (past-selects _ c.requires c.past-s.result c.list_end-2.result c.past-d.result c.past-d.ensures (past-constrained _ c.requires c.past-k.result c.words_end.result c.past-s.result c.past-s.ensures (past-bindings _ c.requires c.past-b.result c.list_end.result c.past-k.result c.past-k.ensures (past-levels _ c.requires 0 c.level_list_end.result c.past-b.result c.past-b.ensures refl c.level_list_end.ensures) c.list_end.ensures) c.words_end.ensures) c.list_end-2.ensures) _ _ _ _ _ c.list_at-levels.result c.list_at-bindings.result c.list_at-constrained.result c.list_at-selects.result c.list_at-diagnostics.result c.list_at-levels.ensures.is c.list_at-bindings.ensures.is c.list_at-constrained.ensures.is c.list_at-selects.ensures.is c.list_at-diagnostics.ensures.is c.list_at-levels.ensures.few c.list_at-bindings.ensures.few c.list_at-constrained.ensures.few c.list_at-selects.ensures.few c.list_at-diagnostics.ensures.few in record {
+      reads = v.0;
+      inside = v.1;
+      view = plan-view _ c.past-b.result c.past-k.result c.past-s.result c.past-d.result
+          (levels-past _ 0 c.level_list_end.result c.past-b.result c.past-b.ensures c.level_list_end.ensures)
+          (bindings-past _ c.past-b.result c.list_end.result c.past-k.result c.past-k.ensures c.list_end.ensures)
+          (constrained-past _ c.past-k.result c.words_end.result c.past-s.result c.past-s.ensures c.words_end.ensures)
+          (selects-past _ c.past-s.result c.list_end-2.result c.past-d.result c.past-d.ensures c.list_end-2.ensures)
+          c.list_at-levels.result c.list_at-bindings.result c.list_at-constrained.result c.list_at-selects.result c.list_at-diagnostics.result
+          c.list_at-levels.ensures.is c.list_at-bindings.ensures.is c.list_at-constrained.ensures.is c.list_at-selects.ensures.is c.list_at-diagnostics.ensures.is;
+    }

@@ -1,5 +1,4 @@
 use Rattle.plan_items.proofs.Views.{parts-past, parts-read}
-use borrow.Author.Rules.{rules}
 use Rattle.plan_items.proofs.parts_past.Goals as goal
 
 pub returns : goal.returns

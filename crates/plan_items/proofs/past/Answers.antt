@@ -1,4 +1,3 @@
-use borrow.Author.Rules.{rules}
 use mathlib.Core.Path.{ap, sym}
 use Rattle.plan_items.specs.Items.{past_of}
 use Rattle.plan_items.proofs.past.Goals as goal

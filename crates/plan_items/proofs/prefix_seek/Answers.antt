@@ -1,7 +1,6 @@
 use native.Mathlib.Omega.{arith}
 use Rattle.plan_items.proofs.Levels.{prefix-text, prefix-nodes, prefix-reads, numbers-room}
 use Rattle.plan_items.proofs.Views.{prefix-view}
-use borrow.Author.Rules.{rules}
 use Rattle.plan_items.proofs.prefix_seek.Goals as goal
 
 pub text_at-text-requires : goal.text_at-text-requires

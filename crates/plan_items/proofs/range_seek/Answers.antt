@@ -2,7 +2,6 @@ use native.Mathlib.Omega.{arith}
 use Prim.Native.Nat.{◌+◌}
 use Rattle.plan_items.proofs.Levels.{range-parts, range-text, range-path, range-room, range-reads}
 use Rattle.plan_items.proofs.Views.{range-view}
-use borrow.Author.Rules.{rules}
 use Rattle.plan_items.proofs.range_seek.Goals as goal
 
 pub parts_past-q-requires : goal.parts_past-q-requires

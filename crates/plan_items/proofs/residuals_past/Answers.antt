@@ -1,5 +1,4 @@
 use Rattle.plan_items.proofs.Views.{residuals-past, residuals-read}
-use borrow.Author.Rules.{rules}
 use Rattle.plan_items.proofs.residuals_past.Goals as goal
 
 pub returns : goal.returns

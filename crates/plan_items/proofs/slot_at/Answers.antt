@@ -1,5 +1,4 @@
 use native.Mathlib.Omega.{arith}
-use borrow.Author.Rules.{rules}
 use mathlib.Core.Path.{ap, ◌∙◌}
 use Rattle.views.specs.Views.{predicate_maybe}
 use Rattle.plan_items.proofs.Slots.{slot-inside, slot-known, row_room, slot_row, key-room, slot-key, derived-room, slot-derived, field_found, slot-field, value_room, slot-value, const-room, slot-const}

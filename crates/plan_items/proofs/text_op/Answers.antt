@@ -1,7 +1,6 @@
 use native.Mathlib.Omega.{arith}
 use Rattle.plan_items.proofs.Leaves.{op-inside, op-text, op_bytes, op-prefix}
 use Rattle.plan_items.proofs.Views.{op-bytes-view, op-prefix-view}
-use borrow.Author.Rules.{rules}
 use Rattle.plan_items.proofs.text_op.Goals as goal
 
 pub overflow_add-p : goal.overflow_add-p

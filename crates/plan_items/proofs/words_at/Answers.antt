@@ -1,7 +1,6 @@
 use native.Mathlib.Omega.{arith}
 use Rattle.plan_items.proofs.Levels.{counted-inside, counted-found, words-room, words-read}
 use Rattle.plan_items.proofs.Views.{words-view}
-use borrow.Author.Rules.{rules}
 use Rattle.plan_items.proofs.words_at.Goals as goal
 
 pub word_at-count-requires : goal.word_at-count-requires

@@ -1,6 +1,5 @@
 use Rattle.lines.proofs.Calls.{printable, written}
 use Rattle.plan_line.proofs.Answered.{said, plan-length, work-length}
-use borrow.Author.Rules.{rules}
 use Rattle.plan_line.proofs.answer.Goals as goal
 
 named : {A B C : Type 0} → A × (B × C) → record { gives : A; leaves : B; bounded : C }

@@ -1,6 +1,5 @@
-use borrow.Author.Rules.{rules}
 use native.Mathlib.Omega.{arith}
-use Rattle.plan_lists.proofs.Copies.{CopyingDown, down-start, down-more, down-end}
+use Rattle.plan_lists.proofs.Copies.{down-start, down-more, down-end}
 use Rattle.plan_lists.proofs.copy_down.Goals as goal
 
 pub loop-left-init : goal.loop-left-init

@@ -1,6 +1,4 @@
-use borrow.Author.Rules.{rules}
-use native.Mathlib.Omega.{arith}
-use Rattle.plan_lists.proofs.Copies.{CopyingDown, down-start, down-more, down-end}
+use Rattle.plan_lists.proofs.Copies.{CopyingDown}
 use Rattle.plan_lists.proofs.copy_down.Given as goal
 
 abbrev pub invariant-loop-left : goal.invariant-loop-left

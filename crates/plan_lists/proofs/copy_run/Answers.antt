@@ -1,7 +1,5 @@
 use native.Mathlib.Omega.{arith}
-use Prim.Native.Nat.{◌-◌}
-use borrow.Author.Rules.{rules}
-use Rattle.plan_lists.proofs.Copies.{Copying, copy_start, copy_more, copy-end}
+use Rattle.plan_lists.proofs.Copies.{copy_start, copy_more, copy-end}
 use Rattle.plan_lists.proofs.copy_run.Goals as goal
 
 pub loop-i-init : goal.loop-i-init

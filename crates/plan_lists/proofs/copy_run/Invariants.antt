@@ -1,7 +1,5 @@
-use native.Mathlib.Omega.{arith}
 use Prim.Native.Nat.{◌-◌}
-use borrow.Author.Rules.{rules}
-use Rattle.plan_lists.proofs.Copies.{Copying, copy_start, copy_more, copy-end}
+use Rattle.plan_lists.proofs.Copies.{Copying}
 use Rattle.plan_lists.proofs.copy_run.Given as goal
 
 abbrev pub invariant-loop-i : goal.invariant-loop-i

@@ -2,7 +2,6 @@ use mathlib.Core.Path.{refl}
 use native.Mathlib.Omega.{arith}
 use Rattle.lists.specs.Lists.{ends_of}
 use Rattle.plan_lists.proofs.Copies.{lists-size, up-far, down-far}
-use borrow.Author.Rules.{rules}
 use Rattle.plan_lists.proofs.lists_len.Goals as goal
 
 pub returns : goal.returns

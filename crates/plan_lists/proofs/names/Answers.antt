@@ -1,6 +1,5 @@
 use native.Mathlib.Omega.{arith}
 use Rattle.state.specs.Levels.{constrained_count}
-use borrow.Author.Rules.{rules}
 use Rattle.plan_lists.proofs.names.Goals as goal
 
 pub returns : goal.returns

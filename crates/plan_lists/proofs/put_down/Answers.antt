@@ -1,5 +1,4 @@
 use Rattle.plan_lists.proofs.Copies.{down-put}
-use borrow.Author.Rules.{rules}
 use Rattle.plan_lists.proofs.put_down.Goals as goal
 
 pub returns : goal.returns

@@ -1,6 +1,5 @@
 use Rattle.lists.specs.Lists.{ends_of}
 use Rattle.plan_lists.proofs.Copies.{lists-put, up-as, down-as}
-use borrow.Author.Rules.{rules}
 use Rattle.plan_lists.proofs.put_lists.Goals as goal
 
 pub returns : goal.returns

@@ -1,6 +1,5 @@
 use native.Mathlib.Omega.{arith}
 use Rattle.state.specs.Levels.{diagnostic_count}
-use borrow.Author.Rules.{rules}
 use Rattle.plan_lists.proofs.reports.Goals as goal
 
 pub returns : goal.returns

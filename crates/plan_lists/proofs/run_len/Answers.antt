@@ -1,5 +1,4 @@
 use Rattle.plan_lists.proofs.Copies.{run-size}
-use borrow.Author.Rules.{rules}
 use Rattle.plan_lists.proofs.run_len.Goals as goal
 
 pub returns : goal.returns

@@ -1,6 +1,5 @@
 use native.Mathlib.Omega.{arith}
 use Rattle.plan_rules.proofs.Rules.{no_edge, some-edge}
-use borrow.Author.Rules.{rules}
 use Rattle.plan_rules.proofs.bounded_keeps.Goals as goal
 
 pub returns-then-edge_number-lt1 : goal.returns-then-edge_number-lt1

@@ -1,8 +1,6 @@
 use native.Mathlib.Omega.{arith}
 use mathlib.Core.Path.{sym, ◌∙◌}
-use borrow.Author.Tests.{not-true, not-false}
-use borrow.Author.Rules.{rules}
-use Rattle.plan_rules.proofs.Rules.{Bytes, bytes-all, bytes_next, bytes-more, bytes-met, bytes-only}
+use Rattle.plan_rules.proofs.Rules.{bytes-all, bytes_next, bytes-more, bytes-met, bytes-only}
 use Rattle.plan_rules.proofs.composite_keeps.Goals as goal
 
 pub loop-left-init : goal.loop-left-init

@@ -1,8 +1,4 @@
-use native.Mathlib.Omega.{arith}
-use mathlib.Core.Path.{sym, ◌∙◌}
-use borrow.Author.Tests.{not-true, not-false}
-use borrow.Author.Rules.{rules}
-use Rattle.plan_rules.proofs.Rules.{Bytes, bytes-all, bytes_next, bytes-more, bytes-met, bytes-only}
+use Rattle.plan_rules.proofs.Rules.{Bytes}
 use Rattle.plan_rules.proofs.composite_keeps.Given as goal
 
 abbrev pub invariant-loop-left : goal.invariant-loop-left

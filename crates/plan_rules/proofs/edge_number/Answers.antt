@@ -3,7 +3,6 @@ use mathlib.Core.Path.{ap, sym}
 use Rattle.rules.specs.Demand3.{number}
 use Rattle.plan_items.specs.declared.EdgeView.{EdgeView}
 use Rattle.plan_items.specs.Items.{edge_of}
-use borrow.Author.Rules.{rules}
 use Rattle.plan_rules.proofs.edge_number.Goals as goal
 
 pub returns-in-Nothing : goal.returns-in-Nothing

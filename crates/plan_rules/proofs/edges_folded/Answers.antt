@@ -1,5 +1,4 @@
 use Rattle.plan_rules.proofs.Rules.{folded-is}
-use borrow.Author.Rules.{rules}
 use Rattle.plan_rules.proofs.edges_folded.Goals as goal
 
 pub returns : goal.returns

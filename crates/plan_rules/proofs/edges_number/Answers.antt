@@ -3,7 +3,6 @@ use mathlib.Core.Path.{ap, sym}
 use Rattle.plan_items.specs.declared.SeekView.{SeekView}
 use Rattle.rules.specs.Demand3.{seek_edges}
 use Rattle.plan_items.specs.Items.{seek_of}
-use borrow.Author.Rules.{rules}
 use Rattle.plan_rules.proofs.edges_number.Goals as goal
 
 pub returns-in-Prefix : goal.returns-in-Prefix

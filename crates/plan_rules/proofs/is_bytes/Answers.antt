@@ -2,7 +2,6 @@ use mathlib.Core.Path.{ap, sym}
 use Rattle.plan_rules.specs.Parts.{is_bytes}
 use Rattle.plan_items.specs.declared.PartView.{PartView}
 use Rattle.plan_items.specs.Items.{key_of}
-use borrow.Author.Rules.{rules}
 use Rattle.plan_rules.proofs.is_bytes.Goals as goal
 
 pub returns-in-Bytes : goal.returns-in-Bytes

@@ -1,6 +1,4 @@
-use borrow.Author.Tests.{not-true, not-false}
 use Rattle.plan_rules.proofs.Rules.{closers-most, broken-closers, broken-sum, broken-edges, kept-by-seek}
-use borrow.Author.Rules.{rules}
 use Rattle.plan_rules.proofs.level_keeps.Goals as goal
 
 pub returns-then-not-closers_among_parts : goal.returns-then-not-closers_among_parts

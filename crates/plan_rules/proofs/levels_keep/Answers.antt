@@ -1,8 +1,7 @@
 use native.Mathlib.Omega.{arith}
 use mathlib.Core.Path.{sym, ◌∙◌}
-use borrow.Author.Tests.{not-true, not-false}
 use Rattle.plan_items.proofs.Plans.{levels-inside}
-use Rattle.plan_rules.proofs.Rules.{Going, going-first, going_next, going_more, going-broken, going_end}
+use Rattle.plan_rules.proofs.Rules.{going-first, going_next, going_more, going-broken, going_end}
 use Rattle.plan_rules.proofs.levels_keep.Goals as goal
 
 pub word_at-left-requires : goal.word_at-left-requires

@@ -1,6 +1,5 @@
 use Rattle.plan_rules.proofs.Rules.{sum_is}
 use mathlib.Core.Path.{refl}
-use borrow.Author.Rules.{rules}
 use Rattle.plan_rules.proofs.narrowings_sum.Goals as goal
 
 pub returns : goal.returns

@@ -1,6 +1,5 @@
 use mathlib.Core.Path.{◌∙◌}
 use Rattle.plan_rules.proofs.Rules.{range-alone, range-beside, guide-as}
-use borrow.Author.Rules.{rules}
 use Rattle.plan_rules.proofs.range_keeps.Goals as goal
 
 pub path_at-path-requires : goal.path_at-path-requires

@@ -3,7 +3,6 @@ use mathlib.Core.Path.{ap, sym}
 use Rattle.rules.specs.Demand3.{number, seek_range}
 use Rattle.plan_items.specs.declared.SeekView.{SeekView}
 use Rattle.plan_items.specs.Items.{seek_of}
-use borrow.Author.Rules.{rules}
 use Rattle.plan_rules.proofs.range_number.Goals as goal
 
 pub returns-in-Prefix : goal.returns-in-Prefix

@@ -1,5 +1,4 @@
 use Rattle.plan_rules.proofs.Rules.{prefix-keeps, composite-parts, composite-keeps, range-path, range-keeps, bounded-keeps}
-use borrow.Author.Rules.{rules}
 use Rattle.plan_rules.proofs.seek_keeps.Goals as goal
 
 pub composite_keeps-requires : goal.composite_keeps-requires

@@ -3,8 +3,7 @@ use mathlib.Core.Path.{ap}
 use Prim.Native.Nat.{ℕ}
 use lib.ListN.{drop}
 use native.Mathlib.Omega.{arith}
-use Rattle.reader.proofs.Copied.{refused-15, taken, room, decided}
-use borrow.Author.Rules.{rules}
+use Rattle.reader.proofs.Copied.{refused-15, decided}
 use Rattle.reader.proofs.decide.Goals as goal
 
 named : {A B C : Type 0} → A × (B × C) → record { outcome : A; within : B; copied : C }

@@ -1,7 +1,6 @@
 use mathlib.Core.Path.{sym, ◌∙◌}
 use Rattle.endings.proofs.Ends.{bytes}
 use Rattle.reader.proofs.Opens.{opened, within, keeps, breaks, refuses}
-use borrow.Author.Rules.{rules}
 use Rattle.reader.proofs.judged.Goals as goal
 
 named : {A B : Type 0} → A × B → record { outcome : A; within : B }

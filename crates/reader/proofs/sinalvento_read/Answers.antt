@@ -1,6 +1,5 @@
 use Rattle.endings.proofs.Ends.{bytes}
 use Rattle.reader.proofs.Reread.{called, demand1-is, again-is}
-use borrow.Author.Rules.{rules}
 use Rattle.reader.proofs.sinalvento_read.Goals as goal
 
 pub returns : goal.returns

@@ -1,10 +1,6 @@
-use mathlib.Core.Path.{◌≡◌, refl, sym, ◌∙◌}
+use mathlib.Core.Path.{refl, sym, ◌∙◌}
 use native.Mathlib.Omega.{arith}
-use Prim.Native.Nat.{◌-◌}
-use borrow.Author.Rules.{rules}
-use Rattle.rules.specs.Base.{distinct}
-use Rattle.views.specs.Views.{run}
-use Rattle.record_checks.specs.RecordChecks.{Words, number_at}
+use Rattle.record_checks.specs.RecordChecks.{number_at}
 use Rattle.record_checks.proofs.Every.{distinct_none, distinct_more, distinct-stop, words-first, words-next, among-as}
 use Rattle.record_checks.proofs.Rising.{run-differs}
 use Rattle.record_checks.proofs.all_distinct.Goals as goal

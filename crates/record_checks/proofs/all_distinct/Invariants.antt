@@ -1,12 +1,7 @@
-use mathlib.Core.Path.{◌≡◌, refl, sym, ◌∙◌}
-use native.Mathlib.Omega.{arith}
-use Prim.Native.Nat.{◌-◌}
-use borrow.Author.Rules.{rules}
+use mathlib.Core.Path.{◌≡◌}
 use Rattle.rules.specs.Base.{distinct}
 use Rattle.views.specs.Views.{run}
 use Rattle.record_checks.specs.RecordChecks.{Words, number_at}
-use Rattle.record_checks.proofs.Every.{distinct_none, distinct_more, distinct-stop, words-first, words-next, among-as}
-use Rattle.record_checks.proofs.Rising.{run-differs}
 use Rattle.record_checks.proofs.all_distinct.Given as goal
 
 abbrev pub invariant-loop-left : goal.invariant-loop-left

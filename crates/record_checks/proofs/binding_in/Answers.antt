@@ -1,10 +1,8 @@
 use mathlib.Core.Path.{ap, ap₂, ◌∙◌}
 use native.Mathlib.Omega.{arith}
-use Prim.Native.Nat.{◌-◌}
 use lib.Dec.{ltb}
 use Rattle.rules.specs.Checks.{slot_in, none_or, is_type, is_predicate, is_node}
 use Rattle.record_checks.proofs.Seen.{binding-no, binding-yes, by-slot, row_in}
-use borrow.Author.Rules.{rules}
 use Rattle.record_checks.proofs.binding_in.Goals as goal
 
 pub returns-then-v-count_of : goal.returns-then-v-count_of

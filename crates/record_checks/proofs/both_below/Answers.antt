@@ -1,6 +1,5 @@
 use Rattle.record_checks.proofs.Every.{both_false, both-then}
 use mathlib.Core.Path.{sym}
-use Prim.Native.Nat.{◌-◌}
 use borrow.Author.Tests.{lt-ltb, le-ltb}
 use Rattle.record_checks.proofs.both_below.Goals as goal
 

@@ -1,9 +1,7 @@
 use mathlib.Core.Path.{sym, ◌∙◌}
-use borrow.Author.Tests.{not-true, not-false}
 use Rattle.rules.specs.Checks.{children_lower}
 use Rattle.record_checks.specs.RecordChecks.{section_lower}
 use Rattle.record_checks.proofs.Every.{both_false, both-then}
-use borrow.Author.Rules.{rules}
 use Rattle.record_checks.proofs.children_lower.Goals as goal
 
 pub returns-then-not-records_lower : goal.returns-then-not-records_lower

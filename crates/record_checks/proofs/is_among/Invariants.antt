@@ -1,10 +1,6 @@
-use mathlib.Core.Path.{◌≡◌, refl, sym, ◌∙◌}
-use native.Mathlib.Omega.{arith}
-use Prim.Native.Nat.{◌-◌}
-use borrow.Author.Rules.{rules}
+use mathlib.Core.Path.{◌≡◌}
 use Rattle.views.specs.Views.{run}
 use Rattle.record_checks.specs.RecordChecks.{Words, number_at, among}
-use Rattle.record_checks.proofs.Every.{among_none, among-here, among_later, words-first, words-next}
 use Rattle.record_checks.proofs.is_among.Given as goal
 
 abbrev pub invariant-loop-left : goal.invariant-loop-left

@@ -1,9 +1,6 @@
-use mathlib.Core.Path.{◌≡◌, refl, sym, ◌∙◌}
+use mathlib.Core.Path.{refl, sym, ◌∙◌}
 use native.Mathlib.Omega.{arith}
-use Prim.Native.Nat.{◌-◌}
-use borrow.Author.Rules.{rules}
-use Rattle.views.specs.Views.{run}
-use Rattle.record_checks.specs.RecordChecks.{Words, number_at, rising}
+use Rattle.record_checks.specs.RecordChecks.{number_at}
 use Rattle.record_checks.proofs.Every.{words-first, words-next}
 use Rattle.record_checks.proofs.Rising.{rising-end, rising-on, rising-stop}
 use Rattle.record_checks.proofs.is_rising.Goals as goal

@@ -1,11 +1,6 @@
-use mathlib.Core.Path.{◌≡◌, refl, sym, ◌∙◌}
-use native.Mathlib.Omega.{arith}
-use Prim.Native.Nat.{◌-◌}
-use borrow.Author.Rules.{rules}
+use mathlib.Core.Path.{◌≡◌}
 use Rattle.views.specs.Views.{run}
 use Rattle.record_checks.specs.RecordChecks.{Words, number_at, rising}
-use Rattle.record_checks.proofs.Every.{words-first, words-next}
-use Rattle.record_checks.proofs.Rising.{rising-end, rising-on, rising-stop}
 use Rattle.record_checks.proofs.is_rising.Given as goal
 
 abbrev pub invariant-loop-left : goal.invariant-loop-left

@@ -2,7 +2,6 @@ use mathlib.Core.Path.{refl, ap, ◌∙◌}
 use Rattle.file.specs.Tables.{tables_of}
 use Rattle.rules.specs.Checks.{level_in, is_predicate, is_node}
 use Rattle.record_checks.proofs.Seen.{below_as}
-use borrow.Author.Rules.{rules}
 use Rattle.record_checks.proofs.level_in.Goals as goal
 
 pub returns : goal.returns

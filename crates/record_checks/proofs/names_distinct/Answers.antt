@@ -1,14 +1,10 @@
-use mathlib.Core.Path.{◌≡◌, refl, sym, ◌∙◌}
+use mathlib.Core.Path.{refl, sym, ◌∙◌}
 use native.Mathlib.Omega.{arith}
-use Prim.Native.Nat.{ℕ, ◌-◌}
-use lib.ListN.{length, length-set}
-use borrow.Author.Rules.{rules}
-use Rattle.rules.specs.Base.{distinct}
+use Prim.Native.Nat.{ℕ}
+use lib.ListN.{length-set}
 use Rattle.file.specs.Steps.{word}
-use Rattle.views.specs.Views.{run}
-use Rattle.record_checks.specs.RecordChecks.{Words}
 use Rattle.record_checks.proofs.Every.{words-first, words-next}
-use Rattle.record_checks.proofs.Marks.{fresh, fresh-zeros, fresh-end, fresh_on, fresh-met}
+use Rattle.record_checks.proofs.Marks.{fresh-zeros, fresh-end, fresh_on, fresh-met}
 use Rattle.record_checks.proofs.names_distinct.Goals as goal
 
 pub loop-left-init : goal.loop-left-init

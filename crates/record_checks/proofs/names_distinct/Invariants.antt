@@ -1,14 +1,10 @@
-use mathlib.Core.Path.{◌≡◌, refl, sym, ◌∙◌}
-use native.Mathlib.Omega.{arith}
-use Prim.Native.Nat.{ℕ, ◌-◌}
-use lib.ListN.{length, length-set}
-use borrow.Author.Rules.{rules}
+use mathlib.Core.Path.{◌≡◌}
+use lib.ListN.{length}
 use Rattle.rules.specs.Base.{distinct}
 use Rattle.file.specs.Steps.{word}
 use Rattle.views.specs.Views.{run}
 use Rattle.record_checks.specs.RecordChecks.{Words}
-use Rattle.record_checks.proofs.Every.{words-first, words-next}
-use Rattle.record_checks.proofs.Marks.{fresh, fresh-zeros, fresh-end, fresh_on, fresh-met}
+use Rattle.record_checks.proofs.Marks.{fresh}
 use Rattle.record_checks.proofs.names_distinct.Given as goal
 
 abbrev pub invariant-loop-left : goal.invariant-loop-left

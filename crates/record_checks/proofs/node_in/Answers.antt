@@ -1,10 +1,8 @@
 use mathlib.Core.Path.{refl, ap, ◌∙◌}
 use native.Mathlib.Omega.{arith}
-use Prim.Native.Nat.{◌-◌}
 use lib.Dec.{ltb}
 use Rattle.rules.specs.Checks.{node_in, is_name, is_node, is_predicate}
 use Rattle.record_checks.proofs.Seen.{by-node, node-as, words-4, words-4-first, patterns-in, pairs-as, below_as}
-use borrow.Author.Rules.{rules}
 use Rattle.record_checks.proofs.node_in.Goals as goal
 
 pub pairs_in-requires : goal.pairs_in-requires

@@ -1,12 +1,11 @@
 use mathlib.Core.Path.{ap, ◌∙◌}
 use mathlib.Core.Bool.{Bool}
 use native.Mathlib.Omega.{arith}
-use Prim.Native.Nat.{ℕ, ◌-◌}
+use Prim.Native.Nat.{ℕ}
 use lib.Dec.{ltb}
 use Rattle.rules.specs.Base.{all}
 use Rattle.rules.specs.File.{child_nodes, Node}
 use Rattle.record_checks.proofs.Seen.{by-node, node-as, words-4, pattern-children, child-lower}
-use borrow.Author.Rules.{rules}
 use Rattle.record_checks.proofs.node_lower.Goals as goal
 
 -- each child of the node is lower

@@ -1,6 +1,4 @@
 use Rattle.record_checks.proofs.Every.{number-long, number_short}
-use Prim.Native.Nat.{◌-◌}
-use borrow.Author.Rules.{rules}
 use Rattle.record_checks.proofs.number_at.Goals as goal
 
 pub returns-then-long : goal.returns-then-long

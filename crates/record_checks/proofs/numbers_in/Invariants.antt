@@ -1,13 +1,9 @@
-use mathlib.Core.Path.{◌≡◌, sym, ◌∙◌}
-use native.Mathlib.Omega.{arith}
+use mathlib.Core.Path.{◌≡◌}
 use Prim.Native.Nat.{◌-◌, ◌≤◌}
-use borrow.Author.Rules.{rules}
-use borrow.Author.Tests.{not-true, not-false}
 use Rattle.file.specs.Tables.{tables_of}
 use Rattle.rules.specs.Checks.{numbers_in}
 use Rattle.record_checks.specs.RecordChecks.{section_in}
-use Rattle.record_checks.proofs.Every.{every, every-none, every-yes, every-no}
-use Rattle.record_checks.proofs.Seen.{numbers-every}
+use Rattle.record_checks.proofs.Every.{every}
 use Rattle.record_checks.proofs.numbers_in.Given as goal
 
 abbrev pub invariant-loop-s : goal.invariant-loop-s

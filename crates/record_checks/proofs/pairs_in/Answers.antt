@@ -1,8 +1,6 @@
 use Rattle.record_checks.proofs.Every.{both_false, both-then}
 use mathlib.Core.Path.{sym, ◌∙◌}
 use native.Mathlib.Omega.{arith}
-use Prim.Native.Nat.{◌-◌}
-use borrow.Author.Tests.{not-true, not-false}
 use Rattle.record_checks.specs.RecordChecks.{pairs_in}
 use Rattle.record_checks.proofs.pairs_in.Goals as goal
 

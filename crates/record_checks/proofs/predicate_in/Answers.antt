@@ -1,11 +1,9 @@
 use mathlib.Core.Path.{refl, ap}
 use native.Mathlib.Omega.{arith}
-use Prim.Native.Nat.{◌-◌}
 use lib.Dec.{ltb}
 use Rattle.file.specs.Steps.{limit_of}
 use Rattle.rules.specs.Checks.{none_or, is_type}
 use Rattle.record_checks.proofs.Seen.{predicate-no, predicate-yes}
-use borrow.Author.Rules.{rules}
 use Rattle.record_checks.proofs.predicate_in.Goals as goal
 
 pub overflow_cast-t : goal.overflow_cast-t

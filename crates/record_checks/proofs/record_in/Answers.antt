@@ -1,5 +1,4 @@
 use mathlib.Core.Path.{◌∙◌}
-use Prim.Native.Nat.{◌-◌}
 use Rattle.file.specs.Tables.{tables_of}
 use Rattle.record_checks.specs.RecordChecks.{record_in}
 use Rattle.record_checks.proofs.Seen.{record_is, size_is, record-rest}

@@ -1,12 +1,6 @@
-use mathlib.Core.Path.{◌≡◌, sym, ◌∙◌}
+use mathlib.Core.Path.{sym, ◌∙◌}
 use native.Mathlib.Omega.{arith}
-use Prim.Native.Nat.{◌-◌, ◌≤◌}
-use borrow.Author.Rules.{rules}
-use borrow.Author.Tests.{not-true, not-false}
-use Rattle.file.specs.Tables.{tables_of}
-use Rattle.record_checks.specs.RecordChecks.{record_in, section_in}
-use Rattle.views.specs.Views.{size_of}
-use Rattle.record_checks.proofs.Every.{every, every-none, every-yes, every-no}
+use Rattle.record_checks.proofs.Every.{every-none, every-yes, every-no}
 use Rattle.record_checks.proofs.Seen.{section-every, every-start}
 use Rattle.record_checks.proofs.records_in.Goals as goal
 

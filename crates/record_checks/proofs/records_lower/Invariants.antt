@@ -1,13 +1,9 @@
-use mathlib.Core.Path.{◌≡◌, sym, ◌∙◌}
-use native.Mathlib.Omega.{arith}
+use mathlib.Core.Path.{◌≡◌}
 use Prim.Native.Nat.{◌-◌, ◌≤◌}
-use borrow.Author.Rules.{rules}
-use borrow.Author.Tests.{not-true, not-false}
 use Rattle.file.specs.Tables.{tables_of}
 use Rattle.record_checks.specs.RecordChecks.{record_lower, section_lower}
 use Rattle.views.specs.Views.{size_of}
-use Rattle.record_checks.proofs.Every.{every, every-none, every-yes, every-no}
-use Rattle.record_checks.proofs.Seen.{lower-every, every-start}
+use Rattle.record_checks.proofs.Every.{every}
 use Rattle.record_checks.proofs.records_lower.Given as goal
 
 abbrev pub invariant-loop-t : goal.invariant-loop-t

@@ -1,12 +1,9 @@
 use mathlib.Core.Path.{sym, ap, ◌∙◌}
 use native.Mathlib.Omega.{arith}
-use Prim.Native.Nat.{◌-◌}
-use borrow.Author.Tests.{not-true, not-false}
 use Rattle.rules.specs.Base.{distinct}
 use Rattle.rules.specs.Checks.{type_distinct}
 use Rattle.record_checks.proofs.Every.{both_false, both-then}
 use Rattle.record_checks.proofs.Seen.{by-type, type-as, words-8, words-4-first, words-8-first, record-names, union-names, union-discs}
-use borrow.Author.Rules.{rules}
 use Rattle.record_checks.proofs.type_distinct.Goals as goal
 
 pub names_distinct-requires : goal.names_distinct-requires

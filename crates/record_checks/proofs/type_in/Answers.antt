@@ -1,10 +1,8 @@
 use mathlib.Core.Path.{ap₂, ◌∙◌}
 use native.Mathlib.Omega.{arith}
-use Prim.Native.Nat.{◌-◌}
 use lib.Dec.{ltb}
 use Rattle.rules.specs.Checks.{type_in, is_predicate}
 use Rattle.record_checks.proofs.Seen.{by-type, type-as, words-4, words-8, words-4-first, words-8-first, fields_in_lem, alternatives-in, pairs-as}
-use borrow.Author.Rules.{rules}
 use Rattle.record_checks.proofs.type_in.Goals as goal
 
 pub pairs_in-requires : goal.pairs_in-requires

@@ -1,12 +1,11 @@
 use mathlib.Core.Path.{ap, ◌∙◌}
 use mathlib.Core.Bool.{Bool}
 use native.Mathlib.Omega.{arith}
-use Prim.Native.Nat.{ℕ, ◌-◌}
+use Prim.Native.Nat.{ℕ}
 use lib.Dec.{ltb}
 use Rattle.rules.specs.Base.{all}
 use Rattle.rules.specs.File.{child_types, Ty}
 use Rattle.record_checks.proofs.Seen.{by-type, type-as, words-4, words-8, record-children, union-children}
-use borrow.Author.Rules.{rules}
 use Rattle.record_checks.proofs.type_lower.Goals as goal
 
 -- each child of the type is lower

@@ -1,14 +1,10 @@
-use mathlib.Core.Path.{◌≡◌, sym, ◌∙◌}
-use native.Mathlib.Omega.{arith}
+use mathlib.Core.Path.{◌≡◌}
 use Prim.Native.Nat.{◌-◌, ◌≤◌}
 use lib.ListN.{length}
-use borrow.Author.Rules.{rules}
-use borrow.Author.Tests.{not-true, not-false}
 use Rattle.file.specs.Tables.{tables_of}
 use Rattle.rules.specs.File.{type_at}
 use Rattle.rules.specs.Checks.{type_distinct, types_distinct}
-use Rattle.record_checks.proofs.Every.{every, every-none, every-yes, every-no}
-use Rattle.record_checks.proofs.Seen.{types-distinct-every, every-start}
+use Rattle.record_checks.proofs.Every.{every}
 use Rattle.record_checks.proofs.types_distinct.Given as goal
 
 abbrev pub invariant-loop-t : goal.invariant-loop-t

@@ -1,13 +1,9 @@
-use mathlib.Core.Path.{◌≡◌, refl, sym, ◌∙◌}
-use native.Mathlib.Omega.{arith}
-use Prim.Native.Nat.{◌-◌}
+use mathlib.Core.Path.{◌≡◌}
 use lib.Dec.{ltb}
-use borrow.Author.Rules.{rules}
 use Rattle.rules.specs.Base.{all}
 use Rattle.file.specs.Steps.{word}
 use Rattle.views.specs.Views.{run}
 use Rattle.record_checks.specs.RecordChecks.{Words}
-use Rattle.record_checks.proofs.Every.{run-done, run-yes, run-no, words-first, words-next, word_low, word-high}
 use Rattle.record_checks.proofs.words_below.Given as goal
 
 abbrev pub invariant-loop-left : goal.invariant-loop-left

@@ -1,7 +1,6 @@
 use native.Mathlib.Omega.{arith}
 use mathlib.Core.Path.{sym}
 use lib.ListN.{get_or-eq_default}
-use borrow.Author.Rules.{rules}
 use Rattle.records.proofs.byte_or_zero.Goals as goal
 
 pub returns-else-p-bytes : goal.returns-else-p-bytes

@@ -1,7 +1,6 @@
 use mathlib.Core.Path.{refl}
 use Rattle.records.proofs.Stores.{next}
 use Rattle.rules.specs.Plan.{u16}
-use borrow.Author.Rules.{rules}
 use Rattle.records.proofs.put16.Goals as goal
 
 pub returns : goal.returns

@@ -1,5 +1,4 @@
 use Rattle.records.proofs.Stores.{put_byte, put-out}
-use borrow.Author.Rules.{rules}
 use Rattle.records.proofs.put8.Goals as goal
 
 pub returns-then-buf-at : goal.returns-then-buf-at

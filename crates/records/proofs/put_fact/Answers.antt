@@ -2,7 +2,6 @@ use mathlib.Core.Path.{refl}
 use borrow.Author.Tests.{not-true, not-false}
 use Rattle.records.proofs.Stores.{next, word-is}
 use Rattle.records.proofs.Places.{off, on}
-use borrow.Author.Rules.{rules}
 use Rattle.records.proofs.put_fact.Goals as goal
 
 pub returns-then-not-place : goal.returns-then-not-place

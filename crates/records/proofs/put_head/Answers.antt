@@ -1,6 +1,5 @@
 use native.Mathlib.Omega.{arith}
 use Rattle.records.proofs.Places.{head-joined, place-joined, head-framed, place-framed}
-use borrow.Author.Rules.{rules}
 use Rattle.records.proofs.put_head.Goals as goal
 
 pub returns-then-place : goal.returns-then-place

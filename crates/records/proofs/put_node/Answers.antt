@@ -1,7 +1,6 @@
 use borrow.Author.Tests.{not-true, not-false}
 use Rattle.records.specs.Records.{moved_to}
 use Rattle.records.proofs.Places.{off, on}
-use borrow.Author.Rules.{rules}
 use Rattle.records.proofs.put_node.Goals as goal
 
 pub returns-then-not-place : goal.returns-then-not-place

@@ -1,13 +1,11 @@
 use Rattle.paths.specs.Paths.{path_of}
-use Rattle.records.specs.Records.{put}
 use borrow.Author.Rules.{rules}
 use native.Mathlib.Omega.{arith}
 use mathlib.Core.Path.{◌≡◌, refl, ap, ◌∙◌}
-use lib.ListN.{length, take}
-use Prim.Native.Nat.{◌≤◌, ◌+◌, ◌-◌, ◌*◌}
-use Rattle.rules.specs.Base.{concat_map}
+use lib.ListN.{length}
+use Prim.Native.Nat.{◌+◌, ◌*◌}
 use Rattle.rules.specs.Plan as Plan
-use Rattle.records.proofs.Forms.{path-size, steps_left, steps_first, steps-more, path-put}
+use Rattle.records.proofs.Forms.{path-size, steps_first, steps-more, path-put}
 use Rattle.records.proofs.put_path.Goals as goal
 
 pub overflow_cast-n-2 : goal.overflow_cast-n-2
@@ -17,12 +15,11 @@ pub loop-i-init : goal.loop-i-init
 loop-i-init c = (omega arith, refl, steps_first _ _ _ _)
 
 pub loop-i-preserved : goal.loop-i-preserved
-loop-i-preserved c =
-    (
-      omega arith,
-      c.put32.auto.buf ∙ c.loop-i.invariant.1,
-      c.loop-i.invariant.2 ∙ steps-more _ _ _ _ _ _ (search rules) c.within-q.ensures.1 c.loop-i-test.true c.put32.ensures,
-    )
+loop-i-preserved c = (
+  omega arith,
+  c.put32.auto.buf ∙ c.loop-i.invariant.1,
+  c.loop-i.invariant.2 ∙ steps-more _ _ _ _ _ _ (search rules) c.within-q.ensures.1 c.loop-i-test.true c.put32.ensures,
+)
 
 pub returns : goal.returns
 returns c =

@@ -1,13 +1,10 @@
-use Rattle.paths.specs.Paths.{path_of}
 use Rattle.records.specs.Records.{put}
-use borrow.Author.Rules.{rules}
-use native.Mathlib.Omega.{arith}
-use mathlib.Core.Path.{◌≡◌, refl, ap, ◌∙◌}
+use mathlib.Core.Path.{◌≡◌}
 use lib.ListN.{length, take}
-use Prim.Native.Nat.{◌≤◌, ◌+◌, ◌-◌, ◌*◌}
+use Prim.Native.Nat.{◌≤◌, ◌+◌, ◌-◌}
 use Rattle.rules.specs.Base.{concat_map}
 use Rattle.rules.specs.Plan as Plan
-use Rattle.records.proofs.Forms.{path-size, steps_left, steps_first, steps-more, path-put}
+use Rattle.records.proofs.Forms.{steps_left}
 use Rattle.records.proofs.put_path.Given as goal
 
 abbrev pub invariant-loop-i : goal.invariant-loop-i

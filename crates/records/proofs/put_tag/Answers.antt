@@ -1,7 +1,6 @@
 use mathlib.Core.Path.{refl}
 use Rattle.records.proofs.Stores.{next}
 use Rattle.rules.specs.Constant.{union_tag, big_endian32}
-use borrow.Author.Rules.{rules}
 use Rattle.records.proofs.put_tag.Goals as goal
 
 pub returns : goal.returns

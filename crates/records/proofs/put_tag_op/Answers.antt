@@ -3,7 +3,6 @@ use borrow.Author.Tests.{not-true, not-false}
 use Rattle.records.proofs.Stores.{next}
 use Rattle.records.proofs.Places.{off, on}
 use Rattle.rules.specs.Plan as Plan
-use borrow.Author.Rules.{rules}
 use Rattle.records.proofs.put_tag_op.Goals as goal
 
 pub returns-then-not-place : goal.returns-then-not-place

@@ -3,7 +3,6 @@ use native.Mathlib.Omega.{arith}
 use borrow.Author.Tests.{not-true, not-false}
 use Rattle.records.proofs.Stores.{next}
 use Rattle.records.proofs.Places.{off, on, behind-is}
-use borrow.Author.Rules.{rules}
 use Rattle.records.proofs.put_text_at.Goals as goal
 
 pub returns-then-not-place : goal.returns-then-not-place

@@ -1,6 +1,5 @@
 use native.Mathlib.Omega.{arith}
 use Rattle.state.specs.State.{word_in}
-use borrow.Author.Rules.{rules}
 use Rattle.records.proofs.word_in.Goals as goal
 
 pub returns : goal.returns

@@ -1,6 +1,5 @@
 use mathlib.Core.Path.{sym, ◌∙◌}
 use Rattle.tally.proofs.Counts.{counted-skipped, counted-added}
-use borrow.Author.Rules.{rules}
 use Rattle.replay.proofs.count.Goals as goal
 
 pub returns-then-skipped : goal.returns-then-skipped

@@ -2,7 +2,6 @@ use mathlib.Core.Path.{sym, ◌∙◌}
 use native.Mathlib.Omega.{arith}
 use lib.Seq.{length-take-le}
 use Rattle.reread.proofs.Rereads.{at-space, agrees-short, agrees-long, agrees-here, hex-short}
-use borrow.Author.Rules.{rules}
 use Rattle.reread.proofs.agrees.Goals as goal
 
 pub returns-then-entry-e-lt6 : goal.returns-then-entry-e-lt6

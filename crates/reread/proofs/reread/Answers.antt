@@ -1,7 +1,6 @@
 use Rattle.lines.proofs.Calls.{printable, written}
 use Rattle.endings.proofs.Ends.{bytes}
 use Rattle.reread.proofs.Rereads.{said, output-is}
-use borrow.Author.Rules.{rules}
 use Rattle.reread.proofs.reread.Goals as goal
 
 pub put_line-requires : goal.put_line-requires

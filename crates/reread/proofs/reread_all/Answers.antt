@@ -1,10 +1,6 @@
 use lib.Arith.{lt_of_le-ne}
-use mathlib.Core.Path.{◌≡◌, refl, sym, ◌∙◌}
-use Prim.Native.Nat.{◌-◌, ◌≤◌}
+use mathlib.Core.Path.{refl, sym, ◌∙◌}
 use native.Mathlib.Omega.{arith}
-use lib.ListN.{length, drop}
-use Rattle.tally.specs.Tallies.{split, tallied}
-use Rattle.reread.specs.Plans.{agrees}
 use Rattle.tally.proofs.Counts.{counted-within}
 use Rattle.tally.proofs.Splits.{left-none, left-more, left-last}
 use Rattle.reread.proofs.reread_all.Goals as goal

@@ -1,6 +1,5 @@
 use lib.ListN.{replicate}
 use Rattle.reread.proofs.Rereads.{room-is, two-length}
-use borrow.Author.Rules.{rules}
 use Rattle.reread.proofs.room_of.Goals as goal
 
 pub returns : goal.returns

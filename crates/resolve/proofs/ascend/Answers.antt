@@ -1,10 +1,8 @@
 use native.Mathlib.Omega.{arith}
-use mathlib.Core.Path.{◌≡◌, refl, ◌∙◌}
-use lib.ListN.{length}
+use mathlib.Core.Path.{refl, ◌∙◌}
 use borrow.Author.Rules.{rules}
-use Rattle.file.specs.Tables.{tables_of}
 use Rattle.rules.proofs.Sound.{sound, passed-all}
-use Rattle.resolve.proofs.Chains.{Up, up_first, up_more, up-end}
+use Rattle.resolve.proofs.Chains.{up_first, up_more, up-end}
 use Rattle.resolve.proofs.ascend.Goals as goal
 
 pub loop-k-init : goal.loop-k-init

@@ -1,10 +1,7 @@
-use native.Mathlib.Omega.{arith}
-use mathlib.Core.Path.{◌≡◌, refl, ◌∙◌}
+use mathlib.Core.Path.{◌≡◌}
 use lib.ListN.{length}
-use borrow.Author.Rules.{rules}
 use Rattle.file.specs.Tables.{tables_of}
-use Rattle.rules.proofs.Sound.{sound, passed-all}
-use Rattle.resolve.proofs.Chains.{Up, up_first, up_more, up-end}
+use Rattle.resolve.proofs.Chains.{Up}
 use Rattle.resolve.proofs.ascend.Given as goal
 
 abbrev pub invariant-loop-k : goal.invariant-loop-k

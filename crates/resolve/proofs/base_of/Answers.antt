@@ -1,6 +1,5 @@
 use Rattle.resolve.proofs.Answers.{base-seen}
 use Rattle.resolve.specs.Resolved.{base_of}
-use borrow.Author.Rules.{rules}
 use Rattle.resolve.proofs.base_of.Goals as goal
 
 pub returns-in-Int : goal.returns-in-Int

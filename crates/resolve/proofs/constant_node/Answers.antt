@@ -1,6 +1,5 @@
 use native.Mathlib.Omega.{arith}
 use Rattle.resolve.proofs.Answers.{past-constant}
-use borrow.Author.Rules.{rules}
 use Rattle.resolve.proofs.constant_node.Goals as goal
 
 pub returns-else-node-count_of : goal.returns-else-node-count_of

@@ -1,5 +1,4 @@
 use Rattle.resolve.proofs.Answers.{declined-is}
-use borrow.Author.Rules.{rules}
 use Rattle.resolve.proofs.declined.Goals as goal
 
 pub returns : goal.returns

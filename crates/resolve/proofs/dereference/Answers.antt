@@ -1,7 +1,6 @@
 use Rattle.rules.specs.Resolve as ResolveRules
 use Rattle.slots.proofs.Tidy.{plain-is, kind-is, path-cleared}
 use Rattle.resolve.proofs.Answers.{gives-is, dereference-at}
-use borrow.Author.Rules.{rules}
 use Rattle.resolve.proofs.dereference.Goals as goal
 
 pub dereference_field-requires : goal.dereference_field-requires

@@ -3,7 +3,6 @@ use Rattle.rules.specs.Lookup.{fetched_register}
 use Rattle.views.specs.Views.{predicate_option}
 use Rattle.slots.proofs.Tidy.{field_is}
 use Rattle.resolve.proofs.Answers.{gives-is, plain-field, fact-field, fetched-at}
-use borrow.Author.Rules.{rules}
 use Rattle.resolve.proofs.dereference_field.Goals as goal
 
 pub returns-in-Nothing : goal.returns-in-Nothing

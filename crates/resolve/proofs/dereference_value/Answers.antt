@@ -2,7 +2,6 @@ use mathlib.Core.Path.{sym, ap, ◌∙◌}
 use Rattle.views.specs.Views.{predicate_option}
 use Rattle.slots.proofs.Tidy.{plain-is}
 use Rattle.resolve.proofs.Answers.{gives-is, plain_value, fact-value}
-use borrow.Author.Rules.{rules}
 use Rattle.resolve.proofs.dereference_value.Goals as goal
 
 pub returns-in-Nothing : goal.returns-in-Nothing

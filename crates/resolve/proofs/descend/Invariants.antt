@@ -1,11 +1,7 @@
-use mathlib.Core.Path.{sym, ◌∙◌}
-use native.Mathlib.Omega.{arith}
 use lib.ListN.{length}
 use Prim.Native.Nat.{◌-◌}
-use borrow.Author.Rules.{rules}
 use Rattle.file.specs.Tables.{tables_of}
-use Rattle.accepted_file.proofs.Given.{few-nodes}
-use Rattle.resolve.proofs.Chains.{Down, down-first, down-more, down-end, down-full, reader-in}
+use Rattle.resolve.proofs.Chains.{Down}
 use Rattle.resolve.proofs.descend.Given as goal
 
 abbrev pub invariant-loop-k : goal.invariant-loop-k

@@ -3,7 +3,6 @@ use Rattle.rules.specs.Resolve.{fetched_row}
 use Rattle.fields.specs.Found.{address_option}
 use Rattle.slots.proofs.Tidy.{plain-is}
 use Rattle.resolve.proofs.Answers.{gives-is, fetched-at}
-use borrow.Author.Rules.{rules}
 use Rattle.resolve.proofs.fetched_row.Goals as goal
 
 pub returns-in-Nothing : goal.returns-in-Nothing

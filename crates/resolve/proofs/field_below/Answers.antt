@@ -2,7 +2,6 @@ use mathlib.Core.Path.{sym, ap, ◌∙◌}
 use Rattle.rules.specs.Lookup.{fetched_register}
 use Rattle.views.specs.Views.{predicate_option}
 use Rattle.resolve.proofs.Answers.{gives-is, plain-below, fact-below, row_at}
-use borrow.Author.Rules.{rules}
 use Rattle.resolve.proofs.field_below.Goals as goal
 
 pub returns-in-Nothing : goal.returns-in-Nothing

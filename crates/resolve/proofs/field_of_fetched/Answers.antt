@@ -1,7 +1,6 @@
 use mathlib.Core.Path.{ap}
 use Rattle.fields.specs.Found.{address_option}
 use Rattle.resolve.proofs.Answers.{gives-is, no-row-field, row_field_lem}
-use borrow.Author.Rules.{rules}
 use Rattle.resolve.proofs.field_of_fetched.Goals as goal
 
 pub returns-in-Nothing : goal.returns-in-Nothing

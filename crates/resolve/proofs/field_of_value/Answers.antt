@@ -1,7 +1,6 @@
 use mathlib.Core.Path.{sym, ap, ◌∙◌}
 use Rattle.views.specs.Views.{predicate_option}
 use Rattle.resolve.proofs.Answers.{plain-value-field, fact-value-field}
-use borrow.Author.Rules.{rules}
 use Rattle.resolve.proofs.field_of_value.Goals as goal
 
 pub returns-in-Nothing : goal.returns-in-Nothing

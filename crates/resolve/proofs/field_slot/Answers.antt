@@ -1,7 +1,6 @@
 use Rattle.rules.specs.Resolve.{field_slot}
 use Rattle.slots.proofs.Tidy.{no-slot, kind-is, field_room}
 use Rattle.resolve.proofs.Answers.{gives-is, field_at}
-use borrow.Author.Rules.{rules}
 use Rattle.resolve.proofs.field_slot.Goals as goal
 
 pub field_below-requires : goal.field_below-requires

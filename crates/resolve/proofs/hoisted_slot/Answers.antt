@@ -4,7 +4,6 @@ use mathlib.Core.Option.{none, some}
 use Rattle.fields.specs.Found.{name_option}
 use Rattle.slots.proofs.Tidy.{no-slot, slot-as}
 use Rattle.resolve.proofs.Answers.{hoisted_by}
-use borrow.Author.Rules.{rules}
 use Rattle.resolve.proofs.hoisted_slot.Goals as goal
 
 pub returns-in-Nothing : goal.returns-in-Nothing

@@ -1,7 +1,6 @@
 use Rattle.slots.proofs.Tidy.{no-slot, slot-as}
 use Rattle.resolve.proofs.Answers.{leaf-seen}
 use Rattle.resolve.specs.Resolved.{leaf_slot}
-use borrow.Author.Rules.{rules}
 use Rattle.resolve.proofs.leaf.Goals as goal
 
 pub returns-in-Int : goal.returns-in-Int

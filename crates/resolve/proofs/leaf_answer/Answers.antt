@@ -1,7 +1,6 @@
 use mathlib.Core.Path.{sym, ◌∙◌}
 use Rattle.slots.proofs.Tidy.{plain-is}
 use Rattle.resolve.proofs.Answers.{gives-is, answers-as, constant-leaf, other-leaf, leaf-is}
-use borrow.Author.Rules.{rules}
 use Rattle.resolve.proofs.leaf_answer.Goals as goal
 
 pub returns-then-constant_node : goal.returns-then-constant_node

@@ -1,6 +1,5 @@
 use mathlib.Core.Path.{sym, ◌∙◌}
 use Rattle.resolve.proofs.Chains.{constant-reads, other-reads}
-use borrow.Author.Rules.{rules}
 use Rattle.resolve.proofs.read_of.Goals as goal
 
 pub returns-then-constant_node : goal.returns-then-constant_node

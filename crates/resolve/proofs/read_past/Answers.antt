@@ -2,7 +2,6 @@ use borrow.Author.Tests.{not-true, not-false}
 use Rattle.resolve.proofs.Answers.{follows-none, follows-some, rooms-of, read_at_lem, answers-as, select-as-past}
 use Rattle.slots.proofs.Tidy.{tidy-there}
 use Rattle.resolve.specs.Resolved.{found}
-use borrow.Author.Rules.{rules}
 use Rattle.resolve.proofs.read_past.Goals as goal
 
 pub returns-then-not-base : goal.returns-then-not-base

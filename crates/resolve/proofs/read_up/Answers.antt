@@ -1,6 +1,5 @@
 use mathlib.Core.Path.{sym, ◌∙◌}
 use Rattle.resolve.proofs.Chains.{up-nothing, up-read}
-use borrow.Author.Rules.{rules}
 use Rattle.resolve.proofs.read_up.Goals as goal
 
 pub returns-in-Nothing : goal.returns-in-Nothing

@@ -2,7 +2,6 @@ use borrow.Author.Tests.{not-true, not-false}
 use Rattle.rules.proofs.Sound.{passed-all}
 use Rattle.resolve.proofs.Answers.{follows-none, follows-some}
 use Rattle.resolve.proofs.OneRead.{node_seen, read_is, lookup-room}
-use borrow.Author.Rules.{rules}
 use Rattle.resolve.proofs.resolve.Goals as goal
 
 pub returns-then-not-found : goal.returns-then-not-found

@@ -1,4 +1,3 @@
-use borrow.Author.Rules.{rules}
 use lib.ListN.{replicate}
 use Rattle.rules.proofs.Sound.{sound, passed-all}
 use Rattle.accepted_file.proofs.Ranges.{nodes-lower}

@@ -1,5 +1,4 @@
 use native.Mathlib.Omega.{arith}
-use borrow.Author.Rules.{rules}
 use lib.ListN.{replicate}
 use Rattle.rules.proofs.Sound.{sound, passed-all}
 use Rattle.accepted_file.proofs.Ranges.{nodes-lower}

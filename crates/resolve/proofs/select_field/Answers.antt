@@ -2,7 +2,6 @@ use mathlib.Core.Path.{sym, ◌∙◌}
 use Rattle.rules.proofs.Sound.{sound, passed-all}
 use Rattle.resolve.proofs.Rooms.{union-room}
 use Rattle.resolve.proofs.Answers.{seen-run, no-union, of-union}
-use borrow.Author.Rules.{rules}
 use Rattle.resolve.proofs.select_field.Goals as goal
 
 pub alternative_of-requires : goal.alternative_of-requires
@@ -10,8 +9,11 @@ alternative_of-requires c = (seen-run c.in-Just.is c.union_ty.ensures.shows).ins
 
 pub selected-requires : goal.selected-requires
 selected-requires c =
-    record { path_len_bound = λ a e.
-          union-room (sound _ (passed-all _ c.requires.accepted_file.accepted)) _ _ _ _ a c.requires.clear_room.room (sym (seen-run c.in-Just.is c.union_ty.ensures.shows).is) (sym c.alternative_of.ensures ∙ e); path_value = c.requires.clear_room.clear }
+    record {
+      path_len_bound = λ a e.
+          union-room (sound _ (passed-all _ c.requires.accepted_file.accepted)) _ _ _ _ a c.requires.clear_room.room (sym (seen-run c.in-Just.is c.union_ty.ensures.shows).is) (sym c.alternative_of.ensures ∙ e);
+      path_value = c.requires.clear_room.clear;
+    }
 
 pub returns-in-Nothing : goal.returns-in-Nothing
 returns-in-Nothing c = no-union _ _ _ _ _ _ (seen-run c.in-Nothing.is c.union_ty.ensures.shows).is (c.declined.ensures _)

@@ -1,7 +1,6 @@
 use Rattle.rules.specs.Resolve.{select_slot}
 use Rattle.resolve.proofs.Answers.{select-at}
 use Rattle.slots.proofs.Tidy.{kind-is, field_room}
-use borrow.Author.Rules.{rules}
 use Rattle.resolve.proofs.select_slot.Goals as goal
 
 pub select_field-requires : goal.select_field-requires

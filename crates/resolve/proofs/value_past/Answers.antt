@@ -1,6 +1,5 @@
 use borrow.Author.Tests.{not-true, not-false}
 use Rattle.resolve.proofs.Answers.{next-is, follows-none, follows-some}
-use borrow.Author.Rules.{rules}
 use Rattle.resolve.proofs.value_past.Goals as goal
 
 pub returns-then-not-row : goal.returns-then-not-row

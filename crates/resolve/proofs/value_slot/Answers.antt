@@ -1,7 +1,6 @@
 use Rattle.rules.specs.Resolve.{value_slot}
 use Rattle.slots.proofs.Tidy.{no-slot, kind-is}
 use Rattle.resolve.proofs.Answers.{gives-is, value-at}
-use borrow.Author.Rules.{rules}
 use Rattle.resolve.proofs.value_slot.Goals as goal
 
 pub returns-in-Row : goal.returns-in-Row

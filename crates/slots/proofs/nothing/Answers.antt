@@ -2,7 +2,6 @@ use mathlib.Core.Path.{ap}
 use mathlib.Core.Bool.{false}
 use Rattle.slots.specs.declared.Slot.{Slot}
 use Rattle.slots.specs.declared.MaybeSlot.{MaybeSlot}
-use borrow.Author.Rules.{rules}
 use Rattle.slots.proofs.nothing.Goals as goal
 
 pub returns : goal.returns

@@ -1,7 +1,5 @@
 use native.Mathlib.Omega.{arith}
-use Prim.Native.Nat.{◌-◌}
-use Rattle.views.specs.Views.{alternative_at}
-use Rattle.tables.proofs.Searches.{Seeking, called, first-start, alternative-more, alternative-hit, alternative-end}
+use Rattle.tables.proofs.Searches.{first-start, alternative-more, alternative-hit, alternative-end}
 use Rattle.tables.proofs.alternative_of.Goals as goal
 
 pub loop-k-init : goal.loop-k-init

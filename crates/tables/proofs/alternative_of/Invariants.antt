@@ -1,7 +1,6 @@
-use native.Mathlib.Omega.{arith}
 use Prim.Native.Nat.{◌-◌}
 use Rattle.views.specs.Views.{alternative_at}
-use Rattle.tables.proofs.Searches.{Seeking, called, first-start, alternative-more, alternative-hit, alternative-end}
+use Rattle.tables.proofs.Searches.{Seeking, called}
 use Rattle.tables.proofs.alternative_of.Given as goal
 
 abbrev pub invariant-loop-k : goal.invariant-loop-k

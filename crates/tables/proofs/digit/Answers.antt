@@ -1,7 +1,6 @@
 use native.Mathlib.Omega.{arith}
-use Rattle.accepted_file.specs.Fates.{digit}
 use Rattle.tables.proofs.Digits.{digit-first, digit-later}
-use mathlib.Core.Path.{sym, ◌≡◌, refl, ◌∙◌}
+use mathlib.Core.Path.{sym, refl, ◌∙◌}
 use Rattle.tables.proofs.digit.Goals as goal
 
 pub loop-left-init : goal.loop-left-init

@@ -1,7 +1,5 @@
-use native.Mathlib.Omega.{arith}
 use Rattle.accepted_file.specs.Fates.{digit}
-use Rattle.tables.proofs.Digits.{digit-first, digit-later}
-use mathlib.Core.Path.{sym, ◌≡◌, refl, ◌∙◌}
+use mathlib.Core.Path.{◌≡◌}
 use Rattle.tables.proofs.digit.Given as goal
 
 abbrev pub invariant-loop-left : goal.invariant-loop-left

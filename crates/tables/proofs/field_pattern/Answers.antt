@@ -1,7 +1,5 @@
 use native.Mathlib.Omega.{arith}
-use Prim.Native.Nat.{◌-◌}
-use Rattle.views.specs.Views.{pattern_at}
-use Rattle.tables.proofs.Searches.{Seeking, named, first-start, pattern-more, pattern-hit, pattern-end}
+use Rattle.tables.proofs.Searches.{first-start, pattern-more, pattern-hit, pattern-end}
 use Rattle.tables.proofs.field_pattern.Goals as goal
 
 pub loop-k-init : goal.loop-k-init

@@ -1,7 +1,6 @@
-use native.Mathlib.Omega.{arith}
 use Prim.Native.Nat.{◌-◌}
 use Rattle.views.specs.Views.{pattern_at}
-use Rattle.tables.proofs.Searches.{Seeking, named, first-start, pattern-more, pattern-hit, pattern-end}
+use Rattle.tables.proofs.Searches.{Seeking, named}
 use Rattle.tables.proofs.field_pattern.Given as goal
 
 abbrev pub invariant-loop-k : goal.invariant-loop-k

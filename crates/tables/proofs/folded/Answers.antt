@@ -1,7 +1,6 @@
 use Rattle.tables.proofs.Searches.{stands_self, stands-bound}
 use mathlib.Core.Path.{◌∙◌, sym, ap}
 use Rattle.tables.specs.Tables.{found_option}
-use borrow.Author.Rules.{rules}
 use Rattle.tables.proofs.folded.Goals as goal
 
 pub returns-in_default : goal.returns-in_default

@@ -2,7 +2,6 @@ use Rattle.accepted_file.proofs.Given.{few-nodes}
 use native.Mathlib.Omega.{arith}
 use Rattle.tables.proofs.Searches.{flag-zero, flag_one}
 use mathlib.Core.Path.{◌∙◌, sym}
-use borrow.Author.Rules.{rules}
 use Rattle.tables.proofs.is_constant.Goals as goal
 
 pub overflow_add-n : goal.overflow_add-n

@@ -1,8 +1,6 @@
-use native.Mathlib.Omega.{arith}
 use mathlib.Core.Path.{sym, ap, ◌∙◌}
 use Rattle.tables.specs.Tables.{found_option}
 use Rattle.tables.proofs.Recalls.{any-node, quiet_none, quiet-some, quiet-other}
-use borrow.Author.Rules.{rules}
 use Rattle.tables.proofs.is_quiet.Goals as goal
 
 pub returns-in_default : goal.returns-in_default

@@ -2,7 +2,6 @@ use native.Mathlib.Omega.{arith}
 use mathlib.Core.Path.{refl, ◌∙◌}
 use Rattle.accepted_file.proofs.Given.{few-names, passed}
 use Rattle.tables.proofs.Searches.{no_name, no_last, last_none, last_some, last-slot, bound-none, bound_some}
-use borrow.Author.Rules.{rules}
 use Rattle.tables.proofs.lookup.Goals as goal
 
 pub returns-then-name-count_of : goal.returns-then-name-count_of

@@ -1,6 +1,5 @@
 use native.Mathlib.Omega.{arith}
 use Rattle.tables.proofs.Digits.{row-none, row-some}
-use borrow.Author.Rules.{rules}
 use Rattle.tables.proofs.recall.Goals as goal
 
 pub returns-then-row-eq0 : goal.returns-then-row-eq0

@@ -2,7 +2,6 @@ use native.Mathlib.Omega.{arith}
 use mathlib.Core.Path.{◌∙◌}
 use Rattle.accepted_file.proofs.Given.{few-nodes, few-types}
 use Rattle.tables.proofs.Recalls.{any-in, any-past}
-use borrow.Author.Rules.{rules}
 use Rattle.tables.proofs.recall_any.Goals as goal
 
 pub recall-requires : goal.recall-requires

@@ -1,9 +1,8 @@
 use Prim.Native.Nat.{ℕ, ◌≤◌, ◌<◌}
 use mathlib.Core.List.{List}
-use mathlib.Core.Path.{sym, ◌≡◌, refl, ◌∙◌}
+use mathlib.Core.Path.{sym, ◌≡◌}
 use native.Mathlib.Omega.{arith}
 use lib.ListN.{get_or-eq_default, length, get_or}
-use borrow.Author.Rules.{rules}
 use Rattle.tables.proofs.word_or_zero.Goals as goal
 
 past_end : (l : List ℕ) (n : ℕ) → length l ≤ n → 0 ≡ get_or l n 0

@@ -1,5 +1,4 @@
 use Rattle.tally.proofs.Counts.{skipped-empty, skipped-first}
-use borrow.Author.Rules.{rules}
 use Rattle.tally.proofs.skipped.Goals as goal
 
 pub returns-then-line-eq0 : goal.returns-then-line-eq0

@@ -1,6 +1,5 @@
 use native.Mathlib.Omega.{arith}
 use Rattle.texts.proofs.Past.{node-past}
-use borrow.Author.Rules.{rules}
 use Rattle.texts.proofs.any_constant.Goals as goal
 
 pub returns-then-node-count_of : goal.returns-then-node-count_of

@@ -1,6 +1,5 @@
 use mathlib.Core.Path.{sym, ap}
 use Rattle.texts.proofs.Sizes.{carried, bytes-size}
-use borrow.Author.Rules.{rules}
 use Rattle.texts.proofs.bytes_len.Goals as goal
 
 pub returns-in-Nothing : goal.returns-in-Nothing

@@ -1,5 +1,4 @@
 use Rattle.texts.proofs.Sizes.{edge-size, unset-size}
-use borrow.Author.Rules.{rules}
 use Rattle.texts.proofs.edge_len.Goals as goal
 
 pub returns-then-e : goal.returns-then-e

@@ -1,6 +1,5 @@
 use native.Mathlib.Omega.{arith}
 use Rattle.texts.proofs.Sizes.{text-size, past-size}
-use borrow.Author.Rules.{rules}
 use Rattle.texts.proofs.prefix_text_len.Goals as goal
 
 pub returns-then-name-count_of : goal.returns-then-name-count_of

@@ -1,6 +1,5 @@
 use native.Mathlib.Omega.{arith}
 use Rattle.texts.proofs.Sizes.{value-small, put-set, put-unset}
-use borrow.Author.Rules.{rules}
 use Rattle.texts.proofs.put_edge.Goals as goal
 
 pub put_text-requires : goal.put_text-requires

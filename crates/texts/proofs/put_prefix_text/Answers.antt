@@ -1,7 +1,6 @@
 use native.Mathlib.Omega.{arith}
 use mathlib.Core.Path.{refl}
 use Rattle.texts.proofs.Sizes.{put-name, put-past}
-use borrow.Author.Rules.{rules}
 use Rattle.texts.proofs.put_prefix_text.Goals as goal
 
 pub put_prefix-requires : goal.put_prefix-requires

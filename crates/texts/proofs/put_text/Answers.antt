@@ -1,6 +1,5 @@
 use native.Mathlib.Omega.{arith}
 use Rattle.texts.proofs.Sizes.{node_in_lem, here, empty-text, whole-text}
-use borrow.Author.Rules.{rules}
 use Rattle.texts.proofs.put_text.Goals as goal
 
 pub returns-then-n-eq0 : goal.returns-then-n-eq0

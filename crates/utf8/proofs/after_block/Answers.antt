@@ -1,6 +1,5 @@
 use native.Mathlib.Omega.{arith}
 use Rattle.utf8.proofs.Blocks.{low-block}
-use borrow.Author.Rules.{rules}
 use Rattle.utf8.proofs.after_block.Goals as goal
 
 pub returns-then-greatest_byte-lt128 : goal.returns-then-greatest_byte-lt128

@@ -1,12 +1,5 @@
-use mathlib.Core.Path.{◌≡◌, refl, sym, ap, ◌∙◌}
-use mathlib.Core.List.{List, []}
-use mathlib.Core.Option.{Option, some}
+use mathlib.Core.Path.{sym, ◌∙◌}
 use native.Mathlib.Omega.{arith}
-use borrow.Author.Rules.{rules}
-use Prim.Native.Nat.{◌-◌}
-use lib.ListN.{length, drop}
-use Rattle.rules.specs.Utf8.{after_all}
-use Rattle.utf8.specs.Wants.{wants}
 use Rattle.utf8.proofs.Nexts.{made}
 use Rattle.utf8.proofs.Blocks.{block_in, block_more, after-end, after-start}
 use Rattle.utf8.proofs.after_blocks.Goals as goal

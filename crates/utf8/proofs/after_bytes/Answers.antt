@@ -1,12 +1,4 @@
-use mathlib.Core.Path.{◌≡◌, refl, sym, ap, ◌∙◌}
-use mathlib.Core.List.{List}
-use mathlib.Core.Option.{Option}
-use native.Mathlib.Omega.{arith}
-use borrow.Author.Rules.{rules}
-use Prim.Native.Nat.{◌-◌, ◌+◌}
-use lib.ListN.{length, drop}
-use Rattle.rules.specs.Utf8.{after_all}
-use Rattle.utf8.specs.Wants.{wants}
+use mathlib.Core.Path.{refl, sym, ◌∙◌}
 use Rattle.utf8.proofs.Blocks.{after_more, after-end}
 use Rattle.utf8.proofs.after_bytes.Goals as goal
 

@@ -1,13 +1,8 @@
-use mathlib.Core.Path.{◌≡◌, refl, sym, ap, ◌∙◌}
-use mathlib.Core.List.{List}
-use mathlib.Core.Option.{Option}
-use native.Mathlib.Omega.{arith}
-use borrow.Author.Rules.{rules}
-use Prim.Native.Nat.{◌-◌, ◌+◌}
+use mathlib.Core.Path.{◌≡◌}
+use Prim.Native.Nat.{◌-◌}
 use lib.ListN.{length, drop}
 use Rattle.rules.specs.Utf8.{after_all}
 use Rattle.utf8.specs.Wants.{wants}
-use Rattle.utf8.proofs.Blocks.{after_more, after-end}
 use Rattle.utf8.proofs.after_bytes.Given as goal
 
 abbrev pub invariant-loop-i : goal.invariant-loop-i

@@ -1,9 +1,4 @@
-use mathlib.Core.Path.{◌≡◌, refl, sym, ap, ◌∙◌}
-use native.Mathlib.Omega.{arith}
-use borrow.Author.Rules.{rules}
-use Prim.Native.Nat.{◌-◌, ◌+◌}
-use lib.ListN.{length, drop}
-use Rattle.utf8.specs.Wants.{greatest_of}
+use mathlib.Core.Path.{refl, sym, ◌∙◌}
 use Rattle.utf8.proofs.Blocks.{greatest-more, greatest-end}
 use Rattle.utf8.proofs.greatest_byte.Goals as goal
 

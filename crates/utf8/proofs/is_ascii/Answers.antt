@@ -1,4 +1,3 @@
-use borrow.Author.Rules.{rules}
 use Rattle.utf8.proofs.Blocks.{low-greatest}
 use Rattle.utf8.proofs.is_ascii.Goals as goal
 

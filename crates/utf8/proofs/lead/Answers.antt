@@ -2,7 +2,6 @@ use mathlib.Core.Path.{sym, ◌∙◌}
 use native.Mathlib.Omega.{arith}
 use Rattle.rules.proofs.Utf8.{begins-one, begins-tail, begins-two}
 use Rattle.utf8.proofs.Nexts.{made}
-use borrow.Author.Rules.{rules}
 use Rattle.utf8.proofs.lead.Goals as goal
 
 pub returns-then-b-lt128 : goal.returns-then-b-lt128

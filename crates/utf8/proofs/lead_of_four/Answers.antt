@@ -2,7 +2,6 @@ use mathlib.Core.Path.{sym, ◌∙◌}
 use native.Mathlib.Omega.{arith}
 use Rattle.rules.proofs.Utf8.{begins-F0, begins-F1, begins-F4, begins-above}
 use Rattle.utf8.proofs.Nexts.{made}
-use borrow.Author.Rules.{rules}
 use Rattle.utf8.proofs.lead_of_four.Goals as goal
 
 pub returns-then-b-eq240 : goal.returns-then-b-eq240

@@ -3,7 +3,6 @@ use native.Mathlib.Omega.{arith}
 use Rattle.rules.proofs.Utf8.{begins-E0, begins-E1, begins-ED, begins-EE}
 use Rattle.rules.proofs.Cases.{by_order}
 use Rattle.utf8.proofs.Nexts.{made}
-use borrow.Author.Rules.{rules}
 use Rattle.utf8.proofs.lead_of_three.Goals as goal
 
 pub returns-then-b-eq224 : goal.returns-then-b-eq224

@@ -1,9 +1,5 @@
-use mathlib.Core.Path.{◌≡◌, refl, sym, ◌∙◌}
+use mathlib.Core.Path.{refl, sym, ◌∙◌}
 use native.Mathlib.Omega.{arith}
-use Prim.Native.Nat.{◌-◌}
-use lib.ListN.{length, drop}
-use Rattle.rules.specs.Base.{all}
-use Rattle.utf8.specs.Wants.{is_low}
 use Rattle.utf8.proofs.Blocks.{low-more, low-fault, low_end}
 use Rattle.utf8.proofs.low_bytes.Goals as goal
 

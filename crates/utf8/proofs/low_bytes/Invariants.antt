@@ -1,10 +1,8 @@
-use mathlib.Core.Path.{◌≡◌, refl, sym, ◌∙◌}
-use native.Mathlib.Omega.{arith}
+use mathlib.Core.Path.{◌≡◌}
 use Prim.Native.Nat.{◌-◌}
 use lib.ListN.{length, drop}
 use Rattle.rules.specs.Base.{all}
 use Rattle.utf8.specs.Wants.{is_low}
-use Rattle.utf8.proofs.Blocks.{low-more, low-fault, low_end}
 use Rattle.utf8.proofs.low_bytes.Given as goal
 
 abbrev pub invariant-loop-i : goal.invariant-loop-i

@@ -1,5 +1,4 @@
 use mathlib.Core.Path.{sym, ◌∙◌}
-use borrow.Author.Rules.{rules}
 use Rattle.utf8.proofs.Blocks.{ended, low-text}
 use Rattle.utf8.proofs.well_formed.Goals as goal
 

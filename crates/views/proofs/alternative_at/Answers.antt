@@ -1,6 +1,5 @@
 use mathlib.Core.Path.{refl}
 use Rattle.views.specs.Views.{alternative_at}
-use borrow.Author.Rules.{rules}
 use Rattle.views.proofs.alternative_at.Goals as goal
 
 pub returns : goal.returns

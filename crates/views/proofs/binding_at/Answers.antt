@@ -3,12 +3,10 @@ use mathlib.Core.Path.{ap, ◌∙◌, ap₂}
 use native.Mathlib.Omega.{arith}
 use Rattle.file.specs.Steps.{word}
 use Rattle.rules.specs.File.{Slot}
-use Rattle.views.specs.Views.{or_none, predicate_maybe, predicate_option, binding_at}
-use Rattle.views.proofs.Slots.{BindingRead, binding-here, seen-binding, shown-binding, first-here, row_here, key_here, derived-here, field-here, value-here, const-here, field_is}
-use Rattle.file.specs.Tables.{tables_of}
+use Rattle.views.specs.Views.{predicate_maybe, predicate_option}
+use Rattle.views.proofs.Slots.{binding-here, seen-binding, shown-binding, first-here, row_here, key_here, derived-here, field-here, value-here, const-here, field_is}
 use Rattle.views.proofs.Entries.{predicate-option}
 use Rattle.views.specs.declared.SlotView.TheVariants as Sv
-use borrow.Author.Rules.{rules}
 use Rattle.views.proofs.binding_at.Goals as goal
 
 pub start_of-at-requires : goal.start_of-at-requires
@@ -73,9 +71,12 @@ returns-in-2 c = record { shows = seen-binding _ _ _ ((binding-here _ _ c.requir
 
 pub returns-in-3 : goal.returns-in-3
 returns-in-3 c =
-    let last = c.word_at-in-3.ensures.reads ∙ ap (word c.args.file.now) c.past_path.ensures in record { shows = seen-binding _ _ _ ((binding-here _ _ c.requires.indexed _ _ c.requires.b_in_bounds c.start_of-at.ensures)) _ c.word_at-name.ensures.reads
+    let last = c.word_at-in-3.ensures.reads ∙ ap (word c.args.file.now) c.past_path.ensures in record {
+      shows = seen-binding _ _ _ ((binding-here _ _ c.requires.indexed _ _ c.requires.b_in_bounds c.start_of-at.ensures)) _ c.word_at-name.ensures.reads
           (field_is _ _ _ ((binding-here _ _ c.requires.indexed _ _ c.requires.b_in_bounds c.start_of-at.ensures)) _ _ (omega arith) c.half_at.ensures last)
-          (field-here _ _ _ ((binding-here _ _ c.requires.indexed _ _ c.requires.b_in_bounds c.start_of-at.ensures)) (omega arith)).path; view = shown-binding _ _ _ 3 _ _ c.start_of-at.ensures (omega arith) c.word_at-name.ensures.reads (ap₂ (λ a t. Sv.Field (record { 0 = a }) (c.start_of-at.result + 2 + 1 + 2) t) c.half_at.ensures last) }
+          (field-here _ _ _ ((binding-here _ _ c.requires.indexed _ _ c.requires.b_in_bounds c.start_of-at.ensures)) (omega arith)).path;
+      view = shown-binding _ _ _ 3 _ _ c.start_of-at.ensures (omega arith) c.word_at-name.ensures.reads (ap₂ (λ a t. Sv.Field (record { 0 = a }) (c.start_of-at.result + 2 + 1 + 2) t) c.half_at.ensures last);
+    }
 
 pub returns-in-4 : goal.returns-in-4
 returns-in-4 c = record { shows = seen-binding _ _ _ ((binding-here _ _ c.requires.indexed _ _ c.requires.b_in_bounds c.start_of-at.ensures)) _ c.word_at-name.ensures.reads (ap₂ Slot.Value c.half_at.ensures c.word_at-in-4.ensures.reads ∙ (value-here _ _ _ ((binding-here _ _ c.requires.indexed _ _ c.requires.b_in_bounds c.start_of-at.ensures)) (omega arith)).1) tt; view = shown-binding _ _ _ 4 _ _ c.start_of-at.ensures (omega arith) c.word_at-name.ensures.reads (ap₂ (λ a t. Sv.Value (record { 0 = a }) t) c.half_at.ensures c.word_at-in-4.ensures.reads) }

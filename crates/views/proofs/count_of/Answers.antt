@@ -3,7 +3,6 @@ use native.Mathlib.Omega.{arith}
 use lib.ListN.{get_or}
 use Rattle.file.proofs.Sections.{roomy}
 use Rattle.views.proofs.Entries.{size-found}
-use borrow.Author.Rules.{rules}
 use Rattle.views.proofs.count_of.Goals as goal
 
 pub offset_bounds-index-base : goal.offset_bounds-index-base

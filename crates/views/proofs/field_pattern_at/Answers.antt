@@ -1,6 +1,5 @@
 use mathlib.Core.Path.{refl}
 use Rattle.views.specs.Views.{pattern_at}
-use borrow.Author.Rules.{rules}
 use Rattle.views.proofs.field_pattern_at.Goals as goal
 
 pub returns : goal.returns

@@ -1,6 +1,5 @@
 use native.Mathlib.Omega.{arith}
 use Rattle.views.specs.Views.{long}
-use borrow.Author.Rules.{rules}
 use Rattle.views.proofs.long_at.Goals as goal
 
 pub returns : goal.returns

@@ -1,7 +1,6 @@
 use mathlib.Core.Path.{refl}
 use native.Mathlib.Omega.{arith}
 use Rattle.views.proofs.Entries.{name-seen, text-shown}
-use borrow.Author.Rules.{rules}
 use Rattle.views.proofs.name_at.Goals as goal
 
 pub start_of-p-requires : goal.start_of-p-requires

@@ -1,6 +1,5 @@
 use native.Mathlib.Omega.{arith}
 use Rattle.views.specs.Views.{PathInside}
-use borrow.Author.Rules.{rules}
 use Rattle.views.proofs.past_path.Goals as goal
 
 pub overflow_add-result : goal.overflow_add-result

@@ -1,10 +1,7 @@
 use native.Mathlib.Omega.{arith}
 use mathlib.Core.Path.{◌≡◌, refl, sym, ◌∙◌}
-use lib.Seq.{sets}
-use Prim.Native.Nat.{◌≤◌, ◌-◌, ◌+◌, ◌*◌}
-use lib.ListN.{length, take, length-set}
-use Rattle.rules.specs.Limits.{step_limit}
-use Rattle.views.specs.Views.{run, long, PathInside}
+use lib.ListN.{length-set}
+use Rattle.views.specs.Views.{PathInside}
 use Rattle.views.proofs.PathsAt.{none-copied, copied, holds, all_left, left, none_left, whole}
 use Rattle.views.proofs.path_at.Goals as goal
 

@@ -1,11 +1,9 @@
-use native.Mathlib.Omega.{arith}
-use mathlib.Core.Path.{◌≡◌, refl, sym, ◌∙◌}
+use mathlib.Core.Path.{◌≡◌}
 use lib.Seq.{sets}
 use Prim.Native.Nat.{◌≤◌, ◌-◌, ◌+◌, ◌*◌}
-use lib.ListN.{length, take, length-set}
+use lib.ListN.{length, take}
 use Rattle.rules.specs.Limits.{step_limit}
-use Rattle.views.specs.Views.{run, long, PathInside}
-use Rattle.views.proofs.PathsAt.{none-copied, copied, holds, all_left, left, none_left, whole}
+use Rattle.views.specs.Views.{run, long}
 use Rattle.views.proofs.path_at.Given as goal
 
 abbrev pub invariant-loop-i : goal.invariant-loop-i

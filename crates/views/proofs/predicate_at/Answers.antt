@@ -1,10 +1,9 @@
-use mathlib.Core.Path.{◌≡◌, ap, ◌∙◌}
+use mathlib.Core.Path.{ap, ◌∙◌}
 use native.Mathlib.Omega.{arith}
 use Prim.Native.Nat.{◌+◌, ℕ}
 use lib.ListN.{get_or}
 use Rattle.file.specs.Steps.{base_of}
 use Rattle.views.proofs.Entries.{predicate-here}
-use borrow.Author.Rules.{rules}
 use Rattle.views.proofs.predicate_at.Goals as goal
 
 pub start_of-at-requires : goal.start_of-at-requires

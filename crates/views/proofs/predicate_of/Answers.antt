@@ -1,6 +1,5 @@
 use native.Mathlib.Omega.{arith}
 use Rattle.views.proofs.Past.{past-predicates}
-use borrow.Author.Rules.{rules}
 use Rattle.views.proofs.predicate_of.Goals as goal
 
 pub predicate_at-requires : goal.predicate_at-requires

@@ -3,7 +3,6 @@ use native.Mathlib.Omega.{arith}
 use Prim.Native.Nat.{◌+◌}
 use lib.ListN.{get_or}
 use Rattle.file.proofs.Sections.{roomy}
-use borrow.Author.Rules.{rules}
 use Rattle.views.proofs.start_of.Goals as goal
 
 pub overflow_add-base : goal.overflow_add-base

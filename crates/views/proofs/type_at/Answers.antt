@@ -1,6 +1,5 @@
 use native.Mathlib.Omega.{arith}
 use Rattle.views.proofs.Entries.{type-here, seen-int, seen-str, seen_bytes, seen-fact, seen-record, seen-union, fact-room, fields-here, alternatives-here}
-use borrow.Author.Rules.{rules}
 use Rattle.views.proofs.type_at.Goals as goal
 
 named : {A B : Type 0} → A × B → record { shows : A; view : B }

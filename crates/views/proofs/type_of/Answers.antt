@@ -1,6 +1,5 @@
 use native.Mathlib.Omega.{arith}
 use Rattle.views.proofs.Past.{known-type, past-types}
-use borrow.Author.Rules.{rules}
 use Rattle.views.proofs.type_of.Goals as goal
 
 named : {A B : Type 0} → A × B → record { shows : A; view : B }

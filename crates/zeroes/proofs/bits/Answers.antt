@@ -1,8 +1,4 @@
-use mathlib.Core.Path.{◌≡◌, refl, sym, ◌∙◌}
-use native.Mathlib.Omega.{arith}
-use Prim.Native.Nat.{◌-◌}
-use lib.ListN.{length, drop}
-use Rattle.zeroes.specs.Zeroed.{bits_of}
+use mathlib.Core.Path.{refl, sym, ◌∙◌}
 use Rattle.zeroes.proofs.Blocks.{bits-more, bits-end}
 use Rattle.zeroes.proofs.bits.Goals as goal
 

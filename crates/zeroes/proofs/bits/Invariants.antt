@@ -1,9 +1,7 @@
-use mathlib.Core.Path.{◌≡◌, refl, sym, ◌∙◌}
-use native.Mathlib.Omega.{arith}
+use mathlib.Core.Path.{◌≡◌}
 use Prim.Native.Nat.{◌-◌}
 use lib.ListN.{length, drop}
 use Rattle.zeroes.specs.Zeroed.{bits_of}
-use Rattle.zeroes.proofs.Blocks.{bits-more, bits-end}
 use Rattle.zeroes.proofs.bits.Given as goal
 
 abbrev pub invariant-loop-i : goal.invariant-loop-i

@@ -1,6 +1,5 @@
 use mathlib.Core.Path.{sym, ◌∙◌}
 use Rattle.zeroes.proofs.Blocks.{clean}
-use borrow.Author.Rules.{rules}
 use Rattle.zeroes.proofs.clear.Goals as goal
 
 pub returns-else-bits-ne0 : goal.returns-else-bits-ne0

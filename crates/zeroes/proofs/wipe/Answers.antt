@@ -1,8 +1,6 @@
-use mathlib.Core.Path.{◌≡◌, refl, sym, ◌∙◌}
+use mathlib.Core.Path.{refl, sym, ◌∙◌}
 use native.Mathlib.Omega.{arith}
-use lib.ListN.{length, length-set}
-use Prim.Native.Nat.{◌-◌}
-use Rattle.zeroes.specs.Zeroed.{zeroed}
+use lib.ListN.{length-set}
 use Rattle.zeroes.proofs.Blocks.{zero_more, zero-end}
 use Rattle.zeroes.proofs.wipe.Goals as goal
 

@@ -1,8 +1,5 @@
-use mathlib.Core.Path.{◌≡◌, refl, sym, ◌∙◌}
+use mathlib.Core.Path.{refl, sym, ◌∙◌}
 use native.Mathlib.Omega.{arith}
-use lib.ListN.{length}
-use Prim.Native.Nat.{◌-◌}
-use Rattle.zeroes.specs.Zeroed.{zeroed}
 use Rattle.zeroes.proofs.Blocks.{zero-end, block_in, block_same, block_more}
 use Rattle.zeroes.proofs.zero.Goals as goal
 

@@ -1,9 +1,7 @@
-use mathlib.Core.Path.{◌≡◌, refl, sym, ◌∙◌}
-use native.Mathlib.Omega.{arith}
+use mathlib.Core.Path.{◌≡◌}
 use lib.ListN.{length}
 use Prim.Native.Nat.{◌-◌}
 use Rattle.zeroes.specs.Zeroed.{zeroed}
-use Rattle.zeroes.proofs.Blocks.{zero-end, block_in, block_same, block_more}
 use Rattle.zeroes.proofs.zero.Given as goal
 
 abbrev pub invariant-loop-at : goal.invariant-loop-at

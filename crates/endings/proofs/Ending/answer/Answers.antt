@@ -1,6 +1,5 @@
 use mathlib.Core.Path.{sym, ap}
 use Rattle.endings.specs.Endings.{answer_of}
-use borrow.Author.Rules.{rules}
 use Rattle.endings.proofs.Ending.answer.Goals as goal
 
 pub returns-in-Refused : goal.returns-in-Refused

@@ -1,5 +1,4 @@
 use Rattle.endings.proofs.Ends.{finished}
-use borrow.Author.Rules.{rules}
 use Rattle.endings.proofs.Ending.finish.Goals as goal
 
 named : {A B C : Type 0} → A × (B × C) → record { result : A; output : B; work : C }

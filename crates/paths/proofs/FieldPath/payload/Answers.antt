@@ -1,5 +1,4 @@
 use Rattle.rules.specs.File.{payload}
-use borrow.Author.Rules.{rules}
 use Rattle.paths.proofs.FieldPath.payload.Goals as goal
 
 pub returns : goal.returns

@@ -1,10 +1,7 @@
-use mathlib.Core.Path.{◌≡◌, ◌∙◌}
-use lib.ListN.{length, take, drop}
-use Prim.Native.Nat.{◌≤◌, ◌-◌}
+use mathlib.Core.Path.{◌∙◌}
 use native.Mathlib.Omega.{arith}
 use borrow.Author.Rules.{rules}
 use Rattle.rules.specs.Limits.{step_limit}
-use Rattle.rules.specs.Lookup.{same_steps}
 use Rattle.paths.proofs.Laws.{steps-more, steps-stop, steps-end, fields-differ, counts-differ, steps-decide}
 use Rattle.paths.proofs.FieldPath.same.Goals as goal
 

@@ -1,11 +1,8 @@
-use mathlib.Core.Path.{◌≡◌, ◌∙◌}
+use mathlib.Core.Path.{◌≡◌}
 use lib.ListN.{length, take, drop}
 use Prim.Native.Nat.{◌≤◌, ◌-◌}
-use native.Mathlib.Omega.{arith}
-use borrow.Author.Rules.{rules}
 use Rattle.rules.specs.Limits.{step_limit}
 use Rattle.rules.specs.Lookup.{same_steps}
-use Rattle.paths.proofs.Laws.{steps-more, steps-stop, steps-end, fields-differ, counts-differ, steps-decide}
 use Rattle.paths.proofs.FieldPath.same.Given as goal
 
 abbrev pub invariant-loop-i : goal.invariant-loop-i

@@ -1,5 +1,4 @@
 use Rattle.seek.proofs.Falls.{attach-builds, attach-guided, attach-bare, attach-ranged}
-use borrow.Author.Rules.{rules}
 use Rattle.seek.proofs.SeekBuilder.attachable.Goals as goal
 
 pub returns-then-self : goal.returns-then-self

@@ -1,13 +1,7 @@
-use mathlib.Core.Path.{◌≡◌, refl, ◌∙◌}
-use mathlib.Core.List.{List}
-use Prim.Native.Nat.{ℕ, ◌≤◌, ◌-◌}
+use mathlib.Core.Path.{refl, ◌∙◌}
 use native.Mathlib.Omega.{arith}
-use borrow.Author.Rules.{rules}
 use borrow.Author.Tests.{not-true, not-false}
-use Rattle.state.specs.State.{Ends}
-use Rattle.file.specs.Tables.{tables_of}
-use Rattle.seek.specs.Seek.{state_of}
-use Rattle.seek.proofs.Folds.{edged, folding, turn, ends, bound-over, bound-fallen, bound-folds}
+use Rattle.seek.proofs.Folds.{turn, ends, bound-over, bound-fallen, bound-folds}
 use Rattle.seek.proofs.SeekBuilder.bound.Goals as goal
 
 pub returns-then-self : goal.returns-then-self

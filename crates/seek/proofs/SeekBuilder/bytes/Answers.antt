@@ -6,7 +6,6 @@ use Rattle.state.specs.Ops.{narrowing}
 use Rattle.paths.specs.Paths.{path_of}
 use Rattle.seek.specs.Seek.{constant_bytes}
 use Rattle.seek.proofs.Narrows.{still, as-part, as-rest}
-use borrow.Author.Rules.{rules}
 use Rattle.seek.proofs.SeekBuilder.bytes.Goals as goal
 
 pub returns-then-self : goal.returns-then-self

@@ -9,7 +9,6 @@ use Rattle.seek.specs.Seek.{constant_bytes}
 use Rattle.seek.proofs.Consts.{known, small, alike, here, wrote}
 use Rattle.seek.proofs.Narrows.{text-size, exact}
 use Rattle.seek.proofs.Parts.{part-is, part_room}
-use borrow.Author.Rules.{rules}
 use Rattle.seek.proofs.SeekBuilder.bytes_part.Goals as goal
 
 pub part-p-requires : goal.part-p-requires
@@ -18,10 +17,15 @@ part-p-requires c = omega (arith, small _ _ _ _ (known _ _ _ _ _ _ c.requires.ty
 pub put_constant_at-requires : goal.put_constant_at-requires
 put_constant_at-requires c =
     let p = c.part-p in
-    let h = c.put_head-at in record { accepted_file = c.requires.accepted_file; node_in_bounds = c.requires.value_in_bounds; ty_in_bounds = c.requires.ty_in_bounds; room_for_bytes = λ on.
-              here _ _ _ _ (known _ _ _ _ _ _ c.requires.ty_value) _
-              (part_room c.args.self false true _ 3 p.result p.ensures.grows.0 (sym (behind-writes p.result.place h.result _ h.ensures.1) ∙ on))
-              (omega (arith, h.ensures.2, p.ensures.grows.1)) }
+    let h = c.put_head-at in record {
+      accepted_file = c.requires.accepted_file;
+      node_in_bounds = c.requires.value_in_bounds;
+      ty_in_bounds = c.requires.ty_in_bounds;
+      room_for_bytes = λ on.
+          here _ _ _ _ (known _ _ _ _ _ _ c.requires.ty_value) _
+          (part_room c.args.self false true _ 3 p.result p.ensures.grows.0 (sym (behind-writes p.result.place h.result _ h.ensures.1) ∙ on))
+          (omega (arith, h.ensures.2, p.ensures.grows.1));
+    }
 
 pub returns : goal.returns
 unfolding is_bytes part_text

@@ -10,7 +10,6 @@ use Rattle.seek.proofs.Narrows.{residual-text, text-residual, exact}
 use Rattle.seek.proofs.Parts.{residual-is, residual-room}
 use Rattle.seek.specs.Seek.{constant_bytes}
 use Rattle.seek.proofs.Consts.{known, small, alike, here, wrote}
-use borrow.Author.Rules.{rules}
 use Rattle.seek.proofs.SeekBuilder.bytes_residual.Goals as goal
 
 pub overflow_add-path_size-2 : goal.overflow_add-path_size-2
@@ -24,10 +23,15 @@ put_constant_at-requires c =
     let n = c.path_size.result in
     let p = c.residual-p in
     let q = c.put_path_at-op in
-    let t = c.put_text_at-at in record { accepted_file = c.requires.accepted_file; node_in_bounds = c.requires.value_in_bounds; ty_in_bounds = c.requires.ty_in_bounds; room_for_bytes = λ on.
-              let room : n + 3 + c.args.len ≤ 16384 =
-              residual-room c.args.self _ p.result p.ensures.grows.0 (sym (behind-writes q.result t.result _ t.ensures.1 ∙ behind-writes p.result.place q.result _ q.ensures.1) ∙ on) in
-              here _ _ _ _ (known _ _ _ _ _ _ c.requires.ty_value) _ (omega arith) (omega (arith, t.ensures.2, q.ensures.2, p.ensures.grows.1)) }
+    let t = c.put_text_at-at in record {
+      accepted_file = c.requires.accepted_file;
+      node_in_bounds = c.requires.value_in_bounds;
+      ty_in_bounds = c.requires.ty_in_bounds;
+      room_for_bytes = λ on.
+          let room : n + 3 + c.args.len ≤ 16384 =
+          residual-room c.args.self _ p.result p.ensures.grows.0 (sym (behind-writes q.result t.result _ t.ensures.1 ∙ behind-writes p.result.place q.result _ q.ensures.1) ∙ on) in
+          here _ _ _ _ (known _ _ _ _ _ _ c.requires.ty_value) _ (omega arith) (omega (arith, t.ensures.2, q.ensures.2, p.ensures.grows.1));
+    }
 
 pub returns : goal.returns
 unfolding Plan.op

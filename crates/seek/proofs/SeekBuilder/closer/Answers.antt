@@ -8,7 +8,6 @@ use Rattle.rules.specs.Constant.{term}
 use Rattle.state.specs.Ops.{is_bytes, part_text}
 use Rattle.seek.proofs.Narrows.{close-over, close-none, close-part}
 use borrow.Author.Tests.{not-true, not-false}
-use borrow.Author.Rules.{rules}
 use Rattle.seek.proofs.SeekBuilder.closer.Goals as goal
 
 pub returns-then-self : goal.returns-then-self

@@ -5,7 +5,6 @@ use mathlib.Core.Path.{◌≡◌, sym, ap, ◌∙◌}
 use Rattle.file.specs.Tables.{tables_of}
 use Rattle.rules.specs.File.{Comparison}
 use Rattle.seek.proofs.Folds.{edges-same, edges-stay, fold-left, fold-right, fold-none, left_in, right-in}
-use borrow.Author.Rules.{rules}
 use Rattle.seek.proofs.SeekBuilder.compared.Goals as goal
 
 pub is_var-requires : goal.is_var-requires

@@ -1,8 +1,7 @@
-use mathlib.Core.Path.{◌≡◌, sym, ◌∙◌}
+use mathlib.Core.Path.{sym, ◌∙◌}
 use native.Mathlib.Omega.{arith}
 use Rattle.accepted_file.proofs.Given.{few-types, few-nodes, few-comparisons}
 use Rattle.seek.proofs.Folds.{edges-same, edges-stay, edge_none, edge-bytes}
-use borrow.Author.Rules.{rules}
 use Rattle.seek.proofs.SeekBuilder.edge_at.Goals as goal
 
 -- src/bounds.rt:143:30

@@ -6,7 +6,6 @@ use Rattle.rules.specs.Plan as Plan
 use Rattle.rules.specs.Placement.{SeekKeyPart}
 use Rattle.state.specs.Ops.{is_bytes, part_text}
 use Rattle.records.specs.Records.{form_of}
-use borrow.Author.Rules.{rules}
 use Rattle.seek.proofs.SeekBuilder.fact_part.Goals as goal
 
 pub returns : goal.returns

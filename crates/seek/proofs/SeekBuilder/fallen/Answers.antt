@@ -1,5 +1,4 @@
 use Rattle.seek.proofs.Falls.{fell-is}
-use borrow.Author.Rules.{rules}
 use Rattle.seek.proofs.SeekBuilder.fallen.Goals as goal
 
 pub returns : goal.returns

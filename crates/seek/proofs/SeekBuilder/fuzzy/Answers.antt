@@ -1,6 +1,5 @@
 use mathlib.Core.Path.{sym, ◌∙◌}
 use Rattle.seek.proofs.Narrows.{still, as-guide, as-fuzzy}
-use borrow.Author.Rules.{rules}
 use Rattle.seek.proofs.SeekBuilder.fuzzy.Goals as goal
 
 pub returns-then-self : goal.returns-then-self

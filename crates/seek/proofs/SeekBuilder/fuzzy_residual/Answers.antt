@@ -6,7 +6,6 @@ use Rattle.rules.specs.Events.{Narrowing}
 use Rattle.views.specs.Views.{anchor_of}
 use Rattle.paths.specs.Paths.{path_of}
 use Rattle.seek.proofs.Narrows.{residual-size, residual-put}
-use borrow.Author.Rules.{rules}
 use Rattle.seek.proofs.SeekBuilder.fuzzy_residual.Goals as goal
 
 pub returns : goal.returns

@@ -2,7 +2,6 @@ use mathlib.Core.Path.{sym, ◌∙◌}
 use Rattle.seek.proofs.Fits.{fits_below}
 use Rattle.seek.specs.Seek.{recounted}
 use Rattle.seek.proofs.Grows.{grown-fit, grown-over}
-use borrow.Author.Rules.{rules}
 use Rattle.seek.proofs.SeekBuilder.grown.Goals as goal
 
 pub counts-c-requires : goal.counts-c-requires

@@ -3,7 +3,6 @@ use Rattle.state.specs.Ops.{with_guide}
 use Rattle.seek.specs.Seek.{level_of, fell, guided_at, guided_by}
 use Rattle.seek.proofs.Fits.{fits_below}
 use Rattle.seek.proofs.Falls.{made-yes, made-no, guides, stops}
-use borrow.Author.Rules.{rules}
 use Rattle.seek.proofs.SeekBuilder.guided.Goals as goal
 
 pub counts-k-requires : goal.counts-k-requires

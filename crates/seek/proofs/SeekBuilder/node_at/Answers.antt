@@ -1,6 +1,5 @@
 use native.Mathlib.Omega.{arith}
 use Rattle.seek.proofs.Parts.{node-joined, node-behind}
-use borrow.Author.Rules.{rules}
 use Rattle.seek.proofs.SeekBuilder.node_at.Goals as goal
 
 pub returns-then-t : goal.returns-then-t

@@ -1,6 +1,5 @@
 use Rattle.seek.proofs.Narrows.{still}
 use Rattle.seek.proofs.Falls.{as_own}
-use borrow.Author.Rules.{rules}
 use Rattle.seek.proofs.SeekBuilder.own_field.Goals as goal
 
 pub returns-then-self : goal.returns-then-self

@@ -1,12 +1,10 @@
 use Rattle.seek.proofs.Parts.{residual-is}
 use mathlib.Core.Path.{sym, ap, ◌∙◌}
-use Rattle.rules.specs.Plan as Plan
 use Rattle.rules.specs.Events.{Narrowing}
 use Rattle.paths.specs.Paths.{path_of}
 use Rattle.seek.proofs.Narrows.{residual-size, residual-put, own-op}
 use Prim.Native.Nat.{min}
 use native.Mathlib.Nat.{add_assoc}
-use borrow.Author.Rules.{rules}
 use Rattle.seek.proofs.SeekBuilder.own_residual.Goals as goal
 
 pub returns : goal.returns

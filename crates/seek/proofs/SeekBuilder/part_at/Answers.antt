@@ -1,6 +1,5 @@
 use native.Mathlib.Omega.{arith}
 use Rattle.seek.proofs.Parts.{at_joined, at_parted}
-use borrow.Author.Rules.{rules}
 use Rattle.seek.proofs.SeekBuilder.part_at.Goals as goal
 
 pub returns-then-t : goal.returns-then-t

@@ -1,7 +1,6 @@
 use native.Mathlib.Omega.{arith}
 use Rattle.accepted_file.proofs.Given.{few-names}
 use Rattle.seek.proofs.Narrows.{still, as-range, as-prefix}
-use borrow.Author.Rules.{rules}
 use Rattle.seek.proofs.SeekBuilder.prefix.Goals as goal
 
 pub returns-then-self : goal.returns-then-self

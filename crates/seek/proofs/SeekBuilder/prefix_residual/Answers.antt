@@ -9,7 +9,6 @@ use Prim.Native.Nat.{min}
 use mathlib.Core.Path.{ap, refl, sym}
 use Rattle.rules.specs.File.{name_at}
 use Rattle.rules.specs.Constant.{encode_prefix}
-use borrow.Author.Rules.{rules}
 use Rattle.seek.proofs.SeekBuilder.prefix_residual.Goals as goal
 
 pub put_prefix_at-requires : goal.put_prefix_at-requires

@@ -3,7 +3,6 @@ use Rattle.state.specs.Ops.{with_range}
 use Rattle.seek.specs.Seek.{level_of, fell, ranged_at, ranged_by}
 use Rattle.seek.proofs.Fits.{fits_below}
 use Rattle.seek.proofs.Falls.{made-yes, made-no, ranges, stops}
-use borrow.Author.Rules.{rules}
 use Rattle.seek.proofs.SeekBuilder.ranged.Goals as goal
 
 pub counts-k-requires : goal.counts-k-requires

@@ -4,7 +4,6 @@ use Rattle.rules.specs.Placement.{SeekKeyPart}
 use Rattle.state.specs.Ops.{narrowing}
 use Rattle.paths.specs.Paths.{path_of}
 use Rattle.seek.proofs.Narrows.{still, as-part, as-rest}
-use borrow.Author.Rules.{rules}
 use Rattle.seek.proofs.SeekBuilder.register_field.Goals as goal
 
 pub returns-then-self : goal.returns-then-self

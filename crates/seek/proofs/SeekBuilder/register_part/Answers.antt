@@ -8,7 +8,6 @@ use Rattle.state.specs.Ops.{is_bytes, part_text}
 use Rattle.records.specs.Records.{form_of}
 use Rattle.paths.specs.Paths.{path_of}
 use Rattle.seek.proofs.Narrows.{register-size}
-use borrow.Author.Rules.{rules}
 use Rattle.seek.proofs.SeekBuilder.register_part.Goals as goal
 
 pub returns : goal.returns

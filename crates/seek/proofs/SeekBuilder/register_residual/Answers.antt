@@ -6,7 +6,6 @@ use Rattle.paths.specs.Paths.{path_of}
 use Rattle.seek.proofs.Narrows.{residual-size, residual-put, register-op}
 use Prim.Native.Nat.{min}
 use native.Mathlib.Nat.{add_assoc}
-use borrow.Author.Rules.{rules}
 use Rattle.seek.proofs.SeekBuilder.register_residual.Goals as goal
 
 pub returns : goal.returns

@@ -1,7 +1,6 @@
 use Rattle.seek.proofs.Narrows.{stays}
 use Rattle.seek.proofs.Falls.{skips}
 use Rattle.state.specs.Ops.{skip}
-use borrow.Author.Rules.{rules}
 use Rattle.seek.proofs.SeekBuilder.skip.Goals as goal
 
 pub returns-then-self : goal.returns-then-self

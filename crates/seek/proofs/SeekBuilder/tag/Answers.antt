@@ -5,7 +5,6 @@ use Rattle.rules.specs.Constant.{union_tag}
 use Rattle.state.specs.Ops.{narrowing}
 use Rattle.paths.specs.Paths.{path_of}
 use Rattle.seek.proofs.Narrows.{still, as-part, as-rest}
-use borrow.Author.Rules.{rules}
 use Rattle.seek.proofs.SeekBuilder.tag.Goals as goal
 
 pub returns-then-self : goal.returns-then-self

@@ -6,7 +6,6 @@ use Rattle.rules.specs.Plan as Plan
 use Rattle.rules.specs.Placement.{SeekKeyPart}
 use Rattle.rules.specs.Constant.{union_tag, big_endian32}
 use Rattle.state.specs.Ops.{is_bytes, part_text}
-use borrow.Author.Rules.{rules}
 use Rattle.seek.proofs.SeekBuilder.tag_part.Goals as goal
 
 pub returns : goal.returns

@@ -5,7 +5,6 @@ use Rattle.rules.specs.Plan as Plan
 use Rattle.rules.specs.Events.{Narrowing}
 use Rattle.paths.specs.Paths.{path_of}
 use Rattle.seek.proofs.Narrows.{residual-size, residual-put}
-use borrow.Author.Rules.{rules}
 use Rattle.seek.proofs.SeekBuilder.tag_residual.Goals as goal
 
 pub returns : goal.returns

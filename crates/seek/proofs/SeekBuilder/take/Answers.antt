@@ -1,5 +1,4 @@
 use Rattle.seek.proofs.Edges.{keeps, gains}
-use borrow.Author.Rules.{rules}
 use Rattle.seek.proofs.SeekBuilder.take.Goals as goal
 
 pub returns-then-own : goal.returns-then-own

@@ -1,6 +1,5 @@
 use mathlib.Core.Path.{refl}
 use Rattle.seek.proofs.Constants.{at_place, in-names, by-nothing, by_bytes, by-prefix, by-fuzzy}
-use borrow.Author.Rules.{rules}
 use Rattle.seek.proofs.SeekBuilder.with_constant.Goals as goal
 
 pub bytes-requires : goal.bytes-requires

@@ -1,6 +1,5 @@
 use native.Mathlib.Omega.{arith}
 use Rattle.seek.proofs.Fits.{size-plain, size-parted}
-use borrow.Author.Rules.{rules}
 use Rattle.seek.proofs.Sums.bytes.Goals as goal
 
 pub returns-then-plain : goal.returns-then-plain

@@ -1,5 +1,4 @@
 use Rattle.seek.proofs.Fits.{too_long, too-parted, too-narrowed, too_many, last-test}
-use borrow.Author.Rules.{rules}
 use Rattle.seek.proofs.Sums.fits.Goals as goal
 
 pub returns-then-bytes-self-gt16384 : goal.returns-then-bytes-self-gt16384

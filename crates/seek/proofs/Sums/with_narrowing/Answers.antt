@@ -1,7 +1,6 @@
 use native.Mathlib.Omega.{arith}
 use mathlib.Core.Path.{refl}
 use Rattle.seek.specs.Seek.{narrow_sums}
-use borrow.Author.Rules.{rules}
 use Rattle.seek.proofs.Sums.with_narrowing.Goals as goal
 
 pub returns : goal.returns

@@ -1,6 +1,5 @@
 use native.Mathlib.Omega.{arith}
 use Rattle.seek.proofs.Parts.{sums-closer, sums-other}
-use borrow.Author.Rules.{rules}
 use Rattle.seek.proofs.Sums.with_part.Goals as goal
 
 pub returns-then-closer : goal.returns-then-closer

@@ -1,7 +1,6 @@
 use native.Mathlib.Omega.{arith}
 use mathlib.Core.Path.{refl}
 use Rattle.seek.specs.Seek.{rest_sums}
-use borrow.Author.Rules.{rules}
 use Rattle.seek.proofs.Sums.with_residual.Goals as goal
 
 pub returns : goal.returns

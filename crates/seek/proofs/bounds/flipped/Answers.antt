@@ -5,7 +5,6 @@ use Rattle.rules.specs.File.{op_of_number}
 use Rattle.rules.specs.Placement.{flipped}
 use Rattle.views.specs.Views.{op_of}
 use Rattle.seek.proofs.Consts.{number-below}
-use borrow.Author.Rules.{rules}
 use Rattle.seek.proofs.bounds.flipped.Goals as goal
 
 pub overflow_add-op_number : goal.overflow_add-op_number

@@ -1,6 +1,5 @@
 use borrow.Author.Tests.{not-true, not-false}
 use Rattle.records.proofs.Places.{off, on}
-use borrow.Author.Rules.{rules}
 use Rattle.seek.proofs.values.put_prefix_at.Goals as goal
 
 pub returns-then-not-place : goal.returns-then-not-place

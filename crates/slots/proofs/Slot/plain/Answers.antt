@@ -1,7 +1,6 @@
 use mathlib.Core.Path.{ap}
 use Rattle.paths.specs.declared.FieldPath.{FieldPath}
 use Rattle.slots.specs.declared.Slot.{Slot}
-use borrow.Author.Rules.{rules}
 use Rattle.slots.proofs.Slot.plain.Goals as goal
 
 pub returns : goal.returns

@@ -1,5 +1,4 @@
 use Rattle.tally.proofs.Counts.{added-same, added-other}
-use borrow.Author.Rules.{rules}
 use Rattle.tally.proofs.Tally.with.Goals as goal
 
 pub returns-then-agrees : goal.returns-then-agrees

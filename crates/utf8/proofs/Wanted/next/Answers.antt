@@ -1,7 +1,6 @@
 use mathlib.Core.Path.{sym, ◌∙◌}
 use native.Mathlib.Omega.{arith}
 use Rattle.utf8.proofs.Nexts.{made, between_next, fault-next, below_next, above-next, tail-next}
-use borrow.Author.Rules.{rules}
 use Rattle.utf8.proofs.Wanted.next.Goals as goal
 
 pub returns-then-self-eq0 : goal.returns-then-self-eq0

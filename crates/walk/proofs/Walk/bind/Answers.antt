@@ -1,6 +1,5 @@
 use Rattle.state.specs.Ops as Ops
 use Rattle.walk.proofs.Parts.{listed-is}
-use borrow.Author.Rules.{rules}
 use Rattle.walk.proofs.Walk.bind.Goals as goal
 
 pub returns : goal.returns

@@ -1,7 +1,6 @@
 use Rattle.walk.proofs.Diagnoses.{falls-with, stays-with}
 use mathlib.Core.Path.{ap, ◌∙◌}
 use Rattle.state.specs.Ops.{report}
-use borrow.Author.Rules.{rules}
 use Rattle.walk.proofs.Walk.diagnose.Goals as goal
 
 pub returns-then-falls : goal.returns-then-falls

@@ -1,7 +1,6 @@
 use mathlib.Core.Path.{◌∙◌}
 use Rattle.walk.proofs.Parts.{placed-is}
 use Rattle.walk.specs.Walk.{walk_state}
-use borrow.Author.Rules.{rules}
 use Rattle.walk.proofs.Walk.register_field.Goals as goal
 
 pub returns : goal.returns
