@@ -9,7 +9,6 @@ use std::{env, fs};
 const TOOL: &str = "tools/archive";
 const LIBRARY: &str = "sinalvento";
 const ARCHIVE: &str = "libsinalvento.a";
-const OF_THE_KIT: &str = "libcompile.a";
 
 fn main() {
     println!("cargo::rerun-if-changed=build.rs");
@@ -19,7 +18,7 @@ fn main() {
         None => built(&root()),
     };
 
-    // A copy, since the kit empties its target directory now and then.
+    // A copy, since `tools/archive` writes it anew.
     let out = PathBuf::from(env::var_os("OUT_DIR").expect("set by cargo"));
     let copy = out.join(ARCHIVE);
     copied(&archive, &copy);
@@ -38,17 +37,21 @@ fn copied(from: &Path, to: &Path) {
     fs::copy(from, to).unwrap_or_else(|error| panic!("{}: {error}", from.display()));
 }
 
-/// The archive in a directory, by the project's name or else by the kit's.
+/// The archive in a directory.
 fn named(directory: &Path) -> PathBuf {
-    let names = [ARCHIVE, OF_THE_KIT].map(|name| directory.join(name));
-    for name in &names {
-        println!("cargo::rerun-if-changed={}", name.display());
-    }
-    let [ours, of_the_kit] = names;
-    if !ours.exists() && of_the_kit.exists() {
-        return of_the_kit;
-    }
-    ours
+    let archive = directory.join(ARCHIVE);
+    println!("cargo::rerun-if-changed={}", archive.display());
+    archive
+}
+
+/// What the archive is made from. What the kit keeps in a crate's out/ is none of it.
+fn sources(root: &Path) -> Vec<PathBuf> {
+    let crates = fs::read_dir(root.join("crates")).expect("the crates are listed");
+    let folders = crates.map(|entry| entry.expect("it is listed").path());
+    let parts = folders.flat_map(|folder| ["src", "specs", "proofs"].map(|part| folder.join(part)));
+    let mut found: Vec<PathBuf> = parts.filter(|part| part.is_dir()).collect();
+    found.extend(["crates.txt", TOOL].map(|file| root.join(file)));
+    found
 }
 
 /// Runs the kit, which proves again only what has changed.
@@ -58,8 +61,8 @@ fn built(root: &Path) -> PathBuf {
         target.starts_with("x86_64-") && target.contains("-linux"),
         "the kit's archive is for x86-64 Linux, not for {target}"
     );
-    for source in ["crates", "crates.txt", TOOL] {
-        println!("cargo::rerun-if-changed={}", root.join(source).display());
+    for source in sources(root) {
+        println!("cargo::rerun-if-changed={}", source.display());
     }
     let output = Command::new("bash")
         .arg(TOOL)

@@ -103,12 +103,20 @@ fn lowered(signature: Signature) -> Signature {
     }
 }
 
-/// Every `#[no_mangle] pub extern "C" fn` of every crate.
+/// The source files of every crate. What `rt` keeps in a crate's out/ is none.
+fn rattle_sources() -> Vec<String> {
+    let crates = fs::read_dir(root().join("crates")).expect("the crates are listed");
+    let folders = crates.map(|entry| entry.expect("it is listed").path().join("src"));
+    let folders = folders.filter(|folder| folder.is_dir());
+    folders.flat_map(|folder| texts(&folder, ".rt")).collect()
+}
+
+/// Every `#[unsafe(no_mangle)] pub extern "C" fn` of every crate.
 fn exported_by_rattle() -> Functions {
     let mut found = Functions::new();
-    for text in texts(&root().join("crates"), ".rt") {
+    for text in rattle_sources() {
         let text = without_line_comments(&text);
-        for after in text.split("#[no_mangle]").skip(1) {
+        for after in text.split("#[unsafe(no_mangle)]").skip(1) {
             let function = after.trim_start();
             let function = function.strip_prefix("pub extern \"C\" fn ");
             let (name, taken) = signature(function.expect("an exported function is public"));

@@ -5,7 +5,7 @@ use oracle::read::read;
 use oracle::write::write;
 use oracle::{draw, fixed, front};
 
-const LIST: &str = include_str!("../fixed/pairs.txt");
+const LIST: &str = include_str!("../../crates/replay/stdin");
 
 fn pairs() -> Vec<(Vec<u8>, &'static str)> {
     fixed::parse(LIST).expect("the list has its form")

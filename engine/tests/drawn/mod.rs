@@ -3,7 +3,7 @@
 
 use super::files::unhex;
 
-const LIST: &str = include_str!("../../../oracle/fixed/pairs.txt");
+const LIST: &str = include_str!("../../../crates/replay/stdin");
 
 /// Every file of the fixed list.
 pub fn fixed() -> Vec<Vec<u8>> {
