@@ -25,10 +25,12 @@ fn told(thread: &Path) -> Option<Duration> {
     Some(Duration::from_nanos(nanoseconds.parse().ok()?))
 }
 
-/// How long the threads of another process have run, where the system tells it.
+/// How long the threads of another process have run, where the system tells it. A thread
+/// that ends while they are asked is left out.
 pub fn process(number: u32) -> Option<Duration> {
     let threads = fs::read_dir(format!("/proc/{number}/task")).ok()?;
-    threads.map(|thread| told(&thread.ok()?.path())).sum()
+    let ran = threads.filter_map(|thread| told(&thread.ok()?.path()));
+    ran.reduce(|all, one| all + one)
 }
 
 /// How long `work` takes.

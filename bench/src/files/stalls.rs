@@ -348,8 +348,9 @@ pub fn rows_used_up() -> RuleFile {
     all_levels(file)
 }
 
-/// A name stands for each of 255 records at the top of a constant: 22 inside each other
-/// around a tree of 511 pairs of records. 496 types open it, 16 times 31 inside each other.
+/// A name stands for each of 255 records at the top of a constant: 21 inside each other
+/// around a tree of 511 pairs of records. 496 types open it, 16 times 31 inside each other;
+/// the innermost meets a record without a pair, so that nothing is given and none is refused.
 pub fn many_types() -> RuleFile {
     const TREE: u32 = 9;
     let mut file = start(2 + 255);
@@ -372,7 +373,7 @@ pub fn many_types() -> RuleFile {
         layer = above;
     }
     let mut top = layer[0];
-    for _ in 0..22 {
+    for _ in 0..21 {
         top = node(&mut file, Node::Record(vec![(0, top)]));
         named.push(top);
     }
