@@ -4,7 +4,7 @@ use oracle::compile::line;
 use oracle::fixed::parse;
 use sinalvento::{Buffers, compile};
 
-const LIST: &str = include_str!("../../crates/replay/stdin");
+const LIST: &str = include_str!("../../oracle/fixed/pairs.txt");
 
 #[test]
 fn every_pair_of_the_list() {

@@ -17,8 +17,8 @@ const USAGE: &str = "usage:
   oracle survey SEED COUNT [--max LEN]  what the files reach, counted
   oracle coverage SEED COUNT            which branches of the bodies the files reach
   oracle compare PROGRAM SEED COUNT     PROGRAM's lines beside the bodies', smallest differences shown
-  oracle fixed                          the fixed list, as crates/replay/stdin holds it
-  oracle plans                          the fixed list of plans, as crates/reread/stdin holds it
+  oracle fixed                          the fixed list, as fixed/pairs.txt holds it
+  oracle plans                          the fixed list of plans, as fixed/plans.txt holds it
   oracle worst NAME                     a file that is costly to walk, as hex: opened or unions
   oracle mutants SEED COUNT             on how many files each mistake shows (feature `mutants`)";
 

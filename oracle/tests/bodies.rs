@@ -13,7 +13,7 @@ use oracle::survey::Survey;
 use oracle::write::write;
 use oracle::{compile, draw, fixed, front, line, on_large_stack};
 
-const LIST: &str = include_str!("../../crates/replay/stdin");
+const LIST: &str = include_str!("../fixed/pairs.txt");
 
 #[test]
 fn d1_to_the_byte() {
@@ -36,7 +36,7 @@ fn the_list_is_reproduced() {
     let made = on_large_stack(fixed::list);
     assert!(
         made == LIST,
-        "run `oracle fixed > ../crates/replay/stdin` and look at what changed"
+        "run `oracle fixed > fixed/pairs.txt` and look at what changed"
     );
 }
 

@@ -5,7 +5,7 @@ use oracle::read::read;
 use oracle::write::write;
 use oracle::{draw, fixed, front};
 
-const LIST: &str = include_str!("../../crates/replay/stdin");
+const LIST: &str = include_str!("../fixed/pairs.txt");
 
 fn pairs() -> Vec<(Vec<u8>, &'static str)> {
     fixed::parse(LIST).expect("the list has its form")
@@ -130,4 +130,17 @@ fn the_costly_files_pass_the_checks() {
     for file in [draw::worst::opened(), draw::worst::unions()] {
         assert!(front(&write(&file), MIN_WORK).is_ok());
     }
+}
+
+/// The programs `replay` and `reread` are run on the two lists.
+#[test]
+fn the_programs_read_the_same_lists() {
+    assert!(
+        LIST == include_str!("../../crates/replay/stdin"),
+        "copy fixed/pairs.txt to crates/replay/stdin"
+    );
+    assert!(
+        include_str!("../fixed/plans.txt") == include_str!("../../crates/reread/stdin"),
+        "copy fixed/plans.txt to crates/reread/stdin"
+    );
 }

@@ -5,7 +5,7 @@
 use oracle::mutants::{MUTANTS, different};
 use oracle::{draw, fixed, on_large_stack};
 
-const LIST: &str = include_str!("../../crates/replay/stdin");
+const LIST: &str = include_str!("../fixed/pairs.txt");
 
 fn all_found(files: impl Iterator<Item = Vec<u8>> + Send + 'static) {
     std::panic::set_hook(Box::new(|_| {}));

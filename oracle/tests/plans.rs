@@ -6,7 +6,7 @@ use oracle::line;
 use oracle::plan::write_plan;
 use oracle::reread::{RULES, reread};
 
-const LIST: &str = include_str!("../../crates/reread/stdin");
+const LIST: &str = include_str!("../fixed/plans.txt");
 
 /// PLAN, ROOM and LINE of each line that is compared.
 fn lines() -> Vec<(Vec<u8>, usize, &'static str)> {
@@ -78,6 +78,6 @@ fn the_list_is_reproduced() {
     let made = oracle::on_large_stack(oracle::fixed::plans::list);
     assert!(
         made == LIST,
-        "run `oracle plans > ../crates/reread/stdin` and look at what changed"
+        "run `oracle plans > fixed/plans.txt` and look at what changed"
     );
 }

@@ -3,7 +3,7 @@
 
 use super::files::unhex;
 
-const LIST: &str = include_str!("../../../crates/replay/stdin");
+const LIST: &str = include_str!("../../../oracle/fixed/pairs.txt");
 
 /// Every file of the fixed list.
 pub fn fixed() -> Vec<Vec<u8>> {
