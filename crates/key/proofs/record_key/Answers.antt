@@ -1,3 +1,4 @@
+use borrow.Author.Rules.{rules}
 use Rattle.field_cases.proofs.Opens.{count-is}
 use mathlib.Core.Path.{refl}
 use native.Mathlib.Omega.{arith}
@@ -37,7 +38,7 @@ pub loop-i-smaller : goal.loop-i-smaller
 loop-i-smaller c = omega (arith, c.loop-i-test.true)
 
 pub loop-i-preserved : goal.loop-i-preserved
-loop-i-preserved c = going-closed _ _ _ _ _ _ _ _ _ _ _ c.loop-i.invariant (omega (arith, c.loop-i-test.true, count-is _ _ _ _ _ c.pieces-opened.ensures.opens)) _ c.piece_at-p.ensures _ _ _ refl refl _ c.walked_pattern-pattern.ensures (nodes-lower _ (passed-all _ c.requires.accepted_file.accepted)) c.in_default.is (c.skip-l.ensures _ _ _)
+loop-i-preserved c = going-closed _ _ _ _ _ _ _ _ _ _ _ c.loop-i.invariant (omega (arith, c.loop-i-test.true, count-is _ _ _ _ _ c.pieces-opened.ensures.opens)) _ c.piece_at-p.ensures _ _ _ refl refl _ c.walked_pattern-pattern.ensures (nodes-lower _ (passed-all _ c.requires.accepted_file.accepted)) c.in_default.is (search rules)
 
 pub returns : goal.returns
 returns c = record-end _ _ _ _ _ _ _ _ _ _ _ c.loop-i.invariant (omega (arith, c.loop-i-test.false, count-is _ _ _ _ _ c.pieces-opened.ensures.opens)) c.requires.ty_in_bounds

@@ -35,4 +35,4 @@ returns c =
     let L = level_of T a.m.level in
     let ef = c.measure-f.ensures in
     let h = c.if-end-gt-PLAN_LIMIT.false in
-    record { writes = fits-left T (level_entry_at T a.k) (ends_of a.ends) a.at a.plan.now a.m a.work.now a.page.now _ c.lists-lists.ensures _ _ _ c.if-lists.false (in-room a.at L _ ef h _ c.if-end-plan.false) (end_is a.at L _ ef h) c.placed-left.ensures; bounded = h }
+    record { writes = fits-left T (level_entry_at T a.k) (ends_of a.ends) a.at a.plan.now a.m a.work.now a.page.now _ c.lists-lists.ensures _ _ _ c.if-lists.false (in-room a.at L _ ef h _ (omega arith)) (end_is a.at L _ ef h) c.placed-left.ensures; bounded = h }

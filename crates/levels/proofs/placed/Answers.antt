@@ -1,3 +1,4 @@
+use borrow.Author.Rules.{rules}
 use native.Mathlib.Omega.{arith}
 use mathlib.Core.Path.{sym, ◌∙◌}
 use Rattle.file.specs.Tables.{tables_of}
@@ -19,7 +20,7 @@ unfolding level_of
 returns-then-is_paged c =
     let a = c.args in
     let T = tables_of a.file.now in
-    paged-is T a.at a.m a.f c.requires.f_value.0 c.requires.f_value.1 (level_entry_at T a.k) (ends_of a.ends) a.work.now a.plan.now a.page.now _ c.put_frame.ensures _ (c.writing-t.ensures T) _ _ c.lists.ensures (sym c.is_paged.ensures ∙ c.if-is_paged.true) c.put_page.ensures
+    paged-is T a.at a.m a.f c.requires.f_value.0 c.requires.f_value.1 (level_entry_at T a.k) (ends_of a.ends) a.work.now a.plan.now a.page.now _ c.put_frame.ensures _ (c.writing-t.ensures T) _ _ c.lists.ensures (sym c.is_paged.ensures ∙ c.if-is_paged.true) (search rules)
 
 pub walked-r-requires : goal.walked-r-requires
 walked-r-requires c = record { accepted_file = c.requires.accepted_file; k_in_bounds = c.requires.k_in_bounds }

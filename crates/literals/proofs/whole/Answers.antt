@@ -1,3 +1,4 @@
+use borrow.Author.Rules.{rules}
 use mathlib.Core.List.{[]}
 use mathlib.Core.Path.{sym, ap, ◌∙◌}
 use Rattle.rules.proofs.Sound.{passed-all}
@@ -15,7 +16,7 @@ any_brought-requires c =
     record { accepted_file = c.requires.accepted_file; node_value = folded-is-constant _ (passed-all _ c.requires.accepted_file.accepted) _ _ e; ty_in_bounds = c.requires.ty_in_bounds }
 
 pub returns-in-Just-pairs_of : goal.returns-in-Just-pairs_of
-returns-in-Just-pairs_of c = whole-record _ _ _ _ _ _ c.folded.ensures c.in-Just.is _ c.pairs_of.ensures.shows _ _ c.in-Just-pairs_of.is _ c.any_brought.ensures
+returns-in-Just-pairs_of c = whole-record _ _ _ _ _ _ c.folded.ensures c.in-Just.is _ c.pairs_of.ensures.shows _ _ c.in-Just-pairs_of.is _ (search rules)
 
 pub returns-in_default-pairs_of : goal.returns-in_default-pairs_of
 returns-in_default-pairs_of c = whole_plain _ _ _ _ _ _ c.folded.ensures c.in-Just.is _ c.pairs_of.ensures.shows c.in_default-pairs_of.is

@@ -13,7 +13,8 @@ numbers_end-requires c =
 pub returns-in-Next : goal.returns-in-Next
 returns-in-Next c =
     let e = sym c.text_end.ensures ∙ c.in-Next.is in
-    c.numbers_end.ensures ∙ sym (prefix_seek-next _ _ _ _ (omega arith) e)
+    let s = prefix_seek-next c.args.plan.now c.args.n c.args.p c.in-Next.q (omega arith) e in
+    cc
 
 pub returns-in-Refused : goal.returns-in-Refused
 returns-in-Refused c =

@@ -1,6 +1,5 @@
 use native.Mathlib.Omega.{arith}
-use mathlib.Core.Path.{sym, ap, ◌∙◌}
-use Rattle.plan_form.specs.Pieces.{then_at}
+use mathlib.Core.Path.{sym, ◌∙◌}
 use Rattle.plan_form.proofs.Cases.{ends-in, within, residual-next, residual-fault}
 use Rattle.plan_form.proofs.Forward.{suffix-path, suffix-op}
 use Rattle.plan_form.proofs.residual_end.Goals as goal
@@ -18,7 +17,8 @@ fixed_after-requires c =
 pub returns-in-Next : goal.returns-in-Next
 returns-in-Next c =
     let e = sym c.path_end.ensures ∙ c.in-Next.is in
-    c.fixed_after.ensures ∙ ap (then_at _ _) c.op_end.ensures ∙ sym (residual-next _ _ _ (omega arith) e)
+    let s = residual-next c.args.plan.now c.args.p c.in-Next.q (omega arith) e in
+    cc
 
 pub returns-in-Refused : goal.returns-in-Refused
 returns-in-Refused c =
