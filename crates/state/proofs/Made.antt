@@ -38,8 +38,8 @@ binding-length b = omega (arith, slot-length b.slot)
 
 -- Words: one that is written, and those that a change elsewhere keeps.
 module _ (work : List ℕ) where
-  get_d_kept : (at : ℕ) (bytes : List ℕ) (k : ℕ) → (k < at) ⊎ (at + length bytes ≤ k) → get_or (sets work at bytes) k 0 ≡ get_or work k 0
-  get_d_kept at bytes k h = go work at bytes h
+  get_or_kept : (at : ℕ) (bytes : List ℕ) (k : ℕ) → (k < at) ⊎ (at + length bytes ≤ k) → get_or (sets work at bytes) k 0 ≡ get_or work k 0
+  get_or_kept at bytes k h = go work at bytes h
     where
       go : (w : List ℕ) (at : ℕ) (bytes : List ℕ) → (k < at) ⊎ (at + length bytes ≤ k) → get_or (sets w at bytes) k 0 ≡ get_or w k 0
       go w at [] h = refl
@@ -50,8 +50,8 @@ module _ (work : List ℕ) where
   pub word_kept : (at : ℕ) (bytes : List ℕ) (k : ℕ) → (k + 1 < at) ⊎ (at + length bytes ≤ k) → word_in (sets work at bytes) k ≡ word_in work k
   unfolding word_in
   word_kept at bytes k h =
-      let low = get_d_kept at bytes k (⊎_elim (λ l. inl (omega arith)) (λ l. inr (omega arith)) h) in
-      let high = get_d_kept at bytes (k + 1) (⊎_elim (λ l. inl (omega arith)) (λ l. inr (omega arith)) h) in
+      let low = get_or_kept at bytes k (⊎_elim (λ l. inl (omega arith)) (λ l. inr (omega arith)) h) in
+      let high = get_or_kept at bytes (k + 1) (⊎_elim (λ l. inl (omega arith)) (λ l. inr (omega arith)) h) in
       omega (arith, low, high)
 
   pub word-put : (k n : ℕ) → k + 1 < length work → n < 65536 → word_in (sets work k (Plan.u16 n)) k ≡ n
