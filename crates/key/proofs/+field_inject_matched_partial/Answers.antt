@@ -143,7 +143,7 @@ pub partial-is_quiet-requires : goal.partial-is_quiet-requires
 partial-is_quiet-requires t c = record { accepted_file = c.requires.accepted_file; t_in_bounds = c.requires.fits.known }
 
 pub partial-returns-then-is_quiet : goal.partial-returns-then-is_quiet
-partial-returns-then-is_quiet t c = partial-quiet _ _ c.requires.accepted_file _ _ _ _ _ _ c.requires.fits.known (sym c.is_quiet.ensures ∙ c.if-is_quiet.true) (c.skip-l.ensures _ _ _)
+partial-returns-then-is_quiet t c = partial-quiet _ _ c.requires.accepted_file _ _ _ _ _ _ c.requires.fits.known (sym c.is_quiet.ensures ∙ c.if-is_quiet.true) (search rules)
 
 pub partial-loop-i-init : goal.partial-loop-i-init
 partial-loop-i-init t c = going-first _ _ _ _ _ _ _ _ _
