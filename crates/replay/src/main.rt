@@ -2,7 +2,7 @@
 // answers are those of the original Rust functions (docs/ORACLE.md).
 #![tactic(auto)]
 
-ghost use Rattle.std.specs.Prelude.{◌≡◌, ◌<◌};
+ghost use Rattle.std.specs.Prelude.{◌≡◌, replicate, ◌<◌};
 ghost use Rattle.replay.specs.Pairs as Pairs;
 ghost use Rattle.tally.specs.Tallies.{count_limit, counted, tallied, split, none};
 
@@ -70,7 +70,9 @@ fn replay(text: &[u8]) -> Tally
 }
 
 // Zeroes for the whole list.
-fn list_room() -> [u8; TEXT_ROOM] {
+fn list_room() -> [u8; TEXT_ROOM]
+    ensures { result ≡ replicate 524288 0 }
+{
     [0; TEXT_ROOM]
 }
 

@@ -2,7 +2,7 @@
 // differ.
 #![tactic(auto)]
 
-ghost use Rattle.std.specs.Prelude.{◌≡◌, ◌*◌, ◌≤◌, ◌<◌, length};
+ghost use Rattle.std.specs.Prelude.{◌≡◌, replicate, ◌*◌, ◌≤◌, ◌<◌, length};
 ghost use Rattle.std.proofs.lemmas.List.Edits.{sets};
 ghost use Rattle.rules.specs.Limits.{plan_limit};
 ghost use Rattle.rules.specs.Reader as Reader;
@@ -127,7 +127,9 @@ fn reread_all(text: &[u8]) -> Tally
 }
 
 // Zeroes for the whole list.
-fn list_room() -> [u8; TEXT_ROOM] {
+fn list_room() -> [u8; TEXT_ROOM]
+    ensures { result ≡ replicate 524288 0 }
+{
     [0; TEXT_ROOM]
 }
 
