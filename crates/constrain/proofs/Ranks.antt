@@ -332,9 +332,9 @@ module _ (T : Tables) (x : ℕ) where
     abbrev each : ℕ → State → State
     each r s = constrain_each (ops T) T (constraints_of T x r) t path s
 
-    in-turn : is_constrained T x ≡ true → (s a b c d s' : State) → a ≡ constrained x s → b ≡ each 0 a → c ≡ each 1 b → d ≡ each 2 c → s' ≡ each 3 d → s' ≡ constrain (ops T) T x t path s
+    pub constrain-some : is_constrained T x ≡ true → (s a b c d s' : State) → a ≡ constrained x s → b ≡ each 0 a → c ≡ each 1 b → d ≡ each 2 c → s' ≡ each 3 d → s' ≡ constrain (ops T) T x t path s
     unfolding constrain ranked
-    in-turn h s a b c d s' ea eb ec ed es =
+    constrain-some h s a b c d s' ea eb ec ed es =
         es ∙ ap (each 3) (ed ∙ ap (each 2) (ec ∙ ap (each 1) (eb ∙ ap (each 0) ea)))
         ∙ sym
         (by-filled (ranked T x) s (ranked-filled h)
@@ -344,6 +344,6 @@ module _ (T : Tables) (x : ℕ) where
         ∙ ap (each 2) (each_append (constraints_of T x 0) (constraints_of T x 1) (constrained x s))))
 
     -- the same of the walks: a has the name, and b, c, d and r each one rank more
-    pub constrain-some : is_constrained T x ≡ true → (w a b c d r : Walk) (w₀ wa wb wc wd wr p₀ pb pc pd pr : List ℕ) → ((U : Tables) (p : List ℕ) → walk_state U a wa p ≡ constrained x (walk_state U w w₀ p)) → walk_state T b wb pb ≡ each 0 (walk_state T a wa p₀) → walk_state T c wc pc ≡ each 1 (walk_state T b wb pb) → walk_state T d wd pd ≡ each 2 (walk_state T c wc pc) → walk_state T r wr pr ≡ each 3 (walk_state T d wd pd) → walk_state T r wr pr ≡ constrain (ops T) T x t path (walk_state T w w₀ p₀)
-    constrain-some h w a b c d r w₀ wa wb wc wd wr p₀ pb pc pd pr ea =
-        in-turn h (walk_state T w w₀ p₀) (walk_state T a wa p₀) (walk_state T b wb pb) (walk_state T c wc pc) (walk_state T d wd pd) (walk_state T r wr pr) (ea T p₀)
+    pub constrain-ranked : is_constrained T x ≡ true → (w a b c d r : Walk) (w₀ wa wb wc wd wr p₀ pb pc pd pr : List ℕ) → ((U : Tables) (p : List ℕ) → walk_state U a wa p ≡ constrained x (walk_state U w w₀ p)) → walk_state T b wb pb ≡ each 0 (walk_state T a wa p₀) → walk_state T c wc pc ≡ each 1 (walk_state T b wb pb) → walk_state T d wd pd ≡ each 2 (walk_state T c wc pc) → walk_state T r wr pr ≡ each 3 (walk_state T d wd pd) → walk_state T r wr pr ≡ constrain (ops T) T x t path (walk_state T w w₀ p₀)
+    constrain-ranked h w a b c d r w₀ wa wb wc wd wr p₀ pb pc pd pr ea =
+        constrain-some h (walk_state T w w₀ p₀) (walk_state T a wa p₀) (walk_state T b wb pb) (walk_state T c wc pc) (walk_state T d wd pd) (walk_state T r wr pr) (ea T p₀)

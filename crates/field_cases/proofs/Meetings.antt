@@ -49,21 +49,21 @@ module _ (T : Tables) (a : ℕ) (below : FieldWalk State) (n from t : ℕ) (path
     unfolding matched
     row_is x e = ap refers (sym e ∙ eb ∙ ap (refers_to p) eq)
 
-    row-refers : b ≡ true → (s : State) → s ≡ narrow n path (Narrowing.FactId from) s₀ → s ≡ matched (ops T) T a below n (File.Slot.Row from p) t path s₀
+    pub row-refers : b ≡ true → (s : State) → s ≡ narrow n path (Narrowing.FactId from) s₀ → s ≡ matched (ops T) T a below n (File.Slot.Row from p) t path s₀
     row-refers e s g = g ∙ row_is true e
 
-    row_other : b ≡ false → (s : State) → s ≡ report n Code.RejectTypeMismatch s₀ → s ≡ matched (ops T) T a below n (File.Slot.Row from p) t path s₀
+    pub row_other : b ≡ false → (s : State) → s ≡ report n Code.RejectTypeMismatch s₀ → s ≡ matched (ops T) T a below n (File.Slot.Row from p) t path s₀
     row_other e s g = g ∙ row_is false e
 
   module _ (at : File.FieldPath) (u : ℕ) where
     abbrev own : Bool → State
     own x = elim x [ true ↦ narrow n path (Narrowing.OwnField at) s₀ | false ↦ narrow n path (Narrowing.RegisterField from at) s₀ ]
 
-    field-own : from ≡ a → (s : State) → s ≡ narrow n path (Narrowing.OwnField at) s₀ → s ≡ matched (ops T) T a below n (File.Slot.Field from at u) t path s₀
+    pub field-own : from ≡ a → (s : State) → s ≡ narrow n path (Narrowing.OwnField at) s₀ → s ≡ matched (ops T) T a below n (File.Slot.Field from at u) t path s₀
     unfolding matched
     field-own e s g = g ∙ ap own (sym (eq-eqb _ _ e))
 
-    field-other : (from ≡ a → ⊥) → (s : State) → s ≡ narrow n path (Narrowing.RegisterField from at) s₀ → s ≡ matched (ops T) T a below n (File.Slot.Field from at u) t path s₀
+    pub field-other : (from ≡ a → ⊥) → (s : State) → s ≡ narrow n path (Narrowing.RegisterField from at) s₀ → s ≡ matched (ops T) T a below n (File.Slot.Field from at u) t path s₀
     unfolding matched
     field-other e s g = g ∙ ap own (sym (ne_eqb _ _ e))
 
@@ -76,23 +76,23 @@ module _ (T : Tables) (a n t : ℕ) (path : File.FieldPath) (s₀ : State) where
     by_kind : (kind : SlotKind) → slot.kind ≡ kind → meeting T a n (slot_with kind slot.path) t path s₀ ≡ whole
     by_kind kind e = ap (λ (x : SlotKind). meeting T a n (slot_with x slot.path) t path s₀) (sym e)
 
-    of_row : (from : Address) (p : MaybePredicate) → slot.kind ≡ Sk.Row from p → (s : State) → ((b : ℕ) (below : FieldWalk State) → s ≡ matched (ops T) T b below n (File.Slot.Row from.0 (predicate_option p)) t path s₀) → s ≡ whole
+    pub of_row : (from : Address) (p : MaybePredicate) → slot.kind ≡ Sk.Row from p → (s : State) → ((b : ℕ) (below : FieldWalk State) → s ≡ matched (ops T) T b below n (File.Slot.Row from.0 (predicate_option p)) t path s₀) → s ≡ whole
     unfolding meeting
     of_row from p e s g = g a still ∙ by_kind (Sk.Row from p) e
 
-    of-key : (from : Address) (u : ℕ) → slot.kind ≡ Sk.Key from u → (s : State) → s ≡ report n Code.NyiWholeKey (skip s₀) → s ≡ whole
+    pub of-key : (from : Address) (u : ℕ) → slot.kind ≡ Sk.Key from u → (s : State) → s ≡ report n Code.NyiWholeKey (skip s₀) → s ≡ whole
     unfolding meeting matched
     of-key from u e s g = g ∙ by_kind (Sk.Key from u) e
 
-    of-derived : (from : Address) → slot.kind ≡ Sk.Derived from → (s : State) → s ≡ report n Code.NyiValueMatch (skip s₀) → s ≡ whole
+    pub of-derived : (from : Address) → slot.kind ≡ Sk.Derived from → (s : State) → s ≡ report n Code.NyiValueMatch (skip s₀) → s ≡ whole
     unfolding meeting matched
     of-derived from e s g = g ∙ by_kind (Sk.Derived from) e
 
-    of_field : (from : Address) (u : ℕ) → slot.kind ≡ Sk.Field from u → (s : State) → ((below : FieldWalk State) (i j : ℕ) → s ≡ matched (ops T) T a below n (File.Slot.Field from.0 (path_of slot.path) i) j path s₀) → s ≡ whole
+    pub of_field : (from : Address) (u : ℕ) → slot.kind ≡ Sk.Field from u → (s : State) → ((below : FieldWalk State) (i j : ℕ) → s ≡ matched (ops T) T a below n (File.Slot.Field from.0 (path_of slot.path) i) j path s₀) → s ≡ whole
     unfolding meeting
     of_field from u e s g = g still u t ∙ by_kind (Sk.Field from u) e
 
-    of-value : (from : Address) (u : ℕ) → slot.kind ≡ Sk.Value from u → (s : State) → s ≡ report n Code.NyiValueMatch s₀ → s ≡ whole
+    pub of-value : (from : Address) (u : ℕ) → slot.kind ≡ Sk.Value from u → (s : State) → s ≡ report n Code.NyiValueMatch s₀ → s ≡ whole
     unfolding meeting matched
     of-value from u e s g = g ∙ by_kind (Sk.Value from u) e
 

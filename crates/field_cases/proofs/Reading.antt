@@ -86,11 +86,11 @@ module _ (T : Tables) (n : ℕ) (before s : State) (b : Bool) (e : b ≡ deferre
         ∙ ap (λ (i : ℕ). by false (eqb i before.ends.diagnostics)) ed
         ∙ ap (λ (i : ℕ). by false (eqb d i)) em
 
-    was-quiet : d ≡ m → (s' : State) → s' ≡ report n Code.RejectUnresolvedAccess (skip s) → s' ≡ unresolved (ops T) T n before s
-    was-quiet g s' q = q ∙ sym (told ∙ ap (by false) (eq-eqb _ _ g))
+    pub unresolved-quiet : d ≡ m → (s' : State) → s' ≡ report n Code.RejectUnresolvedAccess (skip s) → s' ≡ unresolved (ops T) T n before s
+    unresolved-quiet g s' q = q ∙ sym (told ∙ ap (by false) (eq-eqb _ _ g))
 
-    was-told : (d ≡ m → ⊥) → (s' : State) → s' ≡ skip s → s' ≡ unresolved (ops T) T n before s
-    was-told g s' q = q ∙ sym (told ∙ ap (by false) (ne_eqb _ _ g))
+    pub unresolved-told : (d ≡ m → ⊥) → (s' : State) → s' ≡ skip s → s' ≡ unresolved (ops T) T n before s
+    unresolved-told g s' q = q ∙ sym (told ∙ ap (by false) (ne_eqb _ _ g))
 
 -- where the diagnostics end
 pub diagnostics-at : (T : Tables) (w : Walk) (work plan : List ℕ) → (walk_state T w work plan).ends.diagnostics ≡ w.ends.diagnostics
@@ -99,14 +99,14 @@ diagnostics-at T w work plan = refl
 
 -- the same of walks: w is the walk behind the read, and it comes to r
 module _ (T : Tables) (n : ℕ) (w r : Walk) (work work' plan : List ℕ) (before : State) (m : ℕ) (em : before.ends.diagnostics ≡ m) (b : Bool) (e : b ≡ deferred (node_at T n)) (h : b ≡ false) where
-  pub unresolved-quiet : ((U : Tables) (p : List ℕ) → walk_state U r work' p ≡ report n Code.RejectUnresolvedAccess (skip (walk_state U w work p))) → w.ends.diagnostics ≡ m → walk_state T r work' plan ≡ unresolved (ops T) T n before (walk_state T w work plan)
-  unresolved-quiet q g =
-      was-quiet T n before (walk_state T w work plan) b e h w.ends.diagnostics m (diagnostics-at T w work plan) em g (walk_state T r work' plan) (q T plan)
+  pub quiet-walks : ((U : Tables) (p : List ℕ) → walk_state U r work' p ≡ report n Code.RejectUnresolvedAccess (skip (walk_state U w work p))) → w.ends.diagnostics ≡ m → walk_state T r work' plan ≡ unresolved (ops T) T n before (walk_state T w work plan)
+  quiet-walks q g =
+      unresolved-quiet T n before (walk_state T w work plan) b e h w.ends.diagnostics m (diagnostics-at T w work plan) em g (walk_state T r work' plan) (q T plan)
 
 module _ (T : Tables) (n : ℕ) (w r : Walk) (work plan : List ℕ) (before : State) (m : ℕ) (em : before.ends.diagnostics ≡ m) (b : Bool) (e : b ≡ deferred (node_at T n)) (h : b ≡ false) where
-  pub unresolved-told : ((U : Tables) (x p : List ℕ) → walk_state U r x p ≡ skip (walk_state U w x p)) → (w.ends.diagnostics ≡ m → ⊥) → walk_state T r work plan ≡ unresolved (ops T) T n before (walk_state T w work plan)
-  unresolved-told q g =
-      was-told T n before (walk_state T w work plan) b e h w.ends.diagnostics m (diagnostics-at T w work plan) em g (walk_state T r work plan) (q T work plan)
+  pub told-walks : ((U : Tables) (x p : List ℕ) → walk_state U r x p ≡ skip (walk_state U w x p)) → (w.ends.diagnostics ≡ m → ⊥) → walk_state T r work plan ≡ unresolved (ops T) T n before (walk_state T w work plan)
+  told-walks q g =
+      unresolved-told T n before (walk_state T w work plan) b e h w.ends.diagnostics m (diagnostics-at T w work plan) em g (walk_state T r work plan) (q T work plan)
 
 -- an answer, with its lists put back into the walk
 pub answer-is : (T : Tables) (w r : Walk) (l : Lists) (ans : Answer) (work work' plan : List ℕ) → l ≡ lists_of w → r ≡ with_lists w ans.lists → (g : ResolveRules.Resolver State) → Answers g l work ans work' → record { slot = given ans; walk = walk_state T r work' plan } ≡ g (walk_state T w work plan)

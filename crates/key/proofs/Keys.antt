@@ -46,9 +46,9 @@ module _ (f : List ℕ) (T : Tables) (a n t : ℕ) (s₀ : State) (r : Run) (k :
     type-is : some (run (field_at f) 4 m from) ≡ record_ty (type_at T t)
     type-is = (subst (SeenRun f (field_at f) 4 (record_ty (type_at T t))) e k).is
 
-    by-fields : (i at : ℕ) → pr ≡ Ru.Just i at → s ≡ each_field (field (ops T) T a) skip field_path (patterns_of T n) 0 (fields_for T n t) s₀ → s ≡ key (ops T) T a n t s₀
+    pub key-record : (i at : ℕ) → pr ≡ Ru.Just i at → s ≡ each_field (field (ops T) T a) skip field_path (patterns_of T n) 0 (fields_for T n t) s₀ → s ≡ key (ops T) T a n t s₀
     unfolding key record_key patterns_of fields_for open_fields
-    by-fields i at d q =
+    key-record i at d q =
         let p : some (run (pattern_at f) 4 i at) ≡ record_fields (node_at T n) = (subst (SeenRun f (pattern_at f) 4 (record_fields (node_at T n))) d l).is in
         q
         ∙ sym (ap (λ o. each_field (field (ops T) T a) skip field_path (get_or o []) 0 (open_fields o (record_ty (type_at T t))) s₀) p)
@@ -65,5 +65,5 @@ module _ (f : List ℕ) (T : Tables) (a n t : ℕ) (s₀ : State) (r : Run) (k :
         ∙ ap (λ o. by o (record_fields (node_at T n))) type-is
 
 -- a Record against a Record type
-pub key-record : (T : Tables) (a n t : ℕ) (s₀ s : State) → s ≡ each_field (field (ops T) T a) skip field_path (patterns_of T n) 0 (fields_for T n t) s₀ → (f : List ℕ) (r : Run) → SeenRun f (field_at f) 4 (record_ty (type_at T t)) r → (m from : ℕ) → r ≡ Ru.Just m from → (pr : Run) → SeenRun f (pattern_at f) 4 (record_fields (node_at T n)) pr → (i at : ℕ) → pr ≡ Ru.Just i at → s ≡ key (ops T) T a n t s₀
-key-record T a n t s₀ s q f r k m from e pr l i at d = by-fields f T a n t s₀ r k s m from e pr l i at d q
+pub key-by-record : (T : Tables) (a n t : ℕ) (s₀ s : State) → s ≡ each_field (field (ops T) T a) skip field_path (patterns_of T n) 0 (fields_for T n t) s₀ → (f : List ℕ) (r : Run) → SeenRun f (field_at f) 4 (record_ty (type_at T t)) r → (m from : ℕ) → r ≡ Ru.Just m from → (pr : Run) → SeenRun f (pattern_at f) 4 (record_fields (node_at T n)) pr → (i at : ℕ) → pr ≡ Ru.Just i at → s ≡ key (ops T) T a n t s₀
+key-by-record T a n t s₀ s q f r k m from e pr l i at d = key-record f T a n t s₀ r k s m from e pr l i at d q

@@ -19,7 +19,7 @@ use Rattle.state.specs.Ops.{ops, bind, report, narrow, skip, closer}
 use Rattle.paths.specs.Paths.{path_of, Holds}
 use Rattle.paths.specs.declared.FieldPath.{FieldPath}
 use Rattle.views.specs.Views.{pattern_at}
-use Rattle.slots.specs.Slots.{slot_of, slot_with, maybe, IsSlot}
+use Rattle.slots.specs.Slots.{slot_of, slot_with, slot_option, maybe, IsSlot}
 use Rattle.slots.specs.declared.Slot.{Slot}
 use Rattle.slots.specs.declared.SlotKind.{SlotKind}
 use Rattle.slots.specs.declared.SlotKind.TheVariants as Sk
@@ -135,27 +135,42 @@ module _ (T : Tables) (a n t : ℕ) (path : File.FieldPath) (s₀ : State) (way 
     unfolding by_way
     field-pieces b p = goes Wy.Constant e s (λ m h. const-pieces T a n n t path s₀ c v s (below T a m) b (p.is m h))
 
+  module _ (x : ℕ) (e : way ≡ Wy.Variable x) (found : MaybeSlot) (f : slot_option found ≡ (ops T).lookup s₀ x) (s : State) where
+    abbrev by-slot : ℕ → Option File.Slot → State
+    by-slot m o = elim o [ none ↦ constrain (ops T) T x t path (bind x (File.Slot.Field a path t) s₀) | some slot ↦ matched (ops T) T a (below T a m) n slot t path s₀ ]
+
+    looked : (m : ℕ) (b : Bool) → found.some ≡ b → by-slot m (maybe b (slot_of found.slot)) ≡ by-slot m ((ops T).lookup s₀ x)
+    looked m b h = ap (by-slot m) (ap (λ (y : Bool). maybe y (slot_of found.slot)) (sym h) ∙ f)
+
+    pub field_bound : found.some ≡ true → Gives T a t (λ g. matched (ops T) T a g n (slot_of found.slot) t path s₀) s → Walks T a n t path s₀ s
+    unfolding by_way
+    field_bound h g = goes (Wy.Variable x) e s (λ m l. g.is m l ∙ looked m true h)
+
+    pub field-new : found.some ≡ false → s ≡ constrain (ops T) T x t path (bind x (File.Slot.Field a path t) s₀) → Walks T a n t path s₀ s
+    unfolding by_way
+    field-new h q = goes (Wy.Variable x) e s (λ m l. q ∙ looked m false h)
+
 -- `field` of a name, by what is found under it: l are the lists of the walk w
 module _ (T : Tables) (a n t : ℕ) (path : File.FieldPath) (w : Walk) (work plan : List ℕ) (s : State) (x : ℕ) where
-  abbrev by-slot : ℕ → Option File.Slot → State
-  by-slot m o =
+  abbrev by-found : ℕ → Option File.Slot → State
+  by-found m o =
       elim o [
         | none ↦ constrain (ops T) T x t path (bind x (File.Slot.Field a path t) (walk_state T w work plan))
         | some slot ↦ matched (ops T) T a (below T a m) n slot t path (walk_state T w work plan)
       ]
 
   module _ (found : MaybeSlot) (l : Lists) (el : l ≡ lists_of w) (f : (level : Level) (g : Target) (p : List ℕ) → IsSlot ((ops T).lookup (state_with l level g work p) x) found) (way : Way) (k : way ≡ way_at T n t) (low : Resolved.Lower T) (e : way ≡ Wy.Variable x) where
-    found-goes : (b : Bool) → found.some ≡ b → ((m : ℕ) → t ≤ m → s ≡ by-slot m (maybe b (slot_of found.slot))) → Walks T a n t path (walk_state T w work plan) s
+    found-goes : (b : Bool) → found.some ≡ b → ((m : ℕ) → t ≤ m → s ≡ by-found m (maybe b (slot_of found.slot))) → Walks T a n t path (walk_state T w work plan) s
     unfolding by_way
     found-goes b h q =
         goes T a n t path (walk_state T w work plan) way k low (Wy.Variable x) e s
-        (λ m j. q m j ∙ ap (by-slot m) (ap (λ (y : Bool). maybe y (slot_of found.slot)) (sym h) ∙ looked-up T x found w l work plan el f))
+        (λ m j. q m j ∙ ap (by-found m) (ap (λ (y : Bool). maybe y (slot_of found.slot)) (sym h) ∙ looked-up T x found w l work plan el f))
 
-    pub field_bound : found.some ≡ true → Gives T a t (λ g. matched (ops T) T a g n (slot_of found.slot) t path (walk_state T w work plan)) s → Walks T a n t path (walk_state T w work plan) s
-    field_bound h g = found-goes true h g.is
+    pub found-bound : found.some ≡ true → Gives T a t (λ g. matched (ops T) T a g n (slot_of found.slot) t path (walk_state T w work plan)) s → Walks T a n t path (walk_state T w work plan) s
+    found-bound h g = found-goes true h g.is
 
-  pub field-new : s ≡ constrain (ops T) T x t path (bind x (File.Slot.Field a path t) (walk_state T w work plan)) → (found : MaybeSlot) (l : Lists) → l ≡ lists_of w → ((level : Level) (g : Target) (p : List ℕ) → IsSlot ((ops T).lookup (state_with l level g work p) x) found) → (way : Way) → way ≡ way_at T n t → Resolved.Lower T → way ≡ Wy.Variable x → found.some ≡ false → Walks T a n t path (walk_state T w work plan) s
-  field-new q found l el f way k low e h = found-goes found l el f way k low e false h (λ m j. q)
+  pub found-new : s ≡ constrain (ops T) T x t path (bind x (File.Slot.Field a path t) (walk_state T w work plan)) → (found : MaybeSlot) (l : Lists) → l ≡ lists_of w → ((level : Level) (g : Target) (p : List ℕ) → IsSlot ((ops T).lookup (state_with l level g work p) x) found) → (way : Way) → way ≡ way_at T n t → Resolved.Lower T → way ≡ Wy.Variable x → found.some ≡ false → Walks T a n t path (walk_state T w work plan) s
+  found-new q found l el f way k low e h = found-goes found l el f way k low e false h (λ m j. q)
 
 -- `field` of a read, by its answer: r is the walk w with the lists of the answer
 module _ (T : Tables) (a n t : ℕ) (path : File.FieldPath) (w r : Walk) (ans : Answer) (work work' plan : List ℕ) (l : Lists) (el : l ≡ lists_of w) (er : r ≡ with_lists w ans.lists) (q : Answers (resolve (ops T) T n) l work ans work') (way : Way) (k : way ≡ way_at T n t) (low : Resolved.Lower T) (e : way ≡ Wy.Read) (s : State) where
@@ -184,14 +199,14 @@ module _ (T : Tables) (a n t : ℕ) (path : File.FieldPath) (w r : Walk) (ans : 
     unfolding read_answer
     field-opened i at ep g = reads false h (λ m j. g.is m j ∙ ap (by-fields m) (subst (SeenRun f (pattern_at f) 4 (record_fields (node_at T n))) ep seen).is)
 
-    no_fields : pairs ≡ Ru.Nothing → s ≡ unresolved (ops T) T n (walk_state T w work plan) s₁ → Walks T a n t path (walk_state T w work plan) s
+    pub field-unresolved : pairs ≡ Ru.Nothing → s ≡ unresolved (ops T) T n (walk_state T w work plan) s₁ → Walks T a n t path (walk_state T w work plan) s
     unfolding read_answer
-    no_fields ep g = reads false h (λ m j. g ∙ ap (by-fields m) (subst (SeenRun f (pattern_at f) 4 (record_fields (node_at T n))) ep seen).is)
+    field-unresolved ep g = reads false h (λ m j. g ∙ ap (by-fields m) (subst (SeenRun f (pattern_at f) 4 (record_fields (node_at T n))) ep seen).is)
 
 -- a read that gave nothing: v is the walk that it ends with
-pub field-unresolved : (T : Tables) (a n t : ℕ) (path : File.FieldPath) (w r v : Walk) (work work' work'' plan : List ℕ) → ((p : List ℕ) (earlier : State) → earlier.ends.diagnostics ≡ w.ends.diagnostics → walk_state T v work'' p ≡ unresolved (ops T) T n earlier (walk_state T r work' p)) → (ans : Answer) (l : Lists) → l ≡ lists_of w → r ≡ with_lists w ans.lists → Answers (resolve (ops T) T n) l work ans work' → (way : Way) → way ≡ way_at T n t → Resolved.Lower T → way ≡ Wy.Read → ans.some ≡ false → (f : List ℕ) (pairs : Run) → SeenRun f (pattern_at f) 4 (record_fields (node_at T n)) pairs → pairs ≡ Ru.Nothing → Walks T a n t path (walk_state T w work plan) (walk_state T v work'' plan)
-field-unresolved T a n t path w r v work work' work'' plan g ans l el er q way k low e h f pairs seen ep =
-    no_fields T a n t path w r ans work work' plan l el er q way k low e (walk_state T v work'' plan) h f pairs seen ep
+pub unresolved-walks : (T : Tables) (a n t : ℕ) (path : File.FieldPath) (w r v : Walk) (work work' work'' plan : List ℕ) → ((p : List ℕ) (earlier : State) → earlier.ends.diagnostics ≡ w.ends.diagnostics → walk_state T v work'' p ≡ unresolved (ops T) T n earlier (walk_state T r work' p)) → (ans : Answer) (l : Lists) → l ≡ lists_of w → r ≡ with_lists w ans.lists → Answers (resolve (ops T) T n) l work ans work' → (way : Way) → way ≡ way_at T n t → Resolved.Lower T → way ≡ Wy.Read → ans.some ≡ false → (f : List ℕ) (pairs : Run) → SeenRun f (pattern_at f) 4 (record_fields (node_at T n)) pairs → pairs ≡ Ru.Nothing → Walks T a n t path (walk_state T w work plan) (walk_state T v work'' plan)
+unresolved-walks T a n t path w r v work work' work'' plan g ans l el er q way k low e h f pairs seen ep =
+    field-unresolved T a n t path w r ans work work' plan l el er q way k low e (walk_state T v work'' plan) h f pairs seen ep
     (g plan (walk_state T w work plan) (diagnostics-at T w work plan))
 
 -- `inject`
@@ -210,9 +225,9 @@ module _ (T : Tables) (a n t : ℕ) (path : File.FieldPath) (s₀ s₁ : State) 
     pub inject-lower : Sound T → t < length T.types → Lower T t c
     inject-lower S h = choosing-lower T t n s₀ (record { disc = d; node = k; type = c }) path S h (ap (λ (x : Choosing). x.payload) (sym b) ∙ ap payload_of e)
 
-    injects : Lower T t c → (q : FieldPath) → Holds q (payload path d) → (s₂ s₃ s₄ : State) → s₂ ≡ narrow n path (Narrowing.Tag d) s₁ → Walks T a k c (path_of q) s₂ s₃ → s₄ ≡ closer n s₃ → Gives T a t (λ g. inject_at T a g n t path s₀) s₄
+    pub inject-goes : Lower T t c → (q : FieldPath) → Holds q (payload path d) → (s₂ s₃ s₄ : State) → s₂ ≡ narrow n path (Narrowing.Tag d) s₁ → Walks T a k c (path_of q) s₂ s₃ → s₄ ≡ closer n s₃ → Gives T a t (λ g. inject_at T a g n t path s₀) s₄
     unfolding injected
-    injects l q o s₂ s₃ s₄ tag w close =
+    inject-goes l q o s₂ s₃ s₄ tag w close =
         record {
           is = λ m h.
               close
@@ -224,9 +239,9 @@ module _ (T : Tables) (a n t : ℕ) (path : File.FieldPath) (s₀ s₁ : State) 
         }
 
 -- `inject`, by its walks: w₂ has the tag, w₃ the payload, w₄ the closer
-pub inject-goes : (T : Tables) (a n t : ℕ) (path : File.FieldPath) (s₀ : State) (r : Chosen) (work plan : List ℕ) → choosing_of r (walk_state T r.walk work plan) ≡ choosing T n t path s₀ → (d k c : ℕ) → r.choice ≡ Ch.Just d k c → Lower T t c → (q : FieldPath) → Holds q (payload path d) → (w₂ w₃ w₄ : Walk) (plan₂ work₃ plan₃ plan₄ : List ℕ) → ((U : Tables) (x : List ℕ) → walk_state U w₂ x plan₂ ≡ narrow n path (Narrowing.Tag d) (walk_state U r.walk x plan)) → Walks T a k c (path_of q) (walk_state T w₂ work plan₂) (walk_state T w₃ work₃ plan₃) → ((U : Tables) (x : List ℕ) → walk_state U w₄ x plan₄ ≡ closer n (walk_state U w₃ x plan₃)) → Gives T a t (λ g. inject_at T a g n t path s₀) (walk_state T w₄ work₃ plan₄)
-inject-goes T a n t path s₀ r work plan b d k c e l q o w₂ w₃ w₄ plan₂ work₃ plan₃ plan₄ tag walks close =
-    injects T a n t path s₀ (walk_state T r.walk work plan) r b d k c e l q o (walk_state T w₂ work plan₂) (walk_state T w₃ work₃ plan₃)
+pub injects-walks : (T : Tables) (a n t : ℕ) (path : File.FieldPath) (s₀ : State) (r : Chosen) (work plan : List ℕ) → choosing_of r (walk_state T r.walk work plan) ≡ choosing T n t path s₀ → (d k c : ℕ) → r.choice ≡ Ch.Just d k c → Lower T t c → (q : FieldPath) → Holds q (payload path d) → (w₂ w₃ w₄ : Walk) (plan₂ work₃ plan₃ plan₄ : List ℕ) → ((U : Tables) (x : List ℕ) → walk_state U w₂ x plan₂ ≡ narrow n path (Narrowing.Tag d) (walk_state U r.walk x plan)) → Walks T a k c (path_of q) (walk_state T w₂ work plan₂) (walk_state T w₃ work₃ plan₃) → ((U : Tables) (x : List ℕ) → walk_state U w₄ x plan₄ ≡ closer n (walk_state U w₃ x plan₃)) → Gives T a t (λ g. inject_at T a g n t path s₀) (walk_state T w₄ work₃ plan₄)
+injects-walks T a n t path s₀ r work plan b d k c e l q o w₂ w₃ w₄ plan₂ work₃ plan₃ plan₄ tag walks close =
+    inject-goes T a n t path s₀ (walk_state T r.walk work plan) r b d k c e l q o (walk_state T w₂ work plan₂) (walk_state T w₃ work₃ plan₃)
     (walk_state T w₄ work₃ plan₄) (tag T work) walks (close T work₃)
 
 -- `partial`

@@ -27,7 +27,7 @@ use Rattle.views.specs.declared.NodeView.{NodeView}
 use Rattle.views.specs.declared.NodeView.TheVariants as Nv
 use Rattle.views.specs.contracts.NodeView as NodeViews
 use Rattle.views.proofs.Runs.{run_at, length_run}
-use Rattle.slots.specs.Slots.{slot_with, slot_of, maybe, IsSlot}
+use Rattle.slots.specs.Slots.{slot_with, slot_of, slot_option, maybe, IsSlot}
 use Rattle.slots.specs.declared.Slot.{Slot}
 use Rattle.slots.specs.declared.SlotKind.{SlotKind}
 use Rattle.slots.specs.declared.SlotKind.TheVariants as Sk
@@ -127,20 +127,33 @@ module _ (n : ℕ) (slot : Slot) where
   pub node-other : OneOf (0 ∷ 1 ∷ 2 ∷ 3 ∷ 4 ∷ []) (tag_of SlotKinds.the_type slot.kind) → n ≡ whole_node n (slot_of slot)
   node-other w = node-of-kind n slot.kind slot.path w
 
--- a variable, by whether its name is bound: l are the lists of the walk w
-module _ (T : Tables) (a x n t : ℕ) (fs : List File.FieldTy) (w : Walk) (work plan : List ℕ) where
+-- a variable, by whether its name is bound
+module _ (T : Tables) (a x n t : ℕ) (fs : List File.FieldTy) (s₀ : State) (m : MaybeSlot) (k : slot_option m ≡ (ops T).lookup s₀ x) (s : State) where
   abbrev asks : Option File.Slot → State
-  asks o = elim o [ none ↦ bind x (File.Slot.Key a t) (skip (walk_state T w work plan)) | some slot ↦ whole_read (ops T) T a n fs (walk_state T w work plan) ]
+  asks o = elim o [ none ↦ bind x (File.Slot.Key a t) (skip s₀) | some slot ↦ whole_read (ops T) T a n fs s₀ ]
 
-  asked : (m : MaybeSlot) (l : Lists) → l ≡ lists_of w → ((level : Level) (g : Target) (p : List ℕ) → IsSlot ((ops T).lookup (state_with l level g work p) x) m) → (b : Bool) → m.some ≡ b → asks (maybe b (slot_of m.slot)) ≡ whole_variable (ops T) T a x n t fs (walk_state T w work plan)
+  pub whole-bound : m.some ≡ true → s ≡ whole_read (ops T) T a n fs s₀ → s ≡ whole_variable (ops T) T a x n t fs s₀
   unfolding whole_variable
-  asked m l el f b e = ap asks (ap (λ (y : Bool). maybe y (slot_of m.slot)) (sym e) ∙ looked-up T x m w l work plan el f)
+  whole-bound e q = q ∙ ap asks (ap (λ (y : Bool). maybe y (slot_of m.slot)) (sym e) ∙ k)
 
-  pub whole-bound : (s : State) → s ≡ whole_read (ops T) T a n fs (walk_state T w work plan) → (m : MaybeSlot) (l : Lists) → l ≡ lists_of w → ((level : Level) (g : Target) (p : List ℕ) → IsSlot ((ops T).lookup (state_with l level g work p) x) m) → m.some ≡ true → s ≡ whole_variable (ops T) T a x n t fs (walk_state T w work plan)
-  whole-bound s q m l el f e = q ∙ asked m l el f true e
+  pub whole-new : m.some ≡ false → (slot : File.Slot) (s₁ : State) → slot ≡ File.Slot.Key a t → s₁ ≡ skip s₀ → s ≡ bind x slot s₁ → s ≡ whole_variable (ops T) T a x n t fs s₀
+  unfolding whole_variable
+  whole-new e slot s₁ es e₁ q = q ∙ ap (bind x slot) e₁ ∙ ap (λ (y : File.Slot). bind x y (skip s₀)) es ∙ ap asks (ap (λ (y : Bool). maybe y (slot_of m.slot)) (sym e) ∙ k)
 
-  pub whole-new : (slot : File.Slot) (w₁ w₂ : Walk) (work₂ : List ℕ) → ((U : Tables) (p : List ℕ) → walk_state U w₂ work₂ p ≡ bind x slot (walk_state U w₁ work p)) → ((U : Tables) (y p : List ℕ) → walk_state U w₁ y p ≡ skip (walk_state U w y p)) → slot ≡ File.Slot.Key a t → (m : MaybeSlot) (l : Lists) → l ≡ lists_of w → ((level : Level) (g : Target) (p : List ℕ) → IsSlot ((ops T).lookup (state_with l level g work p) x) m) → m.some ≡ false → walk_state T w₂ work₂ plan ≡ whole_variable (ops T) T a x n t fs (walk_state T w work plan)
-  whole-new slot w₁ w₂ work₂ q e₁ es m l el f e = q T plan ∙ ap (bind x slot) (e₁ T work plan) ∙ ap (λ (y : File.Slot). bind x y (skip (walk_state T w work plan))) es ∙ asked m l el f false e
+-- the same of walks: l are the lists of the walk w
+module _ (T : Tables) (a x n t : ℕ) (fs : List File.FieldTy) (w : Walk) (work plan : List ℕ) where
+  abbrev walk-asks : Option File.Slot → State
+  walk-asks o = elim o [ none ↦ bind x (File.Slot.Key a t) (skip (walk_state T w work plan)) | some slot ↦ whole_read (ops T) T a n fs (walk_state T w work plan) ]
+
+  asked : (m : MaybeSlot) (l : Lists) → l ≡ lists_of w → ((level : Level) (g : Target) (p : List ℕ) → IsSlot ((ops T).lookup (state_with l level g work p) x) m) → (b : Bool) → m.some ≡ b → walk-asks (maybe b (slot_of m.slot)) ≡ whole_variable (ops T) T a x n t fs (walk_state T w work plan)
+  unfolding whole_variable
+  asked m l el f b e = ap walk-asks (ap (λ (y : Bool). maybe y (slot_of m.slot)) (sym e) ∙ looked-up T x m w l work plan el f)
+
+  pub bound-walks : (s : State) → s ≡ whole_read (ops T) T a n fs (walk_state T w work plan) → (m : MaybeSlot) (l : Lists) → l ≡ lists_of w → ((level : Level) (g : Target) (p : List ℕ) → IsSlot ((ops T).lookup (state_with l level g work p) x) m) → m.some ≡ true → s ≡ whole_variable (ops T) T a x n t fs (walk_state T w work plan)
+  bound-walks s q m l el f e = q ∙ asked m l el f true e
+
+  pub new-walks : (slot : File.Slot) (w₁ w₂ : Walk) (work₂ : List ℕ) → ((U : Tables) (p : List ℕ) → walk_state U w₂ work₂ p ≡ bind x slot (walk_state U w₁ work p)) → ((U : Tables) (y p : List ℕ) → walk_state U w₁ y p ≡ skip (walk_state U w y p)) → slot ≡ File.Slot.Key a t → (m : MaybeSlot) (l : Lists) → l ≡ lists_of w → ((level : Level) (g : Target) (p : List ℕ) → IsSlot ((ops T).lookup (state_with l level g work p) x) m) → m.some ≡ false → walk_state T w₂ work₂ plan ≡ whole_variable (ops T) T a x n t fs (walk_state T w work plan)
+  new-walks slot w₁ w₂ work₂ q e₁ es m l el f e = q T plan ∙ ap (bind x slot) (e₁ T work plan) ∙ ap (λ (y : File.Slot). bind x y (skip (walk_state T w work plan))) es ∙ asked m l el f false e
 
 -- the kinds that are read
 reads_as : (T : Tables) (a : ℕ) (f : List ℕ) (v : NodeView) (n t : ℕ) (fs : List File.FieldTy) (s : State) → OneOf (0 ∷ 1 ∷ 2 ∷ 5 ∷ 6 ∷ 7 ∷ 8 ∷ 9 ∷ 10 ∷ 11 ∷ 12 ∷ 13 ∷ 14 ∷ 15 ∷ 16 ∷ []) (tag_of NodeViews.the_type v) → whole_read (ops T) T a n fs s ≡ whole_key (ops T) T a (node_of f v) n t fs s

@@ -12,10 +12,12 @@ use Rattle.rules.specs.File.{Tables, CompareOp, op_number, node_at, var_name}
 use Rattle.rules.specs.Constant as ConstantRules
 use Rattle.rules.specs.Constant.{bytes_only}
 use Rattle.rules.specs.Placement.{is_var}
+use Rattle.views.specs.declared.Anchor.{Anchor}
 use Rattle.tables.specs.Tables.{found_option}
 use Rattle.tables.specs.declared.Found.{Found}
 use Rattle.tables.specs.declared.Found.TheVariants as Fo
 use Rattle.constant.specs.Sizes.{view_of, const_view}
+use Rattle.constant.specs.declared.Const.{Const}
 use Rattle.constant.specs.declared.Const.TheVariants as Co
 use Rattle.records.specs.Records.{written_at}
 use Rattle.records.specs.declared.Place.{Place}
@@ -38,6 +40,27 @@ known_of T n t m u len (some (ConstantRules.Const.Fuzzy x d a)) h = absurd (let 
 pub known : (T : Tables) (n t m u len : ℕ) → const_view T n t ≡ Co.Bytes m u len → Known T n t len
 unfolding const_view bytes_of constant_bytes
 known T n t m u len e = let k = known_of T n t m u len (ConstantRules.constant T n t) e in record { bytes = k.0; size = k.1 }
+
+-- what is no bytes
+none_of : (T : Tables) (n t : ℕ) (c : Const) (o : Option ConstantRules.Const) → view_of T n t o ≡ c → ((m u len : ℕ) → c ≡ Co.Bytes m u len → ⊥) → (o when_some bytes_only) ≡ none
+unfolding ◌when_some◌ bytes_only
+none_of T n t c none h f = refl
+none_of T n t c (some (ConstantRules.Const.Bytes bs)) h f = absurd (f _ _ _ (sym h))
+none_of T n t c (some (ConstantRules.Const.Prefix bs)) h f = refl
+none_of T n t c (some (ConstantRules.Const.Fuzzy x d a)) h f = refl
+
+pub not-bytes : (T : Tables) (n t : ℕ) (c : Const) → c ≡ const_view T n t → ((m u len : ℕ) → c ≡ Co.Bytes m u len → ⊥) → (ConstantRules.constant T n t when_some bytes_only) ≡ none
+unfolding const_view
+not-bytes T n t c e f = none_of T n t c (ConstantRules.constant T n t) (sym e) f
+
+pub nothing-not : (m u len : ℕ) → Co.Nothing ≡ Co.Bytes m u len → ⊥
+nothing-not m u len h = let z : ◌≡◌ {A = ℕ} 0 1 = cc in omega arith
+
+pub prefix-not : (x m u len : ℕ) → Co.Prefix x ≡ Co.Bytes m u len → ⊥
+prefix-not x m u len h = let z : ◌≡◌ {A = ℕ} 0 1 = cc in omega arith
+
+pub fuzzy-not : (x d : ℕ) (a : Anchor) (m u len : ℕ) → Co.Fuzzy x d a ≡ Co.Bytes m u len → ⊥
+fuzzy-not x d a m u len h = let z : ◌≡◌ {A = ℕ} 0 1 = cc in omega arith
 
 module _ (T : Tables) (n t len : ℕ) (k : Known T n t len) where
   pub small : len ≤ 65536

@@ -28,6 +28,7 @@ use Rattle.seek.proofs.Narrows.{stays, goes}
 use Rattle.encode.specs.Written.{bytes_of}
 use Rattle.seek.specs.Bounds.{edge_by, fold_one}
 use Rattle.constant.specs.Has.{has_bytes}
+use Rattle.seek.proofs.Consts.{Known}
 
 -- other edges
 unfoldable pub edged : (Edges → Edges) → State → State
@@ -61,13 +62,21 @@ module _ (T : Tables) (i : ℕ) (op : CompareOp) (n t : ℕ) (e : Edges) where
   having (some (ConstantRules.Const.Prefix bs)) h = absurd (true≢false (sym h))
   having (some (ConstantRules.Const.Fuzzy y d a)) h = absurd (true≢false (sym h))
 
-  pub edge_none : has_bytes (ConstantRules.constant T n t) ≡ false → edge_by T i op n t e ≡ e
+  pub edge_none : (ConstantRules.constant T n t when_some bytes_only) ≡ none → edge_by T i op n t e ≡ e
   unfolding edge_by
-  edge_none h = lacking (ConstantRules.constant T n t) h
+  edge_none h = ap (λ o. elim o [ none ↦ e | some value ↦ take_edge i op value e ]) h
 
-  pub edge-bytes : has_bytes (ConstantRules.constant T n t) ≡ true → take_edge i op (constant_bytes T n t) e ≡ edge_by T i op n t e
+  pub edge-bytes : (len : ℕ) → Known T n t len → take_edge i op (constant_bytes T n t) e ≡ edge_by T i op n t e
+  unfolding edge_by bytes_of
+  edge-bytes len k = sym (ap (λ o. elim o [ none ↦ e | some value ↦ take_edge i op value e ]) k.bytes)
+
+  pub edge-lacking : has_bytes (ConstantRules.constant T n t) ≡ false → edge_by T i op n t e ≡ e
+  unfolding edge_by
+  edge-lacking h = lacking (ConstantRules.constant T n t) h
+
+  pub edge-having : has_bytes (ConstantRules.constant T n t) ≡ true → take_edge i op (constant_bytes T n t) e ≡ edge_by T i op n t e
   unfolding edge_by bytes_of constant_bytes
-  edge-bytes h = having (ConstantRules.constant T n t) h
+  edge-having h = having (ConstantRules.constant T n t) h
 
 -- one comparison, by the side on which the variable stands
 module _ (T : Tables) (x t i : ℕ) (c : Comparison) (e : Edges) where

@@ -1,5 +1,5 @@
 use Rattle.state.specs.Ops.{skip}
-use Rattle.constrain.proofs.Ranks.{constrain-none, constrain-some}
+use Rattle.constrain.proofs.Ranks.{constrain-none, constrain-ranked}
 use mathlib.Core.Path.{sym, ap, ◌∙◌}
 use Rattle.walk.specs.Walk.{walk_state}
 use Rattle.walk.proofs.Parts.{placed-is}
@@ -15,7 +15,7 @@ pub constrain_rank-requires : goal.constrain_rank-requires
 constrain_rank-requires c = record { accepted_file = c.requires.accepted_file; ty_in_bounds = c.requires.ty_in_bounds }
 
 pub returns-then-is_constrained : goal.returns-then-is_constrained
-returns-then-is_constrained c = constrain-some _ _ _ _ (sym c.is_constrained.ensures ∙ c.if-is_constrained.true) _ _ _ _ _ _ _ _ _ _ _ _ _ _ _ _ _ c.constrained-a.ensures c.constrain_rank-b.ensures c.constrain_rank-c.ensures c.constrain_rank-d.ensures c.constrain_rank.ensures
+returns-then-is_constrained c = constrain-ranked _ _ _ _ (sym c.is_constrained.ensures ∙ c.if-is_constrained.true) _ _ _ _ _ _ _ _ _ _ _ _ _ _ _ _ _ c.constrained-a.ensures c.constrain_rank-b.ensures c.constrain_rank-c.ensures c.constrain_rank-d.ensures c.constrain_rank.ensures
 
 pub returns : goal.returns
 unfolding walk_state

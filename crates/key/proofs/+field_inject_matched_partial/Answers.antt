@@ -3,11 +3,11 @@ use native.Mathlib.Omega.{arith}
 use borrow.Author.Rules.{rules}
 use Rattle.rules.proofs.Sound.{passed-all}
 use Rattle.accepted_file.proofs.Ranges.{nodes-lower}
-use Rattle.key.proofs.Rounds.{field-over, field-inject, field_skip, field-report, field-range, field-bytes, field-pieces, field_bound, field-new, field-read, field-opened, field-unresolved}
+use Rattle.key.proofs.Rounds.{field-over, field-inject, field_skip, field-report, field-range, field-bytes, field-pieces, found-bound, found-new, field-read, field-opened, unresolved-walks}
 use mathlib.Core.Path.{◌∙◌}
 use Rattle.accepted_file.proofs.Given.{sound-tables}
 use Rattle.key.proofs.Deeper.{has_room, fits-payload}
-use Rattle.key.proofs.Rounds.{inject-done, inject-lower, inject-goes}
+use Rattle.key.proofs.Rounds.{inject-done, inject-lower, injects-walks}
 use Rattle.key.proofs.Rounds.{matched-met, matched-bytes, matched-pieces}
 use Rattle.field_cases.proofs.Opens.{count-is}
 use Rattle.tables.specs.Tables.{found_option}
@@ -49,7 +49,7 @@ pub field-matched-requires : goal.field-matched-requires
 field-matched-requires t c = (omega (arith, c.decreases), (c.requires.accepted_file, c.requires.fits))
 
 pub field-returns-then-found : goal.field-returns-then-found
-field-returns-then-found t c = field_bound _ _ _ _ _ _ _ _ _ _ c.lookup-found.result _ c.lists.ensures c.lookup-found.ensures _ c.way_of.ensures (nodes-lower _ (passed-all _ c.requires.accepted_file.accepted)) c.in-Variable.is c.if-found.true c.matched.ensures
+field-returns-then-found t c = found-bound _ _ _ _ _ _ _ _ _ _ c.lookup-found.result _ c.lists.ensures c.lookup-found.ensures _ c.way_of.ensures (nodes-lower _ (passed-all _ c.requires.accepted_file.accepted)) c.in-Variable.is c.if-found.true c.matched.ensures
 
 pub field-captured-requires : goal.field-captured-requires
 field-captured-requires t c = record { accepted_file = c.requires.accepted_file; ty_in_bounds = c.requires.fits.known }
@@ -91,10 +91,10 @@ pub field-returns-else-is_nothing : goal.field-returns-else-is_nothing
 field-returns-else-is_nothing t c = field-bytes _ _ _ _ _ _ _ c.way_of.ensures (nodes-lower _ (passed-all _ c.requires.accepted_file.accepted)) c.in-Constant.is _ c.known-c.ensures _ (sym c.is_nothing.ensures ∙ c.if-is_nothing.false) (c.narrow.ensures _)
 
 pub field-returns-else-found : goal.field-returns-else-found
-field-returns-else-found t c = field-new _ _ _ _ _ _ _ _ _ _ c.captured.ensures c.lookup-found.result _ c.lists.ensures c.lookup-found.ensures _ c.way_of.ensures (nodes-lower _ (passed-all _ c.requires.accepted_file.accepted)) c.in-Variable.is c.if-found.false
+field-returns-else-found t c = found-new _ _ _ _ _ _ _ _ _ _ c.captured.ensures c.lookup-found.result _ c.lists.ensures c.lookup-found.ensures _ c.way_of.ensures (nodes-lower _ (passed-all _ c.requires.accepted_file.accepted)) c.in-Variable.is c.if-found.false
 
 pub field-returns-in_default : goal.field-returns-in_default
-field-returns-in_default t c = field-unresolved _ _ _ _ _ _ _ _ _ _ _ _ c.unresolved.ensures _ _ c.lists-in-Read.ensures c.listed-l.ensures c.resolve-a.ensures _ c.way_of.ensures (nodes-lower _ (passed-all _ c.requires.accepted_file.accepted)) c.in-Read.is c.if-a.false _ _ c.pairs_of.ensures.shows c.in_default.is
+field-returns-in_default t c = unresolved-walks _ _ _ _ _ _ _ _ _ _ _ _ c.unresolved.ensures _ _ c.lists-in-Read.ensures c.listed-l.ensures c.resolve-a.ensures _ c.way_of.ensures (nodes-lower _ (passed-all _ c.requires.accepted_file.accepted)) c.in-Read.is c.if-a.false _ _ c.pairs_of.ensures.shows c.in_default.is
 
 pub inject-choose-c-requires : goal.inject-choose-c-requires
 inject-choose-c-requires t c = record { accepted_file = c.requires.accepted_file; ty_in_bounds = c.requires.fits.known }
@@ -113,7 +113,7 @@ inject-field-walked-requires t c =
 pub inject-returns : goal.inject-returns
 inject-returns t c =
     let l = inject-lower _ 0 _ _ _ _ _ c.choose-c.result c.choose-c.ensures _ _ _ c.in-Just.is (sound-tables _ _ c.requires.accepted_file) c.requires.fits.known in
-    inject-goes _ _ _ _ _ _ c.choose-c.result _ _ c.choose-c.ensures _ _ _ c.in-Just.is l _ c.payload-q.ensures.holds _ _ _ _ _ _ _ c.tag-tagged.ensures c.field-walked.ensures c.closer.ensures
+    injects-walks _ _ _ _ _ _ c.choose-c.result _ _ c.choose-c.ensures _ _ _ c.in-Just.is l _ c.payload-q.ensures.holds _ _ _ _ _ _ _ c.tag-tagged.ensures c.field-walked.ensures c.closer.ensures
 
 pub matched-meet-requires : goal.matched-meet-requires
 matched-meet-requires t c = record { accepted_file = c.requires.accepted_file; ty_in_bounds = c.requires.fits.known }

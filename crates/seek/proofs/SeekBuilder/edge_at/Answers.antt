@@ -1,7 +1,7 @@
 use mathlib.Core.Path.{sym, ◌∙◌}
 use native.Mathlib.Omega.{arith}
 use Rattle.accepted_file.proofs.Given.{few-types, few-nodes, few-comparisons}
-use Rattle.seek.proofs.Folds.{edges-same, edges-stay, edge_none, edge-bytes}
+use Rattle.seek.proofs.Folds.{edges-same, edges-stay, edge-lacking, edge-having}
 use Rattle.seek.proofs.SeekBuilder.edge_at.Goals as goal
 
 -- src/bounds.rt:143:30
@@ -18,8 +18,8 @@ overflow_cast-ty c = omega (arith, c.requires.ty_in_bounds, few-types _ _ c.requ
 
 -- src/bounds.rt:143:13
 pub returns-then-has_bytes : goal.returns-then-has_bytes
-returns-then-has_bytes c = λ e w p. edges-same _ _ _ _ (c.edge.ensures _ e w p) (λ y. edge-bytes _ _ _ _ _ y (sym c.has_bytes.ensures ∙ c.if-has_bytes.true))
+returns-then-has_bytes c = λ e w p. edges-same _ _ _ _ (c.edge.ensures _ e w p) (λ y. edge-having _ _ _ _ _ y (sym c.has_bytes.ensures ∙ c.if-has_bytes.true))
 
 -- src/bounds.rt:122:5
 pub returns : goal.returns
-returns c = λ e w p. edges-stay _ _ (λ y. edge_none _ _ _ _ _ y (sym c.has_bytes.ensures ∙ c.if-has_bytes.false))
+returns c = λ e w p. edges-stay _ _ (λ y. edge-lacking _ _ _ _ _ y (sym c.has_bytes.ensures ∙ c.if-has_bytes.false))
