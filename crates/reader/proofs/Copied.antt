@@ -1,12 +1,12 @@
 -- The lengths, and an accepted plan at the front of the output.
 use mathlib.Core.Bool.{Bool, true, false}
 use mathlib.Core.List.{List, ◌++◌}
-use mathlib.Core.Path.{◌≡◌, refl, sym, ap, ◌∙◌}
+use mathlib.Core.Path.{◌≡◌, refl, sym, ap, ap₂, ◌∙◌}
 use Prim.Native.Nat.{ℕ, ◌+◌, ◌≤◌, ◌<◌, min}
 use native.Mathlib.Omega.{arith}
 use borrow.Author.Tests.{le-leb}
 use lib.ListN.{length, take, drop, length-append}
-use lib.Seq.{sets, sets-eq, take_at, length-take-le}
+use lib.Seq.{sets, sets-eq, take_at, take-length, length-take-le}
 use Rattle.rules.specs.Limits.{plan_limit}
 use Rattle.rules.specs.Compile.{Outcome}
 use Rattle.rules.specs.Reader as Reader
@@ -59,8 +59,15 @@ taken e f n h ns = length-take-le n f (omega (arith, ns, short e f h))
 pub room : (e : Ending) (f : List ℕ) (n k : ℕ) → Within e f → n ≡ length_of e → length f ≤ k → length (take n f) ≤ k
 room e f n k h ns l = omega (arith, taken e f n h ns, ns, short e f h)
 
-pub decided : (f out : List ℕ) (e : Ending) (n : ℕ) (out' : List ℕ) → length f ≤ plan_limit → length f ≤ length out → ending_outcome e f ≡ Reader.finished (Reader.read f) → Within e f → n ≡ length_of e → out' ≡ take n f ++ drop n out → Decided f out e out'
+pub decided : (f out : List ℕ) (e : Ending) (n : ℕ) (out' : List ℕ) → length f ≤ plan_limit → length f ≤ length out → ending_outcome e f ≡ Reader.finished (Reader.read f) → Within e f → n ≡ length_of e → out' ≡ take (length (take n f)) (take n f) ++ drop (length (take n f)) out → Decided f out e out'
 decided f out e n out' l m is h ns q =
     let o : ending_outcome e f ≡ Reader.outcome f (length out) = is ∙ sym (in-time f (length out) l m) in
-    let c = copied f out e h m out' (q ∙ ap (λ (i : ℕ). take i f ++ drop i out) ns) in
+    let front = ap₂ (λ (l : List ℕ) (i : ℕ). l ++ drop i out) (take-length (take n f)) (taken e f n h ns) in
+    let c = copied f out e h m out' (q ∙ front ∙ ap (λ (i : ℕ). take i f ++ drop i out) ns) in
     (c.0 ∙ o, (c.1.0, c.1.1 ∙ ap (λ (x : Outcome). sets out 0 (bytes_of x)) o))
+
+-- the same of the first n bytes, as they are copied
+pub decided-front : (f out : List ℕ) (e : Ending) (n : ℕ) (out' : List ℕ) → length f ≤ plan_limit → length f ≤ length out → ending_outcome e f ≡ Reader.finished (Reader.read f) → Within e f → n ≡ length_of e → out' ≡ take n f ++ drop n out → Decided f out e out'
+decided-front f out e n out' l m is h ns q =
+    let front = ap₂ (λ (l : List ℕ) (i : ℕ). l ++ drop i out) (take-length (take n f)) (taken e f n h ns) in
+    decided f out e n out' l m is h ns (q ∙ sym front)
