@@ -4,19 +4,15 @@ use Rattle.walk.specs.Walk.{walk_state}
 use Rattle.seek.specs.Seek.{state_of}
 use Rattle.constrain.proofs.narrow_or_report.Goals as goal
 
--- src/lib.rt:105:9
 pub returns-then-level : goal.returns-then-level
 unfolding walk_state state_of
 returns-then-level c = or-over _ _ _ _ _ _ c.if-level.true
 
--- src/lib.rt:109:9
 pub returns-then-is_nothing : goal.returns-then-is_nothing
 returns-then-is_nothing c = or_no _ _ _ _ _ _ c.known-c.ensures _ _ (sym c.is_nothing.ensures ∙ c.if-is_nothing.true) (c.diagnose.ensures _ _)
 
--- src/lib.rt:111:5
 pub narrow-requires : goal.narrow-requires
 narrow-requires c = (c.requires.accepted_file, c.known-c.ensures.made (sym c.is_nothing.ensures ∙ c.if-is_nothing.false))
 
--- src/lib.rt:83:1
 pub returns : goal.returns
 returns c = or_yes _ _ _ _ _ _ c.known-c.ensures _ _ (sym c.is_nothing.ensures ∙ c.if-is_nothing.false) (c.narrow.ensures _)

@@ -4,22 +4,17 @@ use Rattle.accepted_file.proofs.Given.{few-types, few-nodes, few-comparisons}
 use Rattle.seek.proofs.Folds.{edges-same, edges-stay, edge-lacking, edge-having}
 use Rattle.seek.proofs.SeekBuilder.edge_at.Goals as goal
 
--- src/bounds.rt:143:30
 pub overflow_cast-k : goal.overflow_cast-k
 overflow_cast-k c = omega (arith, c.requires.k_in_bounds, few-comparisons _ _ c.requires.accepted_file.indexed)
 
--- src/bounds.rt:143:44
 pub overflow_cast-node : goal.overflow_cast-node
 overflow_cast-node c = omega (arith, c.requires.node_in_bounds, few-nodes _ _ c.requires.accepted_file.indexed)
 
--- src/bounds.rt:143:57
 pub overflow_cast-ty : goal.overflow_cast-ty
 overflow_cast-ty c = omega (arith, c.requires.ty_in_bounds, few-types _ _ c.requires.accepted_file.indexed)
 
--- src/bounds.rt:143:13
 pub returns-then-has_bytes : goal.returns-then-has_bytes
 returns-then-has_bytes c = λ e w p. edges-same _ _ _ _ (c.edge.ensures _ e w p) (λ y. edge-having _ _ _ _ _ y (sym c.has_bytes.ensures ∙ c.if-has_bytes.true))
 
--- src/bounds.rt:122:5
 pub returns : goal.returns
 returns c = λ e w p. edges-stay _ _ (λ y. edge-lacking _ _ _ _ _ y (sym c.has_bytes.ensures ∙ c.if-has_bytes.false))
