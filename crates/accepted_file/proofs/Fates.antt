@@ -1,7 +1,7 @@
 -- What an index that remembers a constant's fate tells of its bytes.
 use mathlib.Core.Bool.{Bool, true, false}
 use mathlib.Core.List.{List}
-use mathlib.Core.Option.{Option, none, some}
+use Rattle.std.specs.Prelude.{Option, None, Some}
 use mathlib.Core.Path.{◌≡◌, refl, sym, ◌∙◌}
 use Prim.Native.Nat.{ℕ, ◌<◌}
 use native.Mathlib.Omega.{arith}
@@ -19,16 +19,16 @@ fate-bytes true true heard e = absurd (omega arith)
 fate-bytes true false true e = absurd (omega arith)
 fate-bytes true false false e = absurd (omega arith)
 
-fate-other : (o : Option Const) (met heard : Bool) → (fate_by (lacks_bytes o) met heard ≡ fate_bytes → ⊥) → o ≡ none
+fate-other : (o : Option Const) (met heard : Bool) → (fate_by (lacks_bytes o) met heard ≡ fate_bytes → ⊥) → o ≡ None
 unfolding fate_by lacks_bytes
-fate-other none met heard h = refl
-fate-other (some c) met heard h = absurd (h refl)
+fate-other None met heard h = refl
+fate-other (Some c) met heard h = absurd (h refl)
 
-module _ (f ix : List ℕ) (r : AcceptedFile f ix) (n t d : ℕ) (h : n < length (tables_of f).nodes) (g : t < length (tables_of f).types) (e : recalled ix n t ≡ some d) where
+module _ (f ix : List ℕ) (r : AcceptedFile f ix) (n t d : ℕ) (h : n < length (tables_of f).nodes) (g : t < length (tables_of f).types) (e : recalled ix n t ≡ Some d) where
   pub recalled-bytes : d ≡ fate_bytes → lacks_bytes (constant (tables_of f) n t) ≡ false
   unfolding fate
   recalled-bytes q = fate-bytes _ (brought_meets (tables_of f) (meets (tables_of f)) n t) (heard (tables_of f) n t) (sym (r.remembered n t d h g e) ∙ q)
 
-  pub recalled-other : (d ≡ fate_bytes → ⊥) → constant (tables_of f) n t ≡ none
+  pub recalled-other : (d ≡ fate_bytes → ⊥) → constant (tables_of f) n t ≡ None
   unfolding fate
   recalled-other q = fate-other (constant (tables_of f) n t) (brought_meets (tables_of f) (meets (tables_of f)) n t) (heard (tables_of f) n t) (λ w. q (r.remembered n t d h g e ∙ w))

@@ -2,8 +2,7 @@
 -- Var's Const is a constant node.
 use mathlib.Core.Bool.{Bool, true, false}
 use mathlib.Core.List.{List, [], ◌∷◌, map}
-use mathlib.Core.Option
-use mathlib.Core.Option.{Option, none, some}
+use Rattle.std.specs.Prelude.{Option, None, Some, unwrap_or}
 use mathlib.Core.Path.{◌≡◌, refl, sym, ap, ap₂, ◌∙◌, subst}
 use Prim.Native.Nat.{ℕ, ◌+◌, ◌≤◌, ◌<◌}
 use native.Mathlib.Nat.{zero-add}
@@ -49,7 +48,7 @@ constant_of-take cs n Node.Arith h = refl
 constant_of-take cs n Node.Error h = refl
 
 -- a Var is no constant
-var-inconstant : (cs : List Bool) (node : Node) (x : ℕ) → var_name node ≡ some x → constant_of cs node ≡ false
+var-inconstant : (cs : List Bool) (node : Node) (x : ℕ) → var_name node ≡ Some x → constant_of cs node ≡ false
 unfolding constant_of var_name
 var-inconstant cs (Node.Int bytes) x e = absurd (some≢none x (sym e))
 var-inconstant cs (Node.Str y) x e = absurd (some≢none x (sym e))
@@ -87,7 +86,7 @@ const-ok T (Slot.Field a p t) h g = tt
 const-ok T (Slot.Value a t) h g = tt
 const-ok T (Slot.Const n) h g = (ltb-lt _ _ h, g)
 
-const-node : (T : Tables) (s : Slot) (m : ℕ) → ConstOk T s → const_node s ≡ some m → (m < length T.nodes) × (is_constant T m ≡ true)
+const-node : (T : Tables) (s : Slot) (m : ℕ) → ConstOk T s → const_node s ≡ Some m → (m < length T.nodes) × (is_constant T m ≡ true)
 unfolding const_node
 const-node T (Slot.Row a p) m h e = absurd (some≢none m (sym e))
 const-node T (Slot.Key a t) m h e = absurd (some≢none m (sym e))
@@ -135,16 +134,16 @@ module _ (T : Tables) (k : Passed T) where
   node-children n h = each-imply (λ c l. (l, omega arith)) (nodes-lower n h)
 
   -- a constant is no Var, and stands for itself
-  pub constant-no-var : (n : ℕ) → n < length T.nodes → is_constant T n ≡ true → var_name (node_at T n) ≡ none
+  pub constant-no-var : (n : ℕ) → n < length T.nodes → is_constant T n ≡ true → var_name (node_at T n) ≡ None
   constant-no-var n h c = go (var_name (node_at T n)) refl
     where
-      go : (o : Option ℕ) → var_name (node_at T n) ≡ o → o ≡ none
-      go none e = refl
-      go (some x) e = absurd (true≢false (sym c ∙ constant-of n h ∙ var-inconstant (constants T) (node_at T n) x e))
+      go : (o : Option ℕ) → var_name (node_at T n) ≡ o → o ≡ None
+      go None e = refl
+      go (Some x) e = absurd (true≢false (sym c ∙ constant-of n h ∙ var-inconstant (constants T) (node_at T n) x e))
 
   pub stands-constant : (n : ℕ) → n < length T.nodes → is_constant T n ≡ true → stands_for T n ≡ n
   unfolding stands_for const_of ◌when_some◌
-  stands-constant n h c = ap (λ (o : Option ℕ). Option.get_or (o when_some λ x. lookup T.bindings x when_some const_node) n) (constant-no-var n h c)
+  stands-constant n h c = ap (λ (o : Option ℕ). unwrap_or (o when_some λ x. lookup T.bindings x when_some const_node) n) (constant-no-var n h c)
 
   -- a constant Record's patterns are constant
   pub record-constant : (n : ℕ) (fs : List FieldPattern) → n < length T.nodes → node_at T n ≡ Node.Record fs → is_constant T n ≡ true → Each (λ f. is_constant T f.node ≡ true) fs
@@ -159,11 +158,11 @@ module _ (T : Tables) (k : Passed T) where
       (each-passes (λ b. slot_constant T b.slot) T.bindings k.consts)
 
   -- what a name is bound to
-  pub lookup-const : (x : ℕ) (s : Slot) → lookup T.bindings x ≡ some s → ConstOk T s
+  pub lookup-const : (x : ℕ) (s : Slot) → lookup T.bindings x ≡ Some s → ConstOk T s
   unfolding lookup
   lookup-const x s e =
-      let r = bind-some (last_or none (λ b. eqb b.name x) T.bindings) (λ b. some b.slot) s e in
-      subst (ConstOk T) (some-injective _ s r.2) (each_last (λ b. eqb b.name x) none (λ b q. absurd (some≢none b (sym q))) bindings-const r.0 r.1)
+      let r = bind-some (last_or None (λ b. eqb b.name x) T.bindings) (λ b. Some b.slot) s e in
+      subst (ConstOk T) (some-injective _ s r.2) (each_last (λ b. eqb b.name x) None (λ b q. absurd (some≢none b (sym q))) bindings-const r.0 r.1)
 
   module _ (few : length T.nodes ≤ node_limit) where
     -- the node that a node stands for
@@ -175,9 +174,9 @@ module _ (T : Tables) (k : Passed T) where
     unfolding stands_for const_of
     stands n h = go (const_of T.bindings (node_at T n)) refl
       where
-        go : (o : Option ℕ) → const_of T.bindings (node_at T n) ≡ o → Stood n (Option.get_or o n)
-        go none e = record { in-nodes = h; no-higher = omega arith }
-        go (some m) e =
+        go : (o : Option ℕ) → const_of T.bindings (node_at T n) ≡ o → Stood n (unwrap_or o n)
+        go None e = record { in-nodes = h; no-higher = omega arith }
+        go (Some m) e =
             let r = bind-some (var_name (node_at T n)) (λ x. lookup T.bindings x when_some const_node) m e in
             let s = bind-some (lookup T.bindings r.0) const_node m r.2 in
             let c = const-node T s.0 m (lookup-const r.0 s.0 s.1) s.2 in

@@ -1,7 +1,6 @@
 -- What the code behind the checks requires: a file that was read and passed every check, with an index that holds the depth of each type,
 -- the constancy of each node and the last binding of each name, and what it remembers of constants.
-use Rattle.std.specs.Prelude.{ℕ, ◌+◌, ◌<◌, ◌≡◌, Bool, true, false, List, length, get_or}
-use Rattle.std.proofs.Math.Option.{none, some}
+use Rattle.std.specs.Prelude.{ℕ, ◌+◌, ◌<◌, ◌≡◌, Bool, true, false, List, length, get_or, None, Some}
 use Rattle.rules.specs.Limits.{node_limit}
 use Rattle.rules.specs.File.{Tables, FieldPattern, depth, is_constant}
 use Rattle.rules.specs.Checks.{checks, fault}
@@ -17,12 +16,12 @@ flag false = 0
 -- f is an accepted file, and ix its filled index
 pub record AcceptedFile (f ix : List ℕ) : Type 0 where
   pub indexed : Indexed f ix
-  pub accepted : fault checks (tables_of f) ≡ none
+  pub accepted : fault checks (tables_of f) ≡ None
   pub depths : (t : ℕ) → t < length (tables_of f).types → get_or ix (depths_base + t) 0 ≡ depth (tables_of f) t
   pub constants : (n : ℕ) → n < length (tables_of f).nodes → get_or ix (constants_base + n) 0 ≡ flag (is_constant (tables_of f) n)
   pub last-bindings : (x : ℕ) → x < length (tables_of f).names → get_or ix (last_bindings_base + x) 0 ≡ last_binding (tables_of f) x
   pub remembered : (n t d : ℕ) → n < length (tables_of f).nodes → t < length (tables_of f).types →
-      recalled ix n t ≡ some d → d ≡ fate (tables_of f) n t
+      recalled ix n t ≡ Some d → d ≡ fate (tables_of f) n t
 
 -- "a measure of not-constant and node number falls": a constant stands below every node that is none, so that a Var's Const is lower
 unfoldable pub constant_rank : Tables → ℕ → ℕ

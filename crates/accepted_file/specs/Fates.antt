@@ -1,6 +1,5 @@
 -- What a constant comes to at a type, and where the index remembers it: it is asked for again and again and never changes.
-use Rattle.std.specs.Prelude.{Bool, true, false, List, [], ◌∷◌, ℕ, zero, suc, ◌+◌, ◌*◌, ◌/◌, ◌%◌, length, get_or}
-use Rattle.std.proofs.Math.Option.{Option, none, some}
+use Rattle.std.specs.Prelude.{Bool, true, false, List, [], ◌∷◌, ℕ, zero, suc, ◌+◌, ◌*◌, ◌/◌, ◌%◌, length, get_or, Option, None, Some}
 use Rattle.rules.specs.File.{Tables, FieldTy, FieldPattern, type_at, node_at, record_fields, record_ty}
 use Rattle.rules.specs.Constant.{constant}
 use Rattle.rules.specs.Literals.{any_field, lacks_bytes, brought_meets, meets}
@@ -8,10 +7,10 @@ use Rattle.rules.specs.Literals.{any_field, lacks_bytes, brought_meets, meets}
 -- Whether a Record that is opened at a Record type gives more than a skip: any of its pieces does, each a Record that is opened itself. A
 -- Record type without fields gives it bytes; any other pattern or type is heard. `below` is the same at the types below.
 unfoldable pub heard_by : (ℕ → ℕ → Bool) → Option (List FieldPattern) → Option (List FieldTy) → Bool
-heard_by below none fs = true
-heard_by below (some fields) none = true
-heard_by below (some fields) (some []) = true
-heard_by below (some fields) (some (f ∷ fs)) = any_field below fields (f ∷ fs)
+heard_by below None fs = true
+heard_by below (Some fields) None = true
+heard_by below (Some fields) (Some []) = true
+heard_by below (Some fields) (Some (f ∷ fs)) = any_field below fields (f ∷ fs)
 
 unfoldable pub heard_below : Tables → ℕ → ℕ → ℕ → Bool
 heard_below T zero n t = true
@@ -62,8 +61,8 @@ digit zero word = word % 4
 digit (suc j) word = digit j (word / 4)
 
 unfoldable pub in_row : List ℕ → ℕ → ℕ → Option ℕ
-in_row ix zero t = none
-in_row ix (suc k) t = some (digit (t % 8) (get_or ix (fates_base + row_words * k + t / 8) 0))
+in_row ix zero t = None
+in_row ix (suc k) t = Some (digit (t % 8) (get_or ix (fates_base + row_words * k + t / 8) 0))
 
 -- what the index remembers of node n at type t; one that is no longer than its other areas remembers nothing
 unfoldable pub recalled : List ℕ → ℕ → ℕ → Option ℕ

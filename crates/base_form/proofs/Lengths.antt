@@ -1,6 +1,6 @@
 -- The base's form is shorter by two bytes for each node, and by nothing else.
 use mathlib.Core.List.{List, [], ◌∷◌, ◌++◌}
-use mathlib.Core.Option.{Option, none, some}
+use Rattle.std.specs.Prelude.{Option, None, Some}
 use mathlib.Core.Path.{◌≡◌}
 use Prim.Native.Nat.{ℕ, ◌+◌, ◌*◌}
 use native.Mathlib.Omega.{arith}
@@ -76,8 +76,8 @@ seek-longer (SeekKey.Bounded parts lo hi) =
 
 guide-longer : (g : Option Guide) → length (Plan.guide g) ≡ length (base_guide g) + 2 * number g
 unfolding Plan.guide base_guide number
-guide-longer none = omega arith
-guide-longer (some g) =
+guide-longer None = omega arith
+guide-longer (Some g) =
     let that = Plan.path g.path ++ Plan.fuzzy g.term g.distance g.anchor in
     omega (arith, two g.node, length-append that (Plan.u16 g.node))
 

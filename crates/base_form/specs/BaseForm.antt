@@ -1,7 +1,6 @@
 -- Request [2]: a plan's bytes in document 01's form, with the nodes left out and nothing else: "Runs beside the Rust leave this number
 -- aside." Each definition stands beside the one of rules/specs/Plan.antt that has the node.
-use Rattle.std.specs.Prelude.{List, [], ◌∷◌, ◌++◌, ℕ, ◌+◌, length}
-use Rattle.std.proofs.Math.Option.{Option, none, some}
+use Rattle.std.specs.Prelude.{List, [], ◌∷◌, ◌++◌, ℕ, ◌+◌, length, Option, None, Some}
 use Rattle.rules.specs.Base.{concat_map}
 use Rattle.rules.specs.Placement.{Part, Residual, Guide, SeekKey}
 use Rattle.rules.specs.Plan.{PlanLevel, Plan, u16, counted, text, path, fuzzy, part_key, edge, op, binding, select, diagnostic}
@@ -20,8 +19,8 @@ base_seek (SeekKey.Bounded parts lo hi) = 3 ∷ concat_map base_part parts ++ ed
 
 -- "guide: u8 0, or 1, path, name, distance, anchor"
 unfoldable pub base_guide : Option Guide → List ℕ
-base_guide none = 0 ∷ []
-base_guide (some g) = 1 ∷ path g.path ++ fuzzy g.term g.distance g.anchor
+base_guide None = 0 ∷ []
+base_guide (Some g) = 1 ∷ path g.path ++ fuzzy g.term g.distance g.anchor
 
 -- "Residuals, counted: path, u8 op"
 unfoldable pub base_residual : Residual → List ℕ

@@ -1,5 +1,5 @@
 -- The filled index, and what the checks 11, 13 and 14 read in it.
-use Prim.Native.Nat.{ℕ, ◌+◌, ◌-◌, ◌≤◌, ◌<◌, max}
+use Prim.Native.Nat.{ℕ, ◌+◌, ◌-◌, ◌*◌, ◌≤◌, ◌<◌, max}
 use mathlib.Core.Path.{◌≡◌, refl, sym, ap, ap₂, ◌∙◌, subst}
 use mathlib.Core.Bool.{Bool, true, false}
 use mathlib.Core.List.{List, ◌∷◌}
@@ -20,7 +20,7 @@ use Rattle.file.specs.Tables.{Indexed, Section, Stands, tables_of}
 use Rattle.file.proofs.Readers.{down}
 use Rattle.file.proofs.Sections.{roomy}
 use Rattle.file.proofs.Accepted.{sets_below}
-use Rattle.views.specs.Views.{run, long, byte_at, path_at, binding_at, fetched_at, SlotInside, SeenBinding, SeenFetched}
+use Rattle.views.specs.Views.{run, long, byte_at, path_at, binding_at, fetched_at, slot_viewed, SlotInside, SeenBinding, SeenFetched}
 use Rattle.views.specs.declared.BindingView.{BindingView}
 use Rattle.views.specs.declared.FetchedView.{FetchedView}
 use Rattle.views.specs.declared.SlotView.{SlotView}
@@ -28,7 +28,7 @@ use Rattle.views.specs.declared.SlotView.TheVariants as Sv
 use Rattle.views.proofs.Runs.{length_run}
 use Rattle.paths.specs.declared.Address.{Address}
 use Rattle.record_checks.specs.RecordChecks.{record_in, section_in}
-use Rattle.record_checks.proofs.Every.{every, if-both, both-inv, every-at, all-every}
+use Rattle.record_checks.proofs.Every.{every, if-both, both-inv, every-at, all-every, run-every}
 use Rattle.record_checks.proofs.Seen.{numbers-every, section-every, by-slot}
 use Rattle.checks.specs.Checked.{bit_of, flags_at, flags_of, slots_fit, fetched_fit}
 use Rattle.checks.proofs.Bottom.{store-next, stored_at, depth-agree, constant-agree, depths-long, constants-long, depths-entry, constants-entry, depth-bound, type-lower, node-lower}
@@ -259,3 +259,30 @@ module _ (T : Tables) (ix jx : List ℕ) (lower : children_lower T ≡ true) (lo
 
 pub indexed-so : (f ix jx vs : List ℕ) (b : ℕ) → 4682 ≤ b → jx ≡ sets ix b vs → Indexed f ix → Indexed f jx
 indexed-so f ix jx vs b h e x = subst (Indexed f) (sym e) (indexed-sets f ix vs b h x)
+
+-- each number of a run is low where all are
+pub low-at : (g : ℕ → ℕ) (w n q t : ℕ) → all (λ c. ltb c t) (run g w n q) ≡ true → (k : ℕ) → k < n → g (q + w * k) < t
+low-at g w n q t e k h =
+    ltb-true (g (q + w * k)) t
+    (ap (λ (j : ℕ). ltb (g (q + w * j)) t) (sym (zero-add k))
+    ∙ every-at (λ j. ltb (g (q + w * j)) t) n 0 k (sym (run-every (λ c. ltb c t) g w n q) ∙ e) h)
+
+-- slots of none of the variants that a check looks at
+module _ (T : Tables) (f : List ℕ) where
+  pub constant-slots : (v : SlotView) → ((n : ℕ) → v ≡ Sv.Const n → ⊥) → true ≡ slot_constant T (slot_viewed f v)
+  unfolding slot_constant
+  constant-slots (Sv.Row a p) h = refl
+  constant-slots (Sv.Key a t) h = refl
+  constant-slots (Sv.Derived a) h = refl
+  constant-slots (Sv.Field a at t) h = refl
+  constant-slots (Sv.Value a t) h = refl
+  constant-slots (Sv.Const n) h = absurd (h n refl)
+
+  pub fit-slots : (v : SlotView) → ((a : Address) (at t : ℕ) → v ≡ Sv.Field a at t → ⊥) → true ≡ slot_fits T (slot_viewed f v)
+  unfolding slot_fits
+  fit-slots (Sv.Row a p) h = refl
+  fit-slots (Sv.Key a t) h = refl
+  fit-slots (Sv.Derived a) h = refl
+  fit-slots (Sv.Field a at t) h = absurd (h a at t refl)
+  fit-slots (Sv.Value a t) h = refl
+  fit-slots (Sv.Const n) h = refl

@@ -1,6 +1,6 @@
 -- What the views of a type and of a node give to depths, constancy and marks.
 use Prim.Native.Nat.{ℕ, ◌+◌, ◌<◌}
-use mathlib.Core.Path.{◌≡◌, sym, ap, ◌∙◌}
+use mathlib.Core.Path.{◌≡◌, refl, sym, ap, ◌∙◌}
 use mathlib.Core.Bool.{Bool, true, false}
 use mathlib.Core.List.{List, [], ◌∷◌}
 use lib.Dec.{ltb}
@@ -9,7 +9,7 @@ use borrow.Author.Tests.{ltb-true}
 use Rattle.rules.specs.Base.{all}
 use Rattle.rules.specs.File.{Ty, Node, child_types, child_nodes, deepest, depth_of, constant_of}
 use Rattle.file.specs.Steps.{word}
-use Rattle.views.specs.Views.{run, pattern_at, SeenType, SeenNode}
+use Rattle.views.specs.Views.{run, pattern_at, node_of, SeenType, SeenNode}
 use Rattle.views.specs.declared.TypeView.{TypeView}
 use Rattle.views.specs.declared.TypeView.TheVariants as Tv
 use Rattle.views.specs.declared.NodeView.{NodeView}
@@ -47,3 +47,25 @@ unfolding all
 single-low c t cs e h =
     let g : all (λ k. ltb k t) (c ∷ []) ≡ true = ap (all (λ k. ltb k t)) e ∙ h in
     ltb-true c t (both-inv (ltb c t) true (sym (if-both (ltb c t) true) ∙ g)).0
+
+-- a node of none of the variants that are constant
+pub constant-rest : (f : List ℕ) (bs : List Bool) (v : NodeView) → ((at : ℕ) → v ≡ Nv.Int at → ⊥) → ((x : ℕ) → v ≡ Nv.Str x → ⊥)
+    → ((n at : ℕ) → v ≡ Nv.Bytes n at → ⊥) → ((n at : ℕ) → v ≡ Nv.Record n at → ⊥) → false ≡ constant_of bs (node_of f v)
+unfolding constant_of
+constant-rest f bs (Nv.Int at) i s b r = absurd (i at refl)
+constant-rest f bs (Nv.Str x) i s b r = absurd (s x refl)
+constant-rest f bs (Nv.Bytes n at) i s b r = absurd (b n at refl)
+constant-rest f bs (Nv.Var x) i s b r = refl
+constant-rest f bs Nv.Wildcard i s b r = refl
+constant-rest f bs Nv.Never i s b r = refl
+constant-rest f bs (Nv.Prefix x) i s b r = refl
+constant-rest f bs (Nv.Fuzzy x d a) i s b r = refl
+constant-rest f bs (Nv.Record n at) i s b r = absurd (r n at refl)
+constant-rest f bs (Nv.Access x n) i s b r = refl
+constant-rest f bs (Nv.Value n) i s b r = refl
+constant-rest f bs (Nv.Select x n) i s b r = refl
+constant-rest f bs Nv.Disjunction i s b r = refl
+constant-rest f bs Nv.Subquery i s b r = refl
+constant-rest f bs (Nv.Fact p n) i s b r = refl
+constant-rest f bs Nv.Arith i s b r = refl
+constant-rest f bs Nv.Error i s b r = refl

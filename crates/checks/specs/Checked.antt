@@ -1,6 +1,5 @@
 -- The checks 11 to 14 in the steps that the code takes, the filled index, and the verdict on a file.
-use Rattle.std.specs.Prelude.{ℕ, ◌+◌, ◌<◌, ◌≡◌, Bool, true, false, List, [], ◌∷◌, map, length, get_or, set, drop, replicate, eqb, leb}
-use Rattle.std.proofs.Math.Option.{Option, none, some}
+use Rattle.std.specs.Prelude.{ℕ, ◌+◌, ◌<◌, ◌≡◌, Bool, true, false, List, [], ◌∷◌, map, length, get_or, set, drop, replicate, eqb, leb, Result, Ok, Err, Option, None, Some}
 use Rattle.std.proofs.lemmas.List.Edits.{sets}
 use Rattle.rules.specs.Base.{both, all}
 use Rattle.rules.specs.Limits.{step_limit}
@@ -10,8 +9,6 @@ use Rattle.rules.specs.Read.{Read}
 use Rattle.rules.specs.Read as Read
 use Rattle.file.specs.Steps.{depths_base, constants_base, last_bindings_base, index_of}
 use Rattle.file.specs.Tables.{Indexed, tables_of, last_binding}
-use Rattle.checks.specs.declared.Verdict.{Verdict}
-use Rattle.checks.specs.declared.Verdict.TheVariants as V'
 
 -- how the index says that a node is constant
 abbrev pub bit_of : Bool → ℕ
@@ -83,14 +80,14 @@ later_checks =
     []
 
 -- the code's verdict for the rules' fault
-abbrev pub verdict_of : Option ℕ → Verdict
-verdict_of none = V'.Accepted
-verdict_of (some n) = V'.Refused n
+abbrev pub verdict_of : Option ℕ → Result (Unit {0}) ℕ
+verdict_of None = Ok tt
+verdict_of (Some n) = Err n
 
-unfoldable pub later_fault : Tables → Verdict
+unfoldable pub later_fault : Tables → Result (Unit {0}) ℕ
 later_fault T = verdict_of (fault later_checks T)
 
-unfoldable pub all_fault : Tables → Verdict
+unfoldable pub all_fault : Tables → Result (Unit {0}) ℕ
 all_fault T = verdict_of (fault checks T)
 
 -- the index with its last three areas filled, and after the checks
@@ -101,11 +98,11 @@ unfoldable pub checked_index : Tables → List ℕ → List ℕ
 checked_index T ix = elim (both (numbers_in T) (children_lower T)) [ true ↦ filled_index T ix | false ↦ ix ]
 
 -- the verdict on a file, reading and checking it, and the index afterwards
-unfoldable pub read_verdict : Read Tables → Verdict
+unfoldable pub read_verdict : Read Tables → Result (Unit {0}) ℕ
 read_verdict (Read.got T rest) = all_fault T
-read_verdict (Read.refused n) = V'.Refused n
+read_verdict (Read.refused n) = Err n
 
-unfoldable pub file_verdict : List ℕ → Verdict
+unfoldable pub file_verdict : List ℕ → Result (Unit {0}) ℕ
 file_verdict f = read_verdict (Read.file f)
 
 unfoldable pub read_index : Read Tables → List ℕ → List ℕ

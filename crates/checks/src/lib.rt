@@ -2,12 +2,13 @@
 // bottom up, and kept in the index, with the number of each name's last binding.
 #![tactic(auto)]
 
-ghost use Rattle.std.specs.Prelude.{◌≡◌, true, false, ◌∷◌, [], ◌+◌, ◌≤◌, ◌<◌, max, length, get_or, drop, replicate, ltb};
+ghost use Rattle.std.specs.Prelude.{◌≡◌, true, false, ◌∷◌, [], ◌+◌, ◌≤◌, ◌<◌, max, length, get_or, drop, replicate, ltb, OnOk};
 ghost use Rattle.std.proofs.lemmas.List.Edits.{sets};
 ghost use Rattle.rules.specs.Base.{all, concat_map};
 ghost use Rattle.rules.specs.Limits.{file_limit, name_limit, type_limit, node_limit};
 ghost use Rattle.rules.specs.File.{type_at, node_at, child_nodes, deepest, depth_of, depths, depth, constant_of, is_constant};
 ghost use Rattle.rules.specs.Checks.{numbers_in, children_lower, types_shallow, children_once, slot_constant, consts_constant, slot_fits, paths_fit};
+ghost use Rattle.file.specs.Refusals.{numbered};
 ghost use Rattle.file.specs.Steps.{word_limit, word, depths_base, constants_base, last_bindings_base, index_length};
 ghost use Rattle.file.specs.Tables.{Indexed, tables_of};
 ghost use Rattle.views.specs.Views.{run, binding_at};
@@ -16,18 +17,11 @@ ghost use Rattle.checks.specs.Checked.{bit_of, flags_at, flags_of, once, marked,
 
 use file::{
     BINDINGS, CONSTANTS, DEPTH_LIMIT, DEPTHS, FETCHED, LAST_BINDINGS, NAMES, NODE_LIMIT, NODES,
-    Step, TYPES, base, read, wide, wide16, word_at,
+    Refusal, TYPES, base, read, wide, wide16, word_at,
 };
 use paths::FieldPath;
 use record_checks::{children_lower, numbers_in, types_distinct};
 use views::{NodeView, SlotView, TypeView, binding_at, count_of, fetched_at, node_at, type_at};
-
-// Whether a file is accepted, or the number of its refusal.
-#[derive(Clone, Copy)]
-pub enum Verdict {
-    Accepted,
-    Refused(u8),
-}
 
 // The greatest of the depths of n child types, whose numbers stand from p on, w bytes apart.
 fn deepest_of(file: &[u8], index: &[u16], t: usize, w: usize, n: usize, p: usize) -> usize
@@ -38,23 +32,12 @@ fn deepest_of(file: &[u8], index: &[u16], t: usize, w: usize, n: usize, p: usize
         result ≡ deepest below (run (word file.now) w n p) }
     ensures bounded { result < word_limit }
 {
-    let mut left = n;
-    let mut q = p;
-    let mut most = 0;
-    while left > 0 {
-        let d = wide16(index[DEPTHS + word_at(file, q)]);
-        most = larger(most, d);
-        q += w;
-        left -= 1;
+    let mut most: usize = 0;
+    for k in 0..n {
+        let d = wide16(index[DEPTHS + word_at(file, p + w * k)]);
+        most = most.max(d);
     }
     most
-}
-
-// The larger of two depths.
-fn larger(a: usize, b: usize) -> usize
-    ensures { result ≡ max a b }
-{
-    if a < b { b } else { a }
 }
 
 // The depth of type t, from the depths of the types below it.
@@ -66,12 +49,9 @@ fn type_depth(file: &[u8], index: &[u16], t: usize) -> usize
         result ≡ depth_of below (type_at (tables_of file.now) t) }
 {
     match type_at(file, index, t) {
-        TypeView::Int => 1,
-        TypeView::Str => 1,
-        TypeView::Bytes => 1,
-        TypeView::Fact(_) => 1,
         TypeView::Record(n, at) => 1 + deepest_of(file, index, t, 4, n, at + 2),
         TypeView::Union(n, at) => 1 + deepest_of(file, index, t, 8, n, at + 6),
+        _ => 1,
     }
 }
 
@@ -83,11 +63,9 @@ fn fill_depths(file: &[u8], index: &mut [u16])
         index.new ≡ sets index.old depths_base (depths T) }
 {
     let n = count_of(file, &index[..], TYPES);
-    let mut t = 0;
-    while t < n {
+    for t in 0..n {
         let d = type_depth(file, &index[..], t);
         index[DEPTHS + t] = d as u16;
-        t += 1;
     }
 }
 
@@ -99,14 +77,10 @@ fn all_constant(file: &[u8], index: &[u16], m: usize, n: usize, p: usize) -> boo
     ensures { let flags = flags_at index.now in
         result ≡ all (λ c. get_or flags c false) (run (word file.now) 4 n p) }
 {
-    let mut left = n;
-    let mut q = p;
-    while left > 0 {
-        if index[CONSTANTS + word_at(file, q)] != 1 {
+    for k in 0..n {
+        if index[CONSTANTS + word_at(file, p + 4 * k)] != 1 {
             return false;
         }
-        q += 4;
-        left -= 1;
     }
     true
 }
@@ -120,23 +94,9 @@ fn node_constant(file: &[u8], index: &[u16], n: usize) -> bool
         result ≡ constant_of flags (node_at (tables_of file.now) n) }
 {
     match node_at(file, index, n) {
-        NodeView::Int(_) => true,
-        NodeView::Str(_) => true,
-        NodeView::Bytes(_, _) => true,
-        NodeView::Var(_) => false,
-        NodeView::Wildcard => false,
-        NodeView::Never => false,
-        NodeView::Prefix(_) => false,
-        NodeView::Fuzzy(_, _, _) => false,
+        NodeView::Int(_) | NodeView::Str(_) | NodeView::Bytes(_, _) => true,
         NodeView::Record(m, at) => all_constant(file, index, n, m, at + 2),
-        NodeView::Access(_, _) => false,
-        NodeView::Value(_) => false,
-        NodeView::Select(_, _) => false,
-        NodeView::Disjunction => false,
-        NodeView::Subquery => false,
-        NodeView::Fact(_, _) => false,
-        NodeView::Arith => false,
-        NodeView::Error => false,
+        _ => false,
     }
 }
 
@@ -144,7 +104,7 @@ fn node_constant(file: &[u8], index: &[u16], n: usize) -> bool
 fn bit(b: bool) -> u16
     ensures { result ≡ bit_of b }
 {
-    if b { 1 } else { 0 }
+    u16::from(b)
 }
 
 // The constancy of all nodes, into its area.
@@ -155,11 +115,9 @@ fn fill_constants(file: &[u8], index: &mut [u16])
         index.new ≡ sets index.old constants_base (flags_of T) }
 {
     let m = count_of(file, &index[..], NODES);
-    let mut n = 0;
-    while n < m {
+    for n in 0..m {
         let b = bit(node_constant(file, &index[..], n));
         index[CONSTANTS + n] = b;
-        n += 1;
     }
 }
 
@@ -177,10 +135,8 @@ fn clear_last_bindings(index: &mut [u16], n: usize)
     requires { (index_length ≤ length index.old) × (n ≤ name_limit) }
     ensures { index.new ≡ sets index.old last_bindings_base (replicate n 0) }
 {
-    let mut x = 0;
-    while x < n {
+    for x in 0..n {
         index[LAST_BINDINGS + x] = 0;
-        x += 1;
     }
 }
 
@@ -193,11 +149,9 @@ fn fill_last_bindings(file: &[u8], index: &mut [u16])
     let names = count_of(file, &index[..], NAMES);
     let n = count_of(file, &index[..], BINDINGS);
     clear_last_bindings(index, names);
-    let mut k = 0;
-    while k < n {
+    for k in 0..n {
         let x = binding_name(file, &index[..], k);
         index[LAST_BINDINGS + x] = (k + 1) as u16;
-        k += 1;
     }
 }
 
@@ -224,15 +178,7 @@ fn types_shallow(file: &[u8], index: &[u16]) -> bool
     requires { Filled file.now index.now }
     ensures { result ≡ types_shallow (tables_of file.now) }
 {
-    let n = count_of(file, index, TYPES);
-    let mut t = 0;
-    while t < n {
-        if depth_of(file, index, t) > DEPTH_LIMIT {
-            return false;
-        }
-        t += 1;
-    }
-    true
+    (0..count_of(file, index, TYPES)).all(|t| depth_of(file, index, t) <= DEPTH_LIMIT)
 }
 
 // 13: whether binding b, if it is a Const, is of a constant node.
@@ -245,12 +191,8 @@ fn binding_constant(file: &[u8], index: &[u16], b: usize) -> bool
     let v = binding_at(file, index, b);
     let slot = v.slot;
     match slot {
-        SlotView::Row(_, _) => true,
-        SlotView::Key(_, _) => true,
-        SlotView::Derived(_) => true,
-        SlotView::Field(_, _, _) => true,
-        SlotView::Value(_, _) => true,
         SlotView::Const(n) => is_constant(file, index, n),
+        _ => true,
     }
 }
 
@@ -259,15 +201,7 @@ fn consts_constant(file: &[u8], index: &[u16]) -> bool
     requires { Numbered file.now index.now }
     ensures { result ≡ consts_constant (tables_of file.now) }
 {
-    let n = count_of(file, index, BINDINGS);
-    let mut b = 0;
-    while b < n {
-        if !binding_constant(file, index, b) {
-            return false;
-        }
-        b += 1;
-    }
-    true
+    (0..count_of(file, index, BINDINGS)).all(|b| binding_constant(file, index, b))
 }
 
 // 14: whether binding b, if it is a Field, has steps + depth of its type within the limit.
@@ -280,12 +214,8 @@ fn binding_fits(file: &[u8], index: &[u16], b: usize) -> bool
     let v = binding_at(file, index, b);
     let slot = v.slot;
     match slot {
-        SlotView::Row(_, _) => true,
-        SlotView::Key(_, _) => true,
-        SlotView::Derived(_) => true,
         SlotView::Field(_, at, t) => wide(file[at + 2]) + depth_of(file, index, t) <= DEPTH_LIMIT,
-        SlotView::Value(_, _) => true,
-        SlotView::Const(_) => true,
+        _ => true,
     }
 }
 
@@ -294,15 +224,7 @@ fn slots_fit(file: &[u8], index: &[u16]) -> bool
     requires { Numbered file.now index.now }
     ensures { result ≡ slots_fit (tables_of file.now) }
 {
-    let n = count_of(file, index, BINDINGS);
-    let mut b = 0;
-    while b < n {
-        if !binding_fits(file, index, b) {
-            return false;
-        }
-        b += 1;
-    }
-    true
+    (0..count_of(file, index, BINDINGS)).all(|b| binding_fits(file, index, b))
 }
 
 // 14: whether every fetched path has no more steps than a path holds.
@@ -311,14 +233,12 @@ fn fetched_fit(file: &[u8], index: &[u16]) -> bool
     ensures { result ≡ fetched_fit (tables_of file.now) }
 {
     let n = count_of(file, index, FETCHED);
-    let mut k = 0;
-    while k < n {
+    for k in 0..n {
         let v = fetched_at(file, index, k);
         let at = v.path;
         if wide(file[at + 2]) > FieldPath::STEP_LIMIT {
             return false;
         }
-        k += 1;
     }
     true
 }
@@ -328,10 +248,7 @@ fn paths_fit(file: &[u8], index: &[u16]) -> bool
     requires { Numbered file.now index.now }
     ensures { result ≡ paths_fit (tables_of file.now) }
 {
-    if !slots_fit(file, index) {
-        return false;
-    }
-    fetched_fit(file, index)
+    slots_fit(file, index) && fetched_fit(file, index)
 }
 
 // 12: marks child c; false if it is marked already.
@@ -354,15 +271,11 @@ fn mark_run(file: &[u8], marks: &mut [u8], n: usize, p: usize) -> bool
     ensures gives { result ≡ once marks.old (run (word file.now) 4 n p) }
     ensures leaves { marks.new ≡ marked marks.old (run (word file.now) 4 n p) }
 {
-    let mut left = n;
-    let mut q = p;
-    while left > 0 {
-        let c = word_at(file, q);
+    for k in 0..n {
+        let c = word_at(file, p + 4 * k);
         if !mark(marks, c) {
             return false;
         }
-        q += 4;
-        left -= 1;
     }
     true
 }
@@ -378,23 +291,11 @@ fn mark_children(file: &[u8], index: &[u16], marks: &mut [u8], n: usize) -> bool
         marks.new ≡ marked marks.old (child_nodes (node_at T n)) }
 {
     match node_at(file, index, n) {
-        NodeView::Int(_) => true,
-        NodeView::Str(_) => true,
-        NodeView::Bytes(_, _) => true,
-        NodeView::Var(_) => true,
-        NodeView::Wildcard => true,
-        NodeView::Never => true,
-        NodeView::Prefix(_) => true,
-        NodeView::Fuzzy(_, _, _) => true,
         NodeView::Record(m, at) => mark_run(file, marks, m, at + 2),
-        NodeView::Access(_, c) => mark(marks, c),
+        NodeView::Access(_, c) | NodeView::Select(_, c) => mark(marks, c),
         NodeView::Value(c) => mark(marks, c),
-        NodeView::Select(_, c) => mark(marks, c),
-        NodeView::Disjunction => true,
-        NodeView::Subquery => true,
         NodeView::Fact(_, c) => mark(marks, c),
-        NodeView::Arith => true,
-        NodeView::Error => true,
+        _ => true,
     }
 }
 
@@ -409,12 +310,10 @@ fn mark_nodes(file: &[u8], index: &[u16], marks: &mut [u8]) -> bool
         marks.new ≡ marked marks.old (concat_map child_nodes T.nodes) }
 {
     let m = count_of(file, index, NODES);
-    let mut n = 0;
-    while n < m {
+    for n in 0..m {
         if !mark_children(file, index, marks, n) {
             return false;
         }
-        n += 1;
     }
     true
 }
@@ -430,40 +329,40 @@ fn children_once(file: &[u8], index: &[u16]) -> bool
 }
 
 // The checks from 10 on, which need the filled index.
-fn later_checks(file: &[u8], index: &[u16]) -> Verdict
+fn later_checks(file: &[u8], index: &[u16]) -> Result<(), Refusal>
     requires { Numbered file.now index.now }
-    ensures { result ≡ later_fault (tables_of file.now) }
+    ensures { numbered result ≡ later_fault (tables_of file.now) }
 {
     if !types_distinct(file, index) {
-        return Verdict::Refused(10);
+        return Err(Refusal::Repeat);
     }
     if !types_shallow(file, index) {
-        return Verdict::Refused(11);
+        return Err(Refusal::Depth);
     }
     if !children_once(file, index) {
-        return Verdict::Refused(12);
+        return Err(Refusal::Shared);
     }
     if !consts_constant(file, index) {
-        return Verdict::Refused(13);
+        return Err(Refusal::NotConstant);
     }
     if !paths_fit(file, index) {
-        return Verdict::Refused(14);
+        return Err(Refusal::Path);
     }
-    Verdict::Accepted
+    Ok(())
 }
 
 // All checks over a file that was read: 8 over the whole file, then 9, and so on.
-pub fn check(file: &[u8], index: &mut [u16]) -> Verdict
+pub fn check(file: &[u8], index: &mut [u16]) -> Result<(), Refusal>
     requires { Indexed file.now index.old }
-    ensures gives { result ≡ all_fault (tables_of file.now) }
+    ensures gives { numbered result ≡ all_fault (tables_of file.now) }
     ensures leaves { index.new ≡ checked_index (tables_of file.now) index.old }
-    ensures finds { result ≡ Verdict.Accepted → Checked file.now index.new }
+    ensures finds { OnOk result (Checked file.now index.new) }
 {
     if !numbers_in(file, &index[..]) {
-        return Verdict::Refused(8);
+        return Err(Refusal::Number);
     }
     if !children_lower(file, &index[..]) {
-        return Verdict::Refused(9);
+        return Err(Refusal::Child);
     }
     fill_depths(file, index);
     fill_constants(file, index);
@@ -472,14 +371,12 @@ pub fn check(file: &[u8], index: &mut [u16]) -> Verdict
 }
 
 // Reads and checks a file. On acceptance the index finds every record, and holds depths, constancy and last bindings.
-pub fn verify(file: &[u8], index: &mut [u16]) -> Verdict
+pub fn verify(file: &[u8], index: &mut [u16]) -> Result<(), Refusal>
     requires { (length file.now ≤ file_limit) × (index_length ≤ length index.old) }
-    ensures gives { result ≡ file_verdict file.now }
+    ensures gives { numbered result ≡ file_verdict file.now }
     ensures leaves { index.new ≡ file_index file.now index.old }
-    ensures finds { result ≡ Verdict.Accepted → Checked file.now index.new }
+    ensures finds { OnOk result (Checked file.now index.new) }
 {
-    match read(file, index) {
-        Step::Next(_) => check(file, index),
-        Step::Refused(x) => Verdict::Refused(x),
-    }
+    read(file, index)?;
+    check(file, index)
 }

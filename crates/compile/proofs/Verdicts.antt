@@ -1,7 +1,6 @@
 -- From the lent memory and the verdict on a file to the written rules' outcome.
 use mathlib.Core.Bool.{Bool, true, false}
 use mathlib.Core.List.{List, []}
-use mathlib.Core.Option.{Option, none, some}
 use mathlib.Core.Path.{◌≡◌, refl, sym, ap, ◌∙◌}
 use Prim.Native.Nat.{ℕ, ◌+◌, ◌≤◌, ◌<◌, min}
 use native.Mathlib.Omega.{arith}
@@ -30,77 +29,89 @@ use Rattle.file.specs.Steps.{index_length}
 use Rattle.file.specs.Tables.{tables_of}
 use Rattle.accepted_file.specs.AcceptedFile.{AcceptedFile, flag}
 use Rattle.checks.specs.Checked.{bit_of, Checked, verdict_of, all_fault, read_verdict, file_verdict}
-use Rattle.checks.specs.declared.Verdict.{Verdict}
-use Rattle.checks.specs.declared.Verdict.TheVariants as Ve
-use Rattle.endings.specs.Endings.{ending_outcome}
-use Rattle.compile.specs.Memories.{call_verdict, accepted_outcome, Memory, memory, memory_by}
+use Rattle.std.specs.Prelude.{Result, Ok, Err, Option, None, Some}
+use Rattle.std.specs.Result.{IsErrAnd}
+use Rattle.file.specs.Refusals.{number}
+use Rattle.file.specs.declared.Refusal.{Refusal}
+use Rattle.file.specs.declared.Refusal.TheVariants as Refusals
+use Rattle.endings.specs.Endings.{ending_outcome, Within}
+use Rattle.compile.specs.Memories.{call_verdict, accepted_outcome, Memory, memory, accepted_memory, memory_by}
 use Rattle.fates.proofs.Right.{short-recalls}
 use Rattle.levels.specs.Written.{unleveled, between_levels, written_of}
-use Rattle.endings.specs.declared.Ending.TheVariants.{Planned, Refused}
 use Rattle.levels.specs.declared.Written.{Written}
 
 -- 1 and 2
 module _ (f : List ℕ) (area : ℕ) where
-  pub long-file : file_limit < length f → call_verdict f area ≡ Ve.Refused 1
+  pub long-file : file_limit < length f → call_verdict f area ≡ Err 1
   unfolding call_verdict
   long-file h = pick (leb (length f) file_limit) false _ _ (lt-leb (length f) file_limit h)
 
-  short-file : length f ≤ file_limit → call_verdict f area ≡ elim (leb work_limit area) [ true ↦ file_verdict f | false ↦ Ve.Refused 2 ]
+  short-file : length f ≤ file_limit → call_verdict f area ≡ elim (leb work_limit area) [ true ↦ file_verdict f | false ↦ Err 2 ]
   unfolding call_verdict
   short-file h = pick (leb (length f) file_limit) true _ _ (le-leb (length f) file_limit h)
 
-  pub small-area : length f ≤ file_limit → area < work_limit → call_verdict f area ≡ Ve.Refused 2
+  pub small-area : length f ≤ file_limit → area < work_limit → call_verdict f area ≡ Err 2
   small-area h l = short-file h ∙ pick (leb work_limit area) false _ _ (lt-leb work_limit area l)
 
   pub file-decides : length f ≤ file_limit → work_limit ≤ area → call_verdict f area ≡ file_verdict f
   file-decides h l = short-file h ∙ pick (leb work_limit area) true _ _ (le-leb work_limit area l)
 
 -- 3 to 14
-refused-number : (m n : ℕ) → Ve.Refused m ≡ Ve.Refused n → m ≡ n
+refused-number : (m n : ℕ) → ◌≡◌ {A = Result (Unit {0}) ℕ} (Err m) (Err n) → m ≡ n
 refused-number m n e = cc
 
-accepted≢refused : (n : ℕ) → Ve.Accepted ≡ Ve.Refused n → ⊥
+accepted≢refused : (n : ℕ) → ◌≡◌ {A = Result (Unit {0}) ℕ} (Ok tt) (Err n) → ⊥
 accepted≢refused n e = let z : ◌≡◌ {A = ℕ} 0 1 = cc in omega arith
 
-fault-refused : (room : ℕ) (T : Tables) (o : Option ℕ) (n : ℕ) → verdict_of o ≡ Ve.Refused n → CompileRules.checked room T o ≡ Outcome.refused n
+fault-refused : (room : ℕ) (T : Tables) (o : Option ℕ) (n : ℕ) → verdict_of o ≡ Err n → CompileRules.checked room T o ≡ Outcome.refused n
 unfolding CompileRules.checked
-fault-refused room T none n e = absurd (accepted≢refused n e)
-fault-refused room T (some m) n e = ap Outcome.refused (refused-number m n e)
+fault-refused room T None n e = absurd (accepted≢refused n e)
+fault-refused room T (Some m) n e = ap Outcome.refused (refused-number m n e)
 
-read-refused : (room : ℕ) (r : Read.Read Tables) (n : ℕ) → read_verdict r ≡ Ve.Refused n → CompileRules.reading room r ≡ Outcome.refused n
+read-refused : (room : ℕ) (r : Read.Read Tables) (n : ℕ) → read_verdict r ≡ Err n → CompileRules.reading room r ≡ Outcome.refused n
 unfolding CompileRules.reading read_verdict all_fault
 read-refused room (Read.got T rest) n e = fault-refused room T (fault checks T) n e
 read-refused room (Read.refused m) n e = ap Outcome.refused (refused-number m n e)
 
-pub refused-outcome : (f p : List ℕ) (room area n : ℕ) → call_verdict f area ≡ Ve.Refused n → ending_outcome (Refused n) p ≡ outcome f room area
-unfolding call_verdict file_verdict ending_outcome outcome
-refused-outcome f p room area n =
-    by-test₂ (λ (v : Verdict) (o : Outcome). v ≡ Ve.Refused n → Outcome.refused n ≡ o) (leb (length f) file_limit)
-    (λ q. by-test₂ (λ (v : Verdict) (o : Outcome). v ≡ Ve.Refused n → Outcome.refused n ≡ o) (leb work_limit area)
+refused-by : (f : List ℕ) (room area n : ℕ) → call_verdict f area ≡ Err n → Outcome.refused n ≡ outcome f room area
+unfolding call_verdict file_verdict outcome
+refused-by f room area n =
+    by-test₂ (λ (v : Result (Unit {0}) ℕ) (o : Outcome). v ≡ Err n → Outcome.refused n ≡ o) (leb (length f) file_limit)
+    (λ q. by-test₂ (λ (v : Result (Unit {0}) ℕ) (o : Outcome). v ≡ Err n → Outcome.refused n ≡ o) (leb work_limit area)
     (λ p e. sym (read-refused room (Read.file f) n e))
     (λ p e. ap Outcome.refused (refused-number n 2 (sym e))))
     (λ q e. ap Outcome.refused (refused-number n 1 (sym e)))
+
+pub refused-outcome : (f p : List ℕ) (room area : ℕ) (x : Refusal) → call_verdict f area ≡ Err (number x) → ending_outcome (Err x) p ≡ outcome f room area
+unfolding ending_outcome
+refused-outcome f p room area x e = refused-by f room area (number x) e
+
+-- what the exit of a `?` returns
+pub passed-on : (f p : List ℕ) (room area : ℕ) (r : Result ℕ Refusal) (x : Refusal) → IsErrAnd r (λ y. y ≡ x) → call_verdict f area ≡ Err (number x)
+    → (ending_outcome r p ≡ outcome f room area) × Within r p
+passed-on f p room area (Ok n) x h e = absurd h
+passed-on f p room area (Err y) x h e = (refused-outcome f p room area y (e ∙ ap (λ (z : Refusal). Err (number z)) (sym h)), tt)
 
 -- the index of the call's own frame keeps its length
 pub own-length : (ix zx : List ℕ) → length ix ≡ length zx → zx ≡ replicate index_length 0 → length ix ≡ index_length
 own-length ix zx l e = l ∙ ap length e ∙ length-replicate {A = ℕ} index_length 0
 
 -- an accepted file is ready
-no-fault : (o : Option ℕ) → verdict_of o ≡ Ve.Accepted → o ≡ none
-no-fault none e = refl
-no-fault (some n) e = absurd (accepted≢refused n (sym e))
+no-fault : (o : Option ℕ) → verdict_of o ≡ Ok tt → o ≡ None
+no-fault None e = refl
+no-fault (Some n) e = absurd (accepted≢refused n (sym e))
 
 bit-flag : (b : Bool) → bit_of b ≡ flag b
 bit-flag true = refl
 bit-flag false = refl
 
-pub ready : (f ix : List ℕ) (v : Verdict) → length ix ≡ index_length → v ≡ file_verdict f → v ≡ Ve.Accepted → Checked f ix → AcceptedFile f ix
+pub ready : (f ix : List ℕ) → length ix ≡ index_length → Ok tt ≡ file_verdict f → Checked f ix → AcceptedFile f ix
 unfolding file_verdict read_verdict all_fault
-ready f ix v short e q k =
+ready f ix short e k =
     let filled = k.numbered.filled in
     record {
       indexed = filled.indexed;
-      accepted = no-fault (fault checks (tables_of f)) (sym (ap read_verdict filled.indexed.accepted) ∙ sym e ∙ q);
+      accepted = no-fault (fault checks (tables_of f)) (sym (ap read_verdict filled.indexed.accepted) ∙ sym e);
       depths = filled.depth-at;
       constants = λ n h. filled.constant-at n h ∙ bit-flag (is_constant (tables_of f) n);
       last-bindings = filled.last-at;
@@ -119,12 +130,12 @@ accepted-outcome f ix b k work plan short large =
 
 -- 19
 module _ (T : Tables) (work plan : List ℕ) (m : levels_meet T T.levels ≡ true) where
-  pub met-outcome : (p : List ℕ) → ending_outcome (Refused 19) p ≡ accepted_outcome T work plan
+  pub met-outcome : (p : List ℕ) → ending_outcome (Err Refusals.Literal) p ≡ accepted_outcome T work plan
   unfolding ending_outcome accepted_outcome
   met-outcome p = sym (pick (levels_meet T T.levels) true (Outcome.refused 19) _ m)
 
-  pub met-memory : memory work plan ≡ memory_by Ve.Accepted T work plan
-  unfolding memory_by
+  pub met-memory : memory work plan ≡ accepted_memory T work plan
+  unfolding accepted_memory
   met-memory = sym (pick (levels_meet T T.levels) true (memory work plan) _ m)
 
 -- a plan that is not too long lies within its buffer
@@ -138,29 +149,33 @@ finished-within k =
     (λ t e. absurd (true≢false e)))
 
 -- what a verdict leaves
-pub left_by_lem : (u v : Verdict) (T : Tables) (work plan : List ℕ) (m : Memory) → m ≡ memory_by u T work plan → u ≡ v → m ≡ memory_by v T work plan
-left_by_lem u v T work plan m h e = h ∙ ap (λ (x : Verdict). memory_by x T work plan) e
+pub left_by_lem : (u v : Result (Unit {0}) ℕ) (T : Tables) (work plan : List ℕ) (m : Memory) → m ≡ memory_by u T work plan → u ≡ v → m ≡ memory_by v T work plan
+left_by_lem u v T work plan m h e = h ∙ ap (λ (x : Result (Unit {0}) ℕ). memory_by x T work plan) e
 
-pub refused-memory : (v : Verdict) (n : ℕ) (T : Tables) (work plan : List ℕ) → v ≡ Ve.Refused n → memory work plan ≡ memory_by v T work plan
+pub accepted-memory : (v : Result (Unit {0}) ℕ) (T : Tables) (work plan : List ℕ) (m : Memory) → m ≡ accepted_memory T work plan → Ok tt ≡ v → m ≡ memory_by v T work plan
 unfolding memory_by
-refused-memory v n T work plan e = left_by_lem (Ve.Refused n) v T work plan (memory work plan) refl (sym e)
+accepted-memory v T work plan m h e = left_by_lem (Ok tt) v T work plan m h e
+
+pub refused-memory : (v : Result (Unit {0}) ℕ) (n : ℕ) (T : Tables) (work plan : List ℕ) → v ≡ Err n → memory work plan ≡ memory_by v T work plan
+unfolding memory_by
+refused-memory v n T work plan e = left_by_lem (Err n) v T work plan (memory work plan) refl (sym e)
 
 module _ (T : Tables) (work plan work' plan' : List ℕ) (w : Written) (m : levels_meet T T.levels ≡ false) (e : written_of w work' plan' [] ≡ between_levels (compiled T work plan)) where
   same : StateLevels.written_outcome (written_of w work' plan' []) ≡ accepted_outcome T work plan
   unfolding between_levels unleveled StateLevels.written_outcome accepted_outcome
   same = ap StateLevels.written_outcome e ∙ sym (pick (levels_meet T T.levels) false (Outcome.refused 19) (StateLevels.written_outcome (compiled T work plan)) m)
 
-  pub kept_memory : memory work' plan' ≡ memory_by Ve.Accepted T work plan
-  unfolding written_of between_levels unleveled memory_by
+  pub kept_memory : memory work' plan' ≡ accepted_memory T work plan
+  unfolding written_of between_levels unleveled accepted_memory
   kept_memory =
       ap (λ (k : StateLevels.Written). memory k.state.work k.state.plan) e
       ∙ sym (pick (levels_meet T T.levels) false (memory work plan) (memory (compiled T work plan).state.work (compiled T work plan).state.plan) m)
 
-  pub too_long : w.lists.over ≡ true → ending_outcome (Refused 15) plan' ≡ accepted_outcome T work plan
+  pub too_long : w.lists.over ≡ true → ending_outcome (Err Refusals.PlanTooLong) plan' ≡ accepted_outcome T work plan
   unfolding ending_outcome StateLevels.written_outcome written_of
   too_long o = ap (λ (b : Bool). elim b [ true ↦ Outcome.refused 15 | false ↦ Outcome.planned (take w.at plan') ]) (sym o) ∙ same
 
-  pub short-enough : w.lists.over ≡ false → (ending_outcome (Planned w.at) plan' ≡ accepted_outcome T work plan) × (w.at ≤ length plan')
+  pub short-enough : w.lists.over ≡ false → (ending_outcome (Ok w.at) plan' ≡ accepted_outcome T work plan) × (w.at ≤ length plan')
   unfolding ending_outcome StateLevels.written_outcome written_of between_levels unleveled compiled unpaged
   short-enough o = (
     ap (λ (b : Bool). elim b [ true ↦ Outcome.refused 15 | false ↦ Outcome.planned (take w.at plan') ]) (sym o) ∙ same,

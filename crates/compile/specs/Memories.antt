@@ -1,21 +1,19 @@
 -- The verdict on a call, and what it leaves in the plan buffer and the work area before they are zeroed.
-use Rattle.std.specs.Prelude.{true, false, List, ℕ, leb, length}
+use Rattle.std.specs.Prelude.{true, false, List, ℕ, leb, length, Result, Ok, Err}
 use Rattle.rules.specs.Limits.{file_limit, work_limit}
 use Rattle.rules.specs.File.{Tables}
 use Rattle.rules.specs.Compile.{Outcome}
 use Rattle.rules.specs.Literals.{levels_meet}
 use Rattle.state.specs.Levels as StateLevels
 use Rattle.checks.specs.Checked.{file_verdict}
-use Rattle.checks.specs.declared.Verdict.{Verdict}
-use Rattle.checks.specs.declared.Verdict.TheVariants as Ve
 
 -- "Refusals, by place": the verdict on a call before it writes: lent memory first, then the file
-unfoldable pub call_verdict : List ℕ → ℕ → Verdict
+unfoldable pub call_verdict : List ℕ → ℕ → Result (Unit {0}) ℕ
 call_verdict file area =
     elim (leb (length file) file_limit) [
-      | false ↦ Ve.Refused 1
+      | false ↦ Err 1
       | true ↦ elim (leb work_limit area) [
-        | false ↦ Ve.Refused 2
+        | false ↦ Err 2
         | true ↦ file_verdict file
       ]
     ]
@@ -37,10 +35,13 @@ accepted_outcome T work plan =
     ]
 
 -- a file that was walked leaves what the compiler keeps, a refused one leaves both as they were
-unfoldable pub memory_by : Verdict → Tables → List ℕ → List ℕ → Memory
-memory_by Ve.Accepted T work plan =
+unfoldable pub accepted_memory : Tables → List ℕ → List ℕ → Memory
+accepted_memory T work plan =
     elim (levels_meet T T.levels) [
       | true ↦ memory work plan
       | false ↦ memory (StateLevels.compiled T work plan).state.work (StateLevels.compiled T work plan).state.plan
     ]
-memory_by (Ve.Refused n) T work plan = memory work plan
+
+unfoldable pub memory_by : Result (Unit {0}) ℕ → Tables → List ℕ → List ℕ → Memory
+memory_by (Ok u) T work plan = accepted_memory T work plan
+memory_by (Err n) T work plan = memory work plan

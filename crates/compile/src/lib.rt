@@ -10,13 +10,13 @@ ghost use Rattle.file.specs.Steps.{index_length};
 ghost use Rattle.file.specs.Tables.{tables_of};
 ghost use Rattle.accepted_file.specs.AcceptedFile.{AcceptedFile};
 ghost use Rattle.endings.specs.Endings.{ending_outcome, Within};
-ghost use Rattle.compile.specs.Memories.{call_verdict, accepted_outcome, memory, memory_by};
+ghost use Rattle.compile.specs.Memories.{call_verdict, accepted_outcome, memory, accepted_memory, memory_by};
 ghost use Rattle.checks.specs.Checked.{file_verdict};
 
-use checks::{Verdict, verify};
-use endings::Ending;
+use checks::verify;
+use endings::finish;
 use fates::{LONG_INDEX, any_record, remember};
-use file::INDEX;
+use file::{INDEX, Refusal};
 use levels::write;
 use literals::levels_meet;
 
@@ -25,29 +25,34 @@ const FILE_LIMIT: usize = 32768;
 const WORK_LIMIT: usize = 65536;
 
 // What an accepted file comes to: 19 is asked of all levels before any is walked.
-fn accepted(file: &[u8], index: &[u16], plan: &mut [u8], work: &mut [u8]) -> Ending
+fn accepted(file: &[u8], index: &[u16], plan: &mut [u8], work: &mut [u8]) -> Result<usize, Refusal>
     requires { AcceptedFile file.now index.now }
     ensures outcome { let T = tables_of file.now in
         ending_outcome result plan.new ≡ accepted_outcome T work.old plan.old }
     ensures within { Within result plan.new }
     ensures memory { let T = tables_of file.now in
         let after = memory work.new plan.new in
-        after ≡ memory_by Verdict.Accepted T work.old plan.old }
+        after ≡ accepted_memory T work.old plan.old }
 {
     if levels_meet(file, index) {
-        return Ending::Refused(19);
+        return Err(Refusal::Literal);
     }
     let w = write(file, index, work, plan);
     let lists = w.lists;
     if lists.over {
-        Ending::Refused(15)
+        Err(Refusal::PlanTooLong)
     } else {
-        Ending::Planned(w.at)
+        Ok(w.at)
     }
 }
 
 // The same, by an index that remembers what constants come to.
-fn remembered(file: &[u8], index: &[u16], plan: &mut [u8], work: &mut [u8]) -> Ending
+fn remembered(
+    file: &[u8],
+    index: &[u16],
+    plan: &mut [u8],
+    work: &mut [u8],
+) -> Result<usize, Refusal>
     requires accepted_file { AcceptedFile file.now index.now }
     requires index_len { length index.now ≡ index_length }
     ensures outcome { let T = tables_of file.now in
@@ -55,7 +60,7 @@ fn remembered(file: &[u8], index: &[u16], plan: &mut [u8], work: &mut [u8]) -> E
     ensures within { Within result plan.new }
     ensures memory { let T = tables_of file.now in
         let after = memory work.new plan.new in
-        after ≡ memory_by Verdict.Accepted T work.old plan.old }
+        after ≡ accepted_memory T work.old plan.old }
 {
     let mut long = [0u16; LONG_INDEX];
     remember(file, index, &mut long);
@@ -63,7 +68,7 @@ fn remembered(file: &[u8], index: &[u16], plan: &mut [u8], work: &mut [u8]) -> E
 }
 
 // Where a name stands for a Record it pays to remember what that comes to.
-fn walked(file: &[u8], index: &[u16], plan: &mut [u8], work: &mut [u8]) -> Ending
+fn walked(file: &[u8], index: &[u16], plan: &mut [u8], work: &mut [u8]) -> Result<usize, Refusal>
     requires accepted_file { AcceptedFile file.now index.now }
     requires index_len { length index.now ≡ index_length }
     ensures outcome { let T = tables_of file.now in
@@ -71,7 +76,7 @@ fn walked(file: &[u8], index: &[u16], plan: &mut [u8], work: &mut [u8]) -> Endin
     ensures within { Within result plan.new }
     ensures memory { let T = tables_of file.now in
         let after = memory work.new plan.new in
-        after ≡ memory_by Verdict.Accepted T work.old plan.old }
+        after ≡ accepted_memory T work.old plan.old }
 {
     if any_record(file, index) {
         remembered(file, index, plan, work)
@@ -81,7 +86,7 @@ fn walked(file: &[u8], index: &[u16], plan: &mut [u8], work: &mut [u8]) -> Endin
 }
 
 // Reading and the whole-file checks first.
-fn checked(file: &[u8], plan: &mut [u8], work: &mut [u8]) -> Ending
+fn checked(file: &[u8], plan: &mut [u8], work: &mut [u8]) -> Result<usize, Refusal>
     requires { (length file.now ≤ file_limit) × (work_limit ≤ length work.old) }
     ensures outcome { let room = length plan.old in
         let area = length work.old in
@@ -93,14 +98,12 @@ fn checked(file: &[u8], plan: &mut [u8], work: &mut [u8]) -> Ending
         after ≡ memory_by verdict T work.old plan.old }
 {
     let mut index = [0u16; INDEX];
-    match verify(file, &mut index) {
-        Verdict::Accepted => walked(file, &index, plan, work),
-        Verdict::Refused(n) => Ending::Refused(n),
-    }
+    verify(file, &mut index)?;
+    walked(file, &index, plan, work)
 }
 
 // Everything except zeroing: check buffer sizes, then compile.
-fn decide(file: &[u8], plan: &mut [u8], work: &mut [u8]) -> Ending
+fn decide(file: &[u8], plan: &mut [u8], work: &mut [u8]) -> Result<usize, Refusal>
     ensures outcome { let room = length plan.old in
         let area = length work.old in
         ending_outcome result plan.new ≡ CompileRules.outcome file.now room area }
@@ -111,10 +114,10 @@ fn decide(file: &[u8], plan: &mut [u8], work: &mut [u8]) -> Ending
         after ≡ memory_by verdict T work.old plan.old }
 {
     if file.len() > FILE_LIMIT {
-        return Ending::Refused(1);
+        return Err(Refusal::FileTooLong);
     }
     if work.len() < WORK_LIMIT {
-        return Ending::Refused(2);
+        return Err(Refusal::WorkTooShort);
     }
     checked(file, plan, work)
 }
@@ -135,5 +138,5 @@ pub fn sinalvento_compile(file: &[u8], plan: &mut [u8], work: &mut [u8]) -> u64
         Demand3 file.now (take result plan.new) }
 {
     let e = decide(file, plan, work);
-    e.finish(plan, work)
+    finish(e, plan, work)
 }

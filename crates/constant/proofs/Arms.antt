@@ -2,7 +2,7 @@
 use Prim.Native.Nat.{ℕ, ◌+◌, ◌≤◌, ◌<◌, min}
 use mathlib.Core.Path.{◌≡◌, refl, sym, ap, ◌∙◌, subst}
 use mathlib.Core.List.{List, [], ◌∷◌}
-use mathlib.Core.Option.{Option, none, some}
+use Rattle.std.specs.Prelude.{Option, None}
 use native.Mathlib.Omega.{arith}
 use lib.ListN.{length, length-append}
 use types.Run.{OneOf, miss}
@@ -26,13 +26,13 @@ use Rattle.accepted_file.specs.AcceptedFile.{AcceptedFile}
 use Rattle.accepted_file.proofs.Given.{passed, sound-tables, few-nodes}
 use Rattle.accepted_file.proofs.Ranges.{stands, patterns, fields, alternatives, node_in_lem}
 use Rattle.rules.proofs.Constants.{constant-is}
-use Rattle.constant.specs.Sizes.{cap, view_of, const_view, prefix_name, anchor_view, int_only, str_only, bytes_alone, Patterns, Fields, Alternatives}
+use Rattle.constant.specs.Sizes.{cap, view_some, view_of, const_view, prefix_name, anchor_view, int_only, str_only, bytes_alone, Patterns, Fields, Alternatives}
 use Rattle.constant.specs.declared.Const.{Const}
 use Rattle.constant.specs.declared.Const.TheVariants as Co
 
 -- a constant that fits one type alone, by position
 module _ (T : Tables) (n t : ℕ) (k : ConstantRules.Const) where
-  at-int : (ty : Ty) → int_only ty (view_of T n t (some k)) ≡ view_of T n t (at_int ty k)
+  at-int : (ty : Ty) → int_only ty (view_some T n t k) ≡ view_of T n t (at_int ty k)
   unfolding at_int
   at-int Ty.Int = refl
   at-int Ty.Str = refl
@@ -41,7 +41,7 @@ module _ (T : Tables) (n t : ℕ) (k : ConstantRules.Const) where
   at-int (Ty.Record fs) = refl
   at-int (Ty.Union alts) = refl
 
-  at-str : (ty : Ty) → str_only ty (view_of T n t (some k)) ≡ view_of T n t (at_str ty k)
+  at-str : (ty : Ty) → str_only ty (view_some T n t k) ≡ view_of T n t (at_str ty k)
   unfolding at_str
   at-str Ty.Int = refl
   at-str Ty.Str = refl
@@ -50,7 +50,7 @@ module _ (T : Tables) (n t : ℕ) (k : ConstantRules.Const) where
   at-str (Ty.Record fs) = refl
   at-str (Ty.Union alts) = refl
 
-  at-bytes : (ty : Ty) → bytes_alone ty (view_of T n t (some k)) ≡ view_of T n t (at_bytes ty k)
+  at-bytes : (ty : Ty) → bytes_alone ty (view_some T n t k) ≡ view_of T n t (at_bytes ty k)
   unfolding at_bytes
   at-bytes Ty.Int = refl
   at-bytes Ty.Str = refl
@@ -64,7 +64,7 @@ anchor-same An.Prefix = refl
 anchor-same An.Whole = refl
 
 -- a node that is no constant of its own
-no-constant : (T : Tables) (b : ℕ → ℕ → Option ConstantRules.Const) (f : List ℕ) (v : NodeView) (ty : Ty) → OneOf (3 ∷ 4 ∷ 5 ∷ 9 ∷ 10 ∷ 11 ∷ 12 ∷ 13 ∷ 14 ∷ 15 ∷ 16 ∷ []) (tag_of NodeViews.the_type v) → constant_node T b (node_of f v) ty ≡ none
+no-constant : (T : Tables) (b : ℕ → ℕ → Option ConstantRules.Const) (f : List ℕ) (v : NodeView) (ty : Ty) → OneOf (3 ∷ 4 ∷ 5 ∷ 9 ∷ 10 ∷ 11 ∷ 12 ∷ 13 ∷ 14 ∷ 15 ∷ 16 ∷ []) (tag_of NodeViews.the_type v) → constant_node T b (node_of f v) ty ≡ None
 unfolding constant_node
 no-constant T b f (Nv.Int at) ty w = absurd (miss (3 ∷ 4 ∷ 5 ∷ 9 ∷ 10 ∷ 11 ∷ 12 ∷ 13 ∷ 14 ∷ 15 ∷ 16 ∷ []) 0 tt w)
 no-constant T b f (Nv.Str x) ty w = absurd (miss (3 ∷ 4 ∷ 5 ∷ 9 ∷ 10 ∷ 11 ∷ 12 ∷ 13 ∷ 14 ∷ 15 ∷ 16 ∷ []) 1 tt w)
@@ -97,40 +97,40 @@ module _ (f : List ℕ) (T : Tables) (n t : ℕ) (v : NodeView) (k : ConstantSee
   unfolding const_view
   view-is w e = ap (view_of T n t) (k.is ∙ ap (λ (y : Node). constant_node T (ConstantRules.constant T) y (type_at T t)) (sym k.node ∙ ap (node_of f) e))
 
-  pub as_int : (p : ℕ) (r : Const) → v ≡ Nv.Int p → r ≡ int_only (type_at T t) (Co.Bytes n t 9) → r ≡ const_view T n t
+  pub as_int : (p : ℕ) (r : Option Const) → v ≡ Nv.Int p → r ≡ int_only (type_at T t) (Co.Bytes n t 9) → r ≡ const_view T n t
   unfolding constant_node encode_int flip_sign run
   as_int p r e q = q ∙ at-int T n t (ConstantRules.Const.Bytes (encode_int (run (byte_at f) 1 8 p))) (type_at T t) ∙ sym (view-is (Nv.Int p) e)
 
-  pub as-str : (x l m : ℕ) (r : Const) → v ≡ Nv.Str x → l ≡ length (encode_prefix (name_at T x)) → m ≡ min cap (1 + l) → r ≡ str_only (type_at T t) (Co.Bytes n t m) → r ≡ const_view T n t
+  pub as-str : (x l m : ℕ) (r : Option Const) → v ≡ Nv.Str x → l ≡ length (encode_prefix (name_at T x)) → m ≡ min cap (1 + l) → r ≡ str_only (type_at T t) (Co.Bytes n t m) → r ≡ const_view T n t
   unfolding constant_node encode_str
   as-str x l m r e el em q =
       let s : length (encode_str (name_at T x)) ≡ length (encode_prefix (name_at T x)) + 1 = length-append (encode_prefix (name_at T x)) (0 ∷ []) in
       let g : m ≡ min cap (length (encode_str (name_at T x))) = omega arith in
       q ∙ ap (λ (j : ℕ). str_only (type_at T t) (Co.Bytes n t j)) g ∙ at-str T n t (ConstantRules.Const.Bytes (encode_str (name_at T x))) (type_at T t) ∙ sym (view-is (Nv.Str x) e)
 
-  pub as_bytes_lem : (i p l m : ℕ) (r : Const) → v ≡ Nv.Bytes i p → l ≡ length (escape (run (byte_at f) 1 i p)) → m ≡ min cap (2 + l) → r ≡ bytes_alone (type_at T t) (Co.Bytes n t m) → r ≡ const_view T n t
+  pub as_bytes_lem : (i p l m : ℕ) (r : Option Const) → v ≡ Nv.Bytes i p → l ≡ length (escape (run (byte_at f) 1 i p)) → m ≡ min cap (2 + l) → r ≡ bytes_alone (type_at T t) (Co.Bytes n t m) → r ≡ const_view T n t
   unfolding constant_node encode_bytes
   as_bytes_lem i p l m r e el em q =
       let b : List ℕ = run (byte_at f) 1 i p in
       let g : m ≡ min cap (length (encode_bytes b)) = omega (arith, length-append (escape b) (0 ∷ [])) in
       q ∙ ap (λ (j : ℕ). bytes_alone (type_at T t) (Co.Bytes n t j)) g ∙ at-bytes T n t (ConstantRules.Const.Bytes (encode_bytes b)) (type_at T t) ∙ sym (view-is (Nv.Bytes i p) e)
 
-  pub as-prefix : (x : ℕ) (r : Const) → v ≡ Nv.Prefix x → r ≡ str_only (type_at T t) (Co.Prefix x) → r ≡ const_view T n t
+  pub as-prefix : (x : ℕ) (r : Option Const) → v ≡ Nv.Prefix x → r ≡ str_only (type_at T t) (Co.Prefix x) → r ≡ const_view T n t
   unfolding constant_node prefix_name
   as-prefix x r e q =
       let g : x ≡ prefix_name (node_at T (stands_for T n)) = ap (λ (w : NodeView). prefix_name (node_of f w)) (sym e) ∙ ap prefix_name k.node in
       q ∙ ap (λ (j : ℕ). str_only (type_at T t) (Co.Prefix j)) g ∙ at-str T n t (ConstantRules.Const.Prefix (encode_prefix (name_at T x))) (type_at T t) ∙ sym (view-is (Nv.Prefix x) e)
 
-  pub as-fuzzy : (x d : ℕ) (a : Anchor) (r : Const) → v ≡ Nv.Fuzzy x d a → r ≡ str_only (type_at T t) (Co.Fuzzy x d a) → r ≡ const_view T n t
+  pub as-fuzzy : (x d : ℕ) (a : Anchor) (r : Option Const) → v ≡ Nv.Fuzzy x d a → r ≡ str_only (type_at T t) (Co.Fuzzy x d a) → r ≡ const_view T n t
   unfolding constant_node
   as-fuzzy x d a r e q =
       q ∙ ap (λ (b : Anchor). str_only (type_at T t) (Co.Fuzzy x d b)) (sym (anchor-same a)) ∙ at-str T n t (ConstantRules.Const.Fuzzy x d (anchor_of a)) (type_at T t) ∙ sym (view-is (Nv.Fuzzy x d a) e)
 
-  pub as-pairs : (i p : ℕ) (r : Const) → v ≡ Nv.Record i p → r ≡ view_of T n t (constant_record (ConstantRules.constant T) (run (pattern_at f) 4 i p) (type_at T t)) → r ≡ const_view T n t
+  pub as-pairs : (i p : ℕ) (r : Option Const) → v ≡ Nv.Record i p → r ≡ view_of T n t (constant_record (ConstantRules.constant T) (run (pattern_at f) 4 i p) (type_at T t)) → r ≡ const_view T n t
   unfolding constant_node
   as-pairs i p r e q = q ∙ sym (view-is (Nv.Record i p) e)
 
-  pub as-other : OneOf (3 ∷ 4 ∷ 5 ∷ 9 ∷ 10 ∷ 11 ∷ 12 ∷ 13 ∷ 14 ∷ 15 ∷ 16 ∷ []) (tag_of NodeViews.the_type v) → Co.Nothing ≡ const_view T n t
+  pub as-other : OneOf (3 ∷ 4 ∷ 5 ∷ 9 ∷ 10 ∷ 11 ∷ 12 ∷ 13 ∷ 14 ∷ 15 ∷ 16 ∷ []) (tag_of NodeViews.the_type v) → None ≡ const_view T n t
   as-other w = sym (view-is v refl ∙ ap (view_of T n t) (no-constant T (ConstantRules.constant T) f v (type_at T t) w))
 
 -- a Str's and a Prefix's name is in range

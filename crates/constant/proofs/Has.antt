@@ -3,7 +3,7 @@ use Prim.Native.Nat.{ℕ, ◌+◌, ◌*◌, ◌≤◌, ◌<◌}
 use mathlib.Core.Path.{◌≡◌, refl, sym, ap, ◌∙◌, subst}
 use mathlib.Core.Bool.{Bool, true, false}
 use mathlib.Core.List.{List, [], ◌∷◌, ◌++◌}
-use mathlib.Core.Option.{Option, none, some, get_or}
+use Rattle.std.specs.Prelude.{Option, None, Some, unwrap_or}
 use native.Mathlib.Omega.{arith}
 use lib.Dec.{eqb}
 use borrow.Author.Tests.{eqb-true, eqb-false}
@@ -33,9 +33,6 @@ use Rattle.accepted_file.specs.Fates.{fate_bytes, recalled}
 use Rattle.accepted_file.proofs.Fates.{recalled-bytes, recalled-other}
 use Rattle.accepted_file.proofs.Given.{passed, sound-tables, few-nodes, few-types}
 use Rattle.accepted_file.proofs.Ranges.{stands, patterns}
-use Rattle.tables.specs.Tables.{found_option}
-use Rattle.tables.specs.declared.Found.{Found}
-use Rattle.tables.specs.declared.Found.TheVariants as Fo
 use Rattle.constant.specs.Has.{given, has_bytes, is_bytes, RecordAt}
 use Rattle.constant.specs.Sizes.{int_only, str_only, bytes_alone, view_of, field_bytes, payload_bytes}
 use Rattle.constant.specs.declared.Const.{Const}
@@ -46,16 +43,16 @@ use Rattle.constant.proofs.Known.{record-bytes}
 
 only-has : (o : Option ConstantRules.Const) → has_bytes o ≡ given (o when_some bytes_only)
 unfolding has_bytes given ◌when_some◌ bytes_only
-only-has none = refl
-only-has (some (ConstantRules.Const.Bytes bytes)) = refl
-only-has (some (ConstantRules.Const.Prefix bytes)) = refl
-only-has (some (ConstantRules.Const.Fuzzy x d a)) = refl
+only-has None = refl
+only-has (Some (ConstantRules.Const.Bytes bytes)) = refl
+only-has (Some (ConstantRules.Const.Prefix bytes)) = refl
+only-has (Some (ConstantRules.Const.Fuzzy x d a)) = refl
 
 -- a field or a payload has bytes where its pattern has them, and none where it has no pattern
 pub has_some : (o : Option ConstantRules.Const) (x : Option (List ℕ)) (r : Bool) → (o when_some bytes_only) ≡ x → r ≡ has_bytes o → r ≡ given x
 has_some o x r e q = q ∙ only-has o ∙ ap given e
 
-pub has-none : (x : Option (List ℕ)) → none ≡ x → false ≡ given x
+pub has-none : (x : Option (List ℕ)) → None ≡ x → false ≡ given x
 unfolding given
 has-none x e = ap given e
 
@@ -68,11 +65,11 @@ module _ (b : ℕ → ℕ → Option ConstantRules.Const) (patterns : List File.
   pub have-start : Having 0
   have-start = record { within = omega arith; same = ap given (fields-start b patterns f k from) }
 
-  with-more : (o rest : Option (List ℕ)) → given (o when_some λ bytes. rest when_some λ more. some (bytes ++ more)) ≡ both (given o) (given rest)
+  with-more : (o rest : Option (List ℕ)) → given (o when_some λ bytes. rest when_some λ more. Some (bytes ++ more)) ≡ both (given o) (given rest)
   unfolding given ◌when_some◌
-  with-more none rest = refl
-  with-more (some bytes) none = refl
-  with-more (some bytes) (some more) = refl
+  with-more None rest = refl
+  with-more (Some bytes) None = refl
+  with-more (Some bytes) (Some more) = refl
 
   module _ (i : ℕ) (a : Having i) (v : FieldTy) (h : i < k) (e : field_of v ≡ field_at f (from + 4 * i)) (s : Bool) (q : s ≡ given (field_bytes b patterns v.name v.ty)) where
     next : given (constant_fields b patterns (run (field_at f) 4 k from)) ≡ both s (given (fields_from b patterns f k from (i + 1)))
@@ -92,10 +89,10 @@ module _ (b : ℕ → ℕ → Option ConstantRules.Const) (patterns : List File.
 
 -- A record or a union around its bytes.
 module _ (b : ℕ → ℕ → Option ConstantRules.Const) (patterns : List File.FieldPattern) where
-  around : (enc : List ℕ → List ℕ) (o : Option (List ℕ)) → given o ≡ has_bytes (o when_some λ bytes. some (ConstantRules.Const.Bytes (enc bytes)))
+  around : (enc : List ℕ → List ℕ) (o : Option (List ℕ)) → given o ≡ has_bytes (o when_some λ bytes. Some (ConstantRules.Const.Bytes (enc bytes)))
   unfolding given has_bytes ◌when_some◌
-  around enc none = refl
-  around enc (some bytes) = refl
+  around enc None = refl
+  around enc (Some bytes) = refl
 
   record-has : (fs : List File.FieldTy) → given (constant_fields b patterns fs) ≡ has_bytes (constant_record b patterns (Ty.Record fs))
   unfolding constant_record
@@ -105,17 +102,17 @@ module _ (b : ℕ → ℕ → Option ConstantRules.Const) (patterns : List File.
   unfolding constant_record payload_bytes ◌when_some◌ given has_bytes
   union-has alts = go (only_field patterns)
     where
-      last : (d : ℕ) (o : Option ConstantRules.Const) → given (o when_some bytes_only) ≡ has_bytes (o when_some λ c. bytes_only c when_some λ bytes. some (ConstantRules.Const.Bytes (encode_union d bytes)))
-      last d none = refl
-      last d (some c) = around (encode_union d) (bytes_only c)
+      last : (d : ℕ) (o : Option ConstantRules.Const) → given (o when_some bytes_only) ≡ has_bytes (o when_some λ c. bytes_only c when_some λ bytes. Some (ConstantRules.Const.Bytes (encode_union d bytes)))
+      last d None = refl
+      last d (Some c) = around (encode_union d) (bytes_only c)
 
-      among : (g : File.FieldPattern) (o : Option File.Alternative) → given (o when_some λ a. b g.node a.type when_some bytes_only) ≡ has_bytes (o when_some λ a. b g.node a.type when_some λ c. bytes_only c when_some λ bytes. some (ConstantRules.Const.Bytes (encode_union a.disc bytes)))
-      among g none = refl
-      among g (some a) = last a.disc (b g.node a.type)
+      among : (g : File.FieldPattern) (o : Option File.Alternative) → given (o when_some λ a. b g.node a.type when_some bytes_only) ≡ has_bytes (o when_some λ a. b g.node a.type when_some λ c. bytes_only c when_some λ bytes. Some (ConstantRules.Const.Bytes (encode_union a.disc bytes)))
+      among g None = refl
+      among g (Some a) = last a.disc (b g.node a.type)
 
-      go : (o : Option File.FieldPattern) → given (o when_some λ g. ConstantRules.alternative_of alts g.name when_some λ a. b g.node a.type when_some bytes_only) ≡ has_bytes (o when_some λ g. ConstantRules.alternative_of alts g.name when_some λ a. b g.node a.type when_some λ c. bytes_only c when_some λ bytes. some (ConstantRules.Const.Bytes (encode_union a.disc bytes)))
-      go none = refl
-      go (some g) = among g (ConstantRules.alternative_of alts g.name)
+      go : (o : Option File.FieldPattern) → given (o when_some λ g. ConstantRules.alternative_of alts g.name when_some λ a. b g.node a.type when_some bytes_only) ≡ has_bytes (o when_some λ g. ConstantRules.alternative_of alts g.name when_some λ a. b g.node a.type when_some λ c. bytes_only c when_some λ bytes. Some (ConstantRules.Const.Bytes (encode_union a.disc bytes)))
+      go None = refl
+      go (Some g) = among g (ConstantRules.alternative_of alts g.name)
 
   module _ (f : List ℕ) (ty : Ty) (v : TypeView) (s : SeenType f ty v) where
     pub at-record : (k from : ℕ) (r : Bool) → v ≡ Tv.Record k from → r ≡ given (constant_fields b patterns (run (field_at f) 4 k from)) → r ≡ has_bytes (constant_record b patterns ty)
@@ -131,16 +128,16 @@ module _ (b : ℕ → ℕ → Option ConstantRules.Const) (patterns : List File.
   -- a Record's constant is bytes, if it is any
   record-some : (ty : Ty) (o : Option ConstantRules.Const) → constant_record b patterns ty ≡ o → lacks_bytes o ≡ false → has_bytes o ≡ true
   unfolding lacks_bytes has_bytes
-  record-some ty none e q = absurd (true≢false q)
-  record-some ty (some c) e q = let k = record-bytes b patterns ty c e in ap (λ (c : ConstantRules.Const). has_bytes (some c)) (sym k.1)
+  record-some ty None e q = absurd (true≢false q)
+  record-some ty (Some c) e q = let k = record-bytes b patterns ty c e in ap (λ (c : ConstantRules.Const). has_bytes (Some c)) (sym k.1)
 
-  pub record-none : (ty : Ty) → has_bytes (constant_record b patterns ty) ≡ false → constant_record b patterns ty ≡ none
+  pub record-none : (ty : Ty) → has_bytes (constant_record b patterns ty) ≡ false → constant_record b patterns ty ≡ None
   unfolding lacks_bytes
   record-none ty q = go (constant_record b patterns ty) refl q
     where
-      go : (o : Option ConstantRules.Const) → constant_record b patterns ty ≡ o → has_bytes o ≡ false → o ≡ none
-      go none e q = refl
-      go (some c) e q = absurd (true≢false (sym (record-some ty (some c) e refl) ∙ q))
+      go : (o : Option ConstantRules.Const) → constant_record b patterns ty ≡ o → has_bytes o ≡ false → o ≡ None
+      go None e q = refl
+      go (Some c) e q = absurd (true≢false (sym (record-some ty (Some c) e refl) ∙ q))
 
   record-lacks : (ty : Ty) → lacks_bytes (constant_record b patterns ty) ≡ false → true ≡ has_bytes (constant_record b patterns ty)
   record-lacks ty q = sym (record-some ty (constant_record b patterns ty) refl q)
@@ -150,16 +147,16 @@ module _ (f ix : List ℕ) (r : AcceptedFile f ix) (n t i p : ℕ) (h : RecordAt
   its-constant : ConstantRules.constant (tables_of f) n t ≡ constant_record (ConstantRules.constant (tables_of f)) (run (pattern_at f) 4 i p) (type_at (tables_of f) t)
   unfolding constant_node stands_for const_of var_name ◌when_some◌
   its-constant =
-      let s : stands_for (tables_of f) n ≡ n = ap (λ (y : Node). get_or (const_of (tables_of f).bindings y) n) h.is in
+      let s : stands_for (tables_of f) n ≡ n = ap (λ (y : Node). unwrap_or (const_of (tables_of f).bindings y) n) h.is in
       constant-is (tables_of f) (sound-tables f ix r) n t g
       ∙ ap (λ (m : ℕ). constant_node (tables_of f) (ConstantRules.constant (tables_of f)) (node_at (tables_of f) m) (type_at (tables_of f) t)) s
       ∙ ap (λ (y : Node). constant_node (tables_of f) (ConstantRules.constant (tables_of f)) y (type_at (tables_of f) t)) h.is
 
   -- as the index remembers it
-  pub has-recalled : (x : Found) (d : ℕ) → found_option x ≡ recalled ix n t → x ≡ Fo.Just d → eqb d fate_bytes ≡ has_bytes (constant_record (ConstantRules.constant (tables_of f)) (run (pattern_at f) 4 i p) (type_at (tables_of f) t))
+  pub has-recalled : (x : Option ℕ) (d : ℕ) → x ≡ recalled ix n t → x ≡ Some d → eqb d fate_bytes ≡ has_bytes (constant_record (ConstantRules.constant (tables_of f)) (run (pattern_at f) 4 i p) (type_at (tables_of f) t))
   unfolding has_bytes
   has-recalled x d e q =
-      let k : recalled ix n t ≡ some d = sym e ∙ ap found_option q in
+      let k : recalled ix n t ≡ Some d = sym e ∙ q in
       ways (eqb d fate_bytes) _
       (λ w. w ∙ record-lacks _ _ _ (ap lacks_bytes (sym its-constant) ∙ recalled-bytes f ix r n t d h.in-nodes g k (eqb-true d fate_bytes w)))
       (λ w. w ∙ sym (ap has_bytes (sym its-constant ∙ recalled-other f ix r n t d h.in-nodes g k (eqb-false d fate_bytes w))))
@@ -176,7 +173,7 @@ record-at f ix r n m v h e s i p q =
     let o = stands (tables_of f) (passed f ix r) (few-nodes f ix r.indexed) n h in
     let l : m < length (tables_of f).nodes = subst (λ (j : ℕ). j < length (tables_of f).nodes) (sym e) o.in-nodes in
     let k : node_at (tables_of f) m ≡ Node.Record (run (pattern_at f) 4 i p) = sym (subst (SeenNode f (node_at (tables_of f) m)) q s).is in
-    let itself : m ≡ stands_for (tables_of f) m = sym (ap (λ (y : Node). get_or (const_of (tables_of f).bindings y) m) k) in (
+    let itself : m ≡ stands_for (tables_of f) m = sym (ap (λ (y : Node). unwrap_or (const_of (tables_of f).bindings y) m) k) in (
       record { in-nodes = l; is = k; pairs = pairs-ok f ix r m m v l itself s i p q },
       subst (λ (j : ℕ). constant_rank (tables_of f) j ≤ constant_rank (tables_of f) n) (sym e) o.no-higher,
     )
@@ -211,7 +208,7 @@ module _ (n t l : ℕ) (bytes : List ℕ) where
   bytes-has (Ty.Union alts) = refl
 
 -- a Prefix or a Fuzzy at any type
-str-lacks : (k : ConstantRules.Const) → has_bytes (some k) ≡ false → (ty : Ty) → has_bytes (at_str ty k) ≡ false
+str-lacks : (k : ConstantRules.Const) → has_bytes (Some k) ≡ false → (ty : Ty) → has_bytes (at_str ty k) ≡ false
 unfolding at_str has_bytes
 str-lacks k e Ty.Int = refl
 str-lacks k e Ty.Str = e
@@ -246,15 +243,15 @@ module _ (f : List ℕ) (T : Tables) (n t : ℕ) (v : NodeView) (k : ConstantSee
   seen_as : (w : NodeView) → v ≡ w → has_bytes (constant_node T (ConstantRules.constant T) (node_of f w) (type_at T t)) ≡ has_bytes (ConstantRules.constant T n t)
   seen_as w e = sym (ap has_bytes (k.is ∙ ap (λ (y : Node). constant_node T (ConstantRules.constant T) y (type_at T t)) (sym k.node ∙ ap (node_of f) e)))
 
-  pub has-int : (p l : ℕ) (c : Const) (r : Bool) → v ≡ Nv.Int p → c ≡ int_only (type_at T t) (Co.Bytes n t l) → r ≡ is_bytes c → r ≡ has_bytes (ConstantRules.constant T n t)
+  pub has-int : (p l : ℕ) (c : Option Const) (r : Bool) → v ≡ Nv.Int p → c ≡ int_only (type_at T t) (Co.Bytes n t l) → r ≡ is_bytes c → r ≡ has_bytes (ConstantRules.constant T n t)
   unfolding constant_node
   has-int p l c r e q g = g ∙ ap is_bytes q ∙ int-has n t l _ (type_at T t) ∙ seen_as (Nv.Int p) e
 
-  pub has-str : (x l : ℕ) (c : Const) (r : Bool) → v ≡ Nv.Str x → c ≡ str_only (type_at T t) (Co.Bytes n t l) → r ≡ is_bytes c → r ≡ has_bytes (ConstantRules.constant T n t)
+  pub has-str : (x l : ℕ) (c : Option Const) (r : Bool) → v ≡ Nv.Str x → c ≡ str_only (type_at T t) (Co.Bytes n t l) → r ≡ is_bytes c → r ≡ has_bytes (ConstantRules.constant T n t)
   unfolding constant_node
   has-str x l c r e q g = g ∙ ap is_bytes q ∙ str-has n t l _ (type_at T t) ∙ seen_as (Nv.Str x) e
 
-  pub has-raw : (i p l : ℕ) (c : Const) (r : Bool) → v ≡ Nv.Bytes i p → c ≡ bytes_alone (type_at T t) (Co.Bytes n t l) → r ≡ is_bytes c → r ≡ has_bytes (ConstantRules.constant T n t)
+  pub has-raw : (i p l : ℕ) (c : Option Const) (r : Bool) → v ≡ Nv.Bytes i p → c ≡ bytes_alone (type_at T t) (Co.Bytes n t l) → r ≡ is_bytes c → r ≡ has_bytes (ConstantRules.constant T n t)
   unfolding constant_node
   has-raw i p l c r e q g = g ∙ ap is_bytes q ∙ bytes-has n t l _ (type_at T t) ∙ seen_as (Nv.Bytes i p) e
 
@@ -274,5 +271,5 @@ either-false : (a b : Bool) → either a b ≡ false → b ≡ false
 either-false true b e = absurd (true≢false e)
 either-false false b e = e
 
-pub lacks-pairs : (T : Tables) (n t : ℕ) (b : ℕ → ℕ → Option ConstantRules.Const) (patterns : List File.FieldPattern) (ty : Ty) (sure r : Bool) → r ≡ either sure (has_bytes (constant_record b patterns ty)) → r ≡ false → Co.Nothing ≡ view_of T n t (constant_record b patterns ty)
+pub lacks-pairs : (T : Tables) (n t : ℕ) (b : ℕ → ℕ → Option ConstantRules.Const) (patterns : List File.FieldPattern) (ty : Ty) (sure r : Bool) → r ≡ either sure (has_bytes (constant_record b patterns ty)) → r ≡ false → None ≡ view_of T n t (constant_record b patterns ty)
 lacks-pairs T n t b patterns ty sure r e q = sym (ap (view_of T n t) (record-none b patterns ty (either-false sure _ (sym e ∙ q))))

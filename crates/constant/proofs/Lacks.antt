@@ -3,7 +3,7 @@ use Prim.Native.Nat.{ℕ, ◌<◌}
 use mathlib.Core.Path.{◌≡◌, refl, sym, ap, ◌∙◌}
 use mathlib.Core.Bool.{Bool, true, not}
 use mathlib.Core.List.{List}
-use mathlib.Core.Option.{Option, none, some}
+use Rattle.std.specs.Prelude.{Option, None, Some}
 use lib.ListN.{length}
 use Rattle.rules.specs.File.{Tables, Ty, Node, type_at, node_at, constant_of, constants, is_constant}
 use Rattle.rules.specs.Constant as ConstantRules
@@ -19,7 +19,7 @@ use Rattle.constant.specs.Has.{has_bytes}
 use Rattle.constant.proofs.Known.{record-bytes}
 
 module _ (T : Tables) (b : ℕ → ℕ → Option ConstantRules.Const) (cs : List Bool) where
-  node-bytes : (node : Node) (ty : Ty) (k : ConstantRules.Const) → constant_of cs node ≡ true → constant_node T b node ty ≡ some k → (bytes : List ℕ) × (ConstantRules.Const.Bytes bytes ≡ k)
+  node-bytes : (node : Node) (ty : Ty) (k : ConstantRules.Const) → constant_of cs node ≡ true → constant_node T b node ty ≡ Some k → (bytes : List ℕ) × (ConstantRules.Const.Bytes bytes ≡ k)
   unfolding constant_node constant_of
   node-bytes (Node.Int raw) ty k c e = (_, same_int ty _ k e)
   node-bytes (Node.Str x) ty k c e = (_, same-str ty _ k e)
@@ -40,7 +40,7 @@ module _ (T : Tables) (b : ℕ → ℕ → Option ConstantRules.Const) (cs : Lis
   node-bytes Node.Error ty k c e = absurd (true≢false (sym c))
 
 module _ (T : Tables) (p : Passed T) (n t : ℕ) (c : is_constant T n ≡ true) (h : t < length T.types) where
-  constant-bytes : (k : ConstantRules.Const) → ConstantRules.constant T n t ≡ some k → (bytes : List ℕ) × (ConstantRules.Const.Bytes bytes ≡ k)
+  constant-bytes : (k : ConstantRules.Const) → ConstantRules.constant T n t ≡ Some k → (bytes : List ℕ) × (ConstantRules.Const.Bytes bytes ≡ k)
   constant-bytes k e =
       let i = constant-in T n c in
       node-bytes T (ConstantRules.constant T) (constants T) (node_at T n) (type_at T t) k (sym (constant-of T p n i) ∙ c)
@@ -52,5 +52,5 @@ module _ (T : Tables) (p : Passed T) (n t : ℕ) (c : is_constant T n ≡ true) 
   lacks-not r e = ap not e ∙ go (ConstantRules.constant T n t) refl
     where
       go : (o : Option ConstantRules.Const) → ConstantRules.constant T n t ≡ o → not (has_bytes o) ≡ lacks_bytes o
-      go none q = refl
-      go (some k) q = let w = constant-bytes k q in ap (λ (k : ConstantRules.Const). not (has_bytes (some k))) (sym w.1)
+      go None q = refl
+      go (Some k) q = let w = constant-bytes k q in ap (λ (k : ConstantRules.Const). not (has_bytes (Some k))) (sym w.1)

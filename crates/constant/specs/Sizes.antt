@@ -1,6 +1,5 @@
 -- A constant by position: the node, the type and the length of its bytes, up to a cap.
-use Rattle.std.specs.Prelude.{ℕ, ◌+◌, ◌*◌, ◌≤◌, ◌<◌, min, List, length}
-use Rattle.std.proofs.Math.Option.{Option, none, some}
+use Rattle.std.specs.Prelude.{ℕ, ◌+◌, ◌*◌, ◌≤◌, ◌<◌, min, List, length, Option, None, Some}
 use Rattle.rules.specs.Base.{Each, ◌when_some◌ as ◌>>=◌}
 use Rattle.rules.specs.File as File
 use Rattle.rules.specs.File.{Tables, FieldPattern, Ty, Node, node_at}
@@ -12,22 +11,20 @@ use Rattle.views.specs.declared.Anchor.TheVariants as An
 use Rattle.accepted_file.specs.AcceptedFile.{constant_rank, PatternOk}
 use Rattle.constant.specs.declared.Const.{Const}
 use Rattle.constant.specs.declared.Const.TheVariants as Co
-use Rattle.constant.specs.declared.Size.{Size}
-use Rattle.constant.specs.declared.Size.TheVariants as Si
 
 -- above every length that a plan can hold, so that a sum that stops here says all that matters
 abbrev pub cap : ℕ
 cap = 65536
 
 -- k bytes and those of o, if there are any
-unfoldable pub size_with : ℕ → Option (List ℕ) → Size
-size_with k none = Si.Nothing
-size_with k (some bytes) = Si.Just (min cap (k + length bytes))
+unfoldable pub size_with : ℕ → Option (List ℕ) → Option ℕ
+size_with k None = None
+size_with k (Some bytes) = Some (min cap (k + length bytes))
 
 -- what was measured stops at the cap
-abbrev pub Small : Size → Type 0
-Small Si.Nothing = Unit {0}
-Small (Si.Just n) = n ≤ cap
+abbrev pub Small : Option ℕ → Type 0
+Small None = Unit {0}
+Small (Some n) = n ≤ cap
 
 -- the code's anchor for the rules'
 abbrev pub anchor_view : File.Anchor → Anchor
@@ -60,50 +57,50 @@ view_some T n t (ConstantRules.Const.Bytes bytes) = Co.Bytes n t (min cap (lengt
 view_some T n t (ConstantRules.Const.Prefix bytes) = Co.Prefix (prefix_name (node_at T (stands_for T n)))
 view_some T n t (ConstantRules.Const.Fuzzy x d a) = Co.Fuzzy x d (anchor_view a)
 
-abbrev pub view_of : Tables → ℕ → ℕ → Option ConstantRules.Const → Const
-view_of T n t none = Co.Nothing
-view_of T n t (some c) = view_some T n t c
+abbrev pub view_of : Tables → ℕ → ℕ → Option ConstantRules.Const → Option Const
+view_of T n t None = None
+view_of T n t (Some c) = Some (view_some T n t c)
 
 -- the constant of node n at type t, as the code has it
-unfoldable pub const_view : Tables → ℕ → ℕ → Const
+unfoldable pub const_view : Tables → ℕ → ℕ → Option Const
 const_view T n t = view_of T n t (ConstantRules.constant T n t)
 
 -- a constant that fits one type alone
-abbrev pub int_only : Ty → Const → Const
-int_only Ty.Int c = c
-int_only Ty.Str c = Co.Nothing
-int_only Ty.Bytes c = Co.Nothing
-int_only (Ty.Fact p) c = Co.Nothing
-int_only (Ty.Record fs) c = Co.Nothing
-int_only (Ty.Union alts) c = Co.Nothing
+abbrev pub int_only : Ty → Const → Option Const
+int_only Ty.Int c = Some c
+int_only Ty.Str c = None
+int_only Ty.Bytes c = None
+int_only (Ty.Fact p) c = None
+int_only (Ty.Record fs) c = None
+int_only (Ty.Union alts) c = None
 
-abbrev pub str_only : Ty → Const → Const
-str_only Ty.Int c = Co.Nothing
-str_only Ty.Str c = c
-str_only Ty.Bytes c = Co.Nothing
-str_only (Ty.Fact p) c = Co.Nothing
-str_only (Ty.Record fs) c = Co.Nothing
-str_only (Ty.Union alts) c = Co.Nothing
+abbrev pub str_only : Ty → Const → Option Const
+str_only Ty.Int c = None
+str_only Ty.Str c = Some c
+str_only Ty.Bytes c = None
+str_only (Ty.Fact p) c = None
+str_only (Ty.Record fs) c = None
+str_only (Ty.Union alts) c = None
 
-abbrev pub bytes_alone : Ty → Const → Const
-bytes_alone Ty.Int c = Co.Nothing
-bytes_alone Ty.Str c = Co.Nothing
-bytes_alone Ty.Bytes c = c
-bytes_alone (Ty.Fact p) c = Co.Nothing
-bytes_alone (Ty.Record fs) c = Co.Nothing
-bytes_alone (Ty.Union alts) c = Co.Nothing
+abbrev pub bytes_alone : Ty → Const → Option Const
+bytes_alone Ty.Int c = None
+bytes_alone Ty.Str c = None
+bytes_alone Ty.Bytes c = Some c
+bytes_alone (Ty.Fact p) c = None
+bytes_alone (Ty.Record fs) c = None
+bytes_alone (Ty.Union alts) c = None
 
 -- the length that a constant carries, if it is bytes
-abbrev pub size_of : Const → Size
-size_of Co.Nothing = Si.Nothing
-size_of (Co.Bytes n t k) = Si.Just k
-size_of (Co.Prefix x) = Si.Nothing
-size_of (Co.Fuzzy x d a) = Si.Nothing
+abbrev pub size_of : Option Const → Option ℕ
+size_of None = None
+size_of (Some (Co.Bytes n t k)) = Some k
+size_of (Some (Co.Prefix x)) = None
+size_of (Some (Co.Fuzzy x d a)) = None
 
 -- k bytes around what was measured
-abbrev pub wrapped : ℕ → ℕ → ℕ → Size → Const
-wrapped n t k Si.Nothing = Co.Nothing
-wrapped n t k (Si.Just l) = Co.Bytes n t (min cap (k + l))
+abbrev pub wrapped : ℕ → ℕ → ℕ → Option ℕ → Option Const
+wrapped n t k None = None
+wrapped n t k (Some l) = Some (Co.Bytes n t (min cap (k + l)))
 
 -- a field's bytes: those of the first pattern of its name
 unfoldable pub field_bytes : (ℕ → ℕ → Option ConstantRules.Const) → List FieldPattern → ℕ → ℕ → Option (List ℕ)

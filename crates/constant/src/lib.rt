@@ -15,24 +15,15 @@ ghost use Rattle.constant.specs.Has.{given, has_bytes, is_bytes, RecordAt};
 ghost use Rattle.constant.specs.Plain.{least_byte, plain};
 ghost use Rattle.constant.specs.Sizes.{cap, size_with, Small, view_of, const_view, int_only, str_only, bytes_alone, size_of, wrapped, field_bytes, payload_bytes, Patterns, Fields, Alternatives};
 
-use file::least;
-use tables::{BYTES, Found, MaybeAlternative, alternative_of, field_pattern, folded, recall};
+use tables::{BYTES, alternative_of, field_pattern, folded, recall};
 use views::{Anchor, NodeView, TypeView, field_pattern_at, field_ty_at, name_at, node_at, type_at};
 
 // Bytes has the node, the type and the length, which stops at CAP; Prefix the name; Fuzzy the name, the distance and the anchor.
 #[derive(Clone, Copy)]
 pub enum Const {
-    Nothing,
     Bytes(usize, usize, usize),
     Prefix(usize),
     Fuzzy(usize, u8, Anchor),
-}
-
-// A number of bytes, which stops at CAP.
-#[derive(Clone, Copy)]
-pub enum Size {
-    Nothing,
-    Just(usize),
 }
 
 // Longer than any plan: what is as long or longer counts as this long, so that no sum of lengths overflows.
@@ -43,11 +34,7 @@ pub fn capped(a: usize, b: usize) -> usize
     requires { (a ≤ 2 * cap) × (b ≤ 2 * cap) }
     ensures { result ≡ min cap (a + b) }
 {
-    let n = a + b;
-    if n > CAP {
-        return CAP;
-    }
-    n
+    (a + b).min(CAP)
 }
 
 // How many bytes a byte of a text takes: a zero byte is escaped.
@@ -63,10 +50,8 @@ fn least_byte(file: &[u8], at: usize, n: usize) -> u8
     ensures { result ≡ least_byte (run (byte_at file.now) 1 n at) }
 {
     let mut low: u8 = 255;
-    let mut i: usize = 0;
-    while i < n {
-        low = least(low, file[at + i]);
-        i += 1;
+    for i in 0..n {
+        low = low.min(file[at + i]);
     }
     low
 }
@@ -86,10 +71,8 @@ fn count_escaped(file: &[u8], at: usize, n: usize) -> usize
     ensures bounded { result ≤ 2 * n }
 {
     let mut len: usize = 0;
-    let mut i: usize = 0;
-    while i < n {
+    for i in 0..n {
         len += width(file[at + i]);
-        i += 1;
     }
     len
 }
@@ -118,78 +101,72 @@ pub fn prefix_len(file: &[u8], index: &[u16], name: usize) -> usize
 }
 
 // A constant that fits type Int alone.
-fn at_int(file: &[u8], index: &[u16], ty: usize, c: Const) -> Const
+// One function for this and the next two would compare the view with a type that it is given: no plainer.
+fn at_int(file: &[u8], index: &[u16], ty: usize, c: Const) -> Option<Const>
     requires indexed { Indexed file.now index.now }
     requires ty_in_bounds { ty < length (tables_of file.now).types }
     ensures { result ≡ int_only (type_at (tables_of file.now) ty) c }
 {
     if let TypeView::Int = type_at(file, index, ty) {
-        c
+        Some(c)
     } else {
-        Const::Nothing
+        None
     }
 }
 
 // A constant that fits type Str alone.
-fn at_str(file: &[u8], index: &[u16], ty: usize, c: Const) -> Const
+fn at_str(file: &[u8], index: &[u16], ty: usize, c: Const) -> Option<Const>
     requires indexed { Indexed file.now index.now }
     requires ty_in_bounds { ty < length (tables_of file.now).types }
     ensures { result ≡ str_only (type_at (tables_of file.now) ty) c }
 {
     if let TypeView::Str = type_at(file, index, ty) {
-        c
+        Some(c)
     } else {
-        Const::Nothing
+        None
     }
 }
 
 // A constant that fits type Bytes alone.
-fn at_bytes(file: &[u8], index: &[u16], ty: usize, c: Const) -> Const
+fn at_bytes(file: &[u8], index: &[u16], ty: usize, c: Const) -> Option<Const>
     requires indexed { Indexed file.now index.now }
     requires ty_in_bounds { ty < length (tables_of file.now).types }
     ensures { result ≡ bytes_alone (type_at (tables_of file.now) ty) c }
 {
     if let TypeView::Bytes = type_at(file, index, ty) {
-        c
+        Some(c)
     } else {
-        Const::Nothing
+        None
     }
 }
 
 // The length of a constant's bytes. Prefix or Fuzzy within a record or union gives none.
-fn bytes_only(c: Const) -> Size
+fn bytes_only(c: Option<Const>) -> Option<usize>
     ensures { result ≡ size_of c }
 {
     match c {
-        Const::Nothing => Size::Nothing,
-        Const::Bytes(_, _, n) => Size::Just(n),
-        Const::Prefix(_) => Size::Nothing,
-        Const::Fuzzy(_, _, _) => Size::Nothing,
+        Some(Const::Bytes(_, _, n)) => Some(n),
+        _ => None,
     }
 }
 
 // A constant of k bytes around what was measured: a record's or union's first and last bytes.
-fn wrap(node: usize, ty: usize, k: usize, s: Size) -> Const
+fn wrap(node: usize, ty: usize, k: usize, s: Option<usize>) -> Option<Const>
     requires k_bound { k ≤ 16 }
     requires small { Small s }
     ensures { result ≡ wrapped node ty k s }
 {
     match s {
-        Size::Nothing => Const::Nothing,
-        Size::Just(n) => Const::Bytes(node, ty, capped(k, n)),
+        None => None,
+        Some(n) => Some(Const::Bytes(node, ty, capped(k, n))),
     }
 }
 
 // Whether a constant is bytes.
-fn is_bytes(c: Const) -> bool
+fn is_bytes(c: Option<Const>) -> bool
     ensures { result ≡ is_bytes c }
 {
-    match c {
-        Const::Nothing => false,
-        Const::Bytes(_, _, _) => true,
-        Const::Prefix(_) => false,
-        Const::Fuzzy(_, _, _) => false,
-    }
+    matches!(c, Some(Const::Bytes(_, _, _)))
 }
 
 // Whether a field has bytes: the first of a Record's n pairs that has its name.
@@ -210,7 +187,7 @@ fn has_field(
         let patterns = run (pattern_at f) 4 n at in
         result ≡ given (field_bytes (ConstantRules.constant (tables_of f)) patterns name ty) }
 {
-    let Found::Just(p) = field_pattern(file, at, n, name) else {
+    let Some(p) = field_pattern(file, at, n, name) else {
         return false;
     };
     has_bytes(file, index, p, ty)
@@ -235,13 +212,11 @@ fn has_fields(
         let fields = run (field_at f) 4 k from in
         result ≡ given (constant_fields (ConstantRules.constant (tables_of f)) patterns fields) }
 {
-    let mut i: usize = 0;
-    while i < k {
+    for i in 0..k {
         let f = field_ty_at(file, from, i);
         if !has_field(file, index, node, n, at, f.name, f.ty) {
             return false;
         }
-        i += 1;
     }
     true
 }
@@ -269,7 +244,7 @@ fn has_payload(
         return false;
     }
     let p = field_pattern_at(file, at, 0);
-    let MaybeAlternative::Just(a) = alternative_of(file, from, k, p.name) else {
+    let Some(a) = alternative_of(file, from, k, p.name) else {
         return false;
     };
     has_bytes(file, index, p.node, a.ty)
@@ -285,7 +260,7 @@ fn has_record(file: &[u8], index: &[u16], node: usize, ty: usize, n: usize, at: 
         let T = tables_of f in
         result ≡ has_bytes (constant_record (ConstantRules.constant T) (run (pattern_at f) 4 n at) (type_at T ty)) }
 {
-    if let Found::Just(d) = recall(index, node, ty) {
+    if let Some(d) = recall(index, node, ty) {
         return d == BYTES;
     }
     match type_at(file, index, ty) {
@@ -323,7 +298,7 @@ fn constant_field(
     at: usize,
     name: usize,
     ty: usize,
-) -> Size
+) -> Option<usize>
     requires accepted_file { AcceptedFile file.now index.now }
     requires patterns { Patterns file.now (tables_of file.now) node n at }
     requires ty_in_bounds { ty < length (tables_of file.now).types }
@@ -331,8 +306,8 @@ fn constant_field(
         let patterns = run (pattern_at f) 4 n at in
         result ≡ size_with 0 (field_bytes (ConstantRules.constant (tables_of f)) patterns name ty) }
 {
-    let Found::Just(p) = field_pattern(file, at, n, name) else {
-        return Size::Nothing;
+    let Some(p) = field_pattern(file, at, n, name) else {
+        return None;
     };
     bytes_only(constant_of(file, index, p, ty, true))
 }
@@ -347,7 +322,7 @@ fn constant_fields(
     at: usize,
     k: usize,
     from: usize,
-) -> Size
+) -> Option<usize>
     requires accepted_file { AcceptedFile file.now index.now }
     requires patterns { Patterns file.now (tables_of file.now) node n at }
     requires fields { Fields file.now (tables_of file.now) k from }
@@ -357,16 +332,14 @@ fn constant_fields(
         result ≡ size_with 0 (constant_fields (ConstantRules.constant (tables_of f)) patterns fields) }
 {
     let mut total: usize = 0;
-    let mut i: usize = 0;
-    while i < k {
+    for i in 0..k {
         let f = field_ty_at(file, from, i);
-        let Size::Just(len) = constant_field(file, index, node, n, at, f.name, f.ty) else {
-            return Size::Nothing;
+        let Some(len) = constant_field(file, index, node, n, at, f.name, f.ty) else {
+            return None;
         };
         total = capped(total, len);
-        i += 1;
     }
-    Size::Just(total)
+    Some(total)
 }
 
 // The payload of a union value: a record of one pair, which names one of the k alternatives.
@@ -379,7 +352,7 @@ fn constant_union(
     at: usize,
     k: usize,
     from: usize,
-) -> Size
+) -> Option<usize>
     requires accepted_file { AcceptedFile file.now index.now }
     requires patterns { Patterns file.now (tables_of file.now) node n at }
     requires alternatives { Alternatives file.now (tables_of file.now) k from }
@@ -389,18 +362,25 @@ fn constant_union(
         result ≡ size_with 0 (payload_bytes (ConstantRules.constant (tables_of f)) patterns alternatives) }
 {
     if n != 1 {
-        return Size::Nothing;
+        return None;
     }
     let p = field_pattern_at(file, at, 0);
-    let MaybeAlternative::Just(a) = alternative_of(file, from, k, p.name) else {
-        return Size::Nothing;
+    let Some(a) = alternative_of(file, from, k, p.name) else {
+        return None;
     };
     bytes_only(constant_of(file, index, p.node, a.ty, true))
 }
 
 // A Record's n pairs at a type: a record, a union, or no constant.
 #[cycle(constant_field_constant_fields_constant_of_constant_record_constant_union)]
-fn constant_record(file: &[u8], index: &[u16], node: usize, ty: usize, n: usize, at: usize) -> Const
+fn constant_record(
+    file: &[u8],
+    index: &[u16],
+    node: usize,
+    ty: usize,
+    n: usize,
+    at: usize,
+) -> Option<Const>
     requires accepted_file { AcceptedFile file.now index.now }
     requires patterns { Patterns file.now (tables_of file.now) node n at }
     requires ty_in_bounds { ty < length (tables_of file.now).types }
@@ -422,7 +402,7 @@ fn constant_record(file: &[u8], index: &[u16], node: usize, ty: usize, n: usize,
             6,
             constant_union(file, index, node, n, at, k, from),
         ),
-        _ => Const::Nothing,
+        _ => None,
     }
 }
 
@@ -444,15 +424,12 @@ fn may_have(
         let patterns = run (pattern_at f) 4 n at in
         result ≡ either sure (has_bytes (constant_record (ConstantRules.constant T) patterns (type_at T ty))) }
 {
-    if sure {
-        return true;
-    }
-    has_record(file, index, node, ty, n, at)
+    sure || has_record(file, index, node, ty, n, at)
 }
 
 // What `constant` gives. A pattern inside a Record that has bytes is sure to have them too, and is not asked again.
 #[cycle(constant_field_constant_fields_constant_of_constant_record_constant_union)]
-fn constant_of(file: &[u8], index: &[u16], node: usize, ty: usize, sure: bool) -> Const
+fn constant_of(file: &[u8], index: &[u16], node: usize, ty: usize, sure: bool) -> Option<Const>
     requires accepted_file { AcceptedFile file.now index.now }
     requires node_in_bounds { node < length (tables_of file.now).nodes }
     requires ty_in_bounds { ty < length (tables_of file.now).types }
@@ -473,17 +450,17 @@ fn constant_of(file: &[u8], index: &[u16], node: usize, ty: usize, sure: bool) -
         NodeView::Fuzzy(x, d, a) => at_str(file, index, ty, Const::Fuzzy(x, d, a)),
         NodeView::Record(n, at) => {
             if !may_have(file, index, m, ty, n, at, sure) {
-                return Const::Nothing;
+                return None;
             }
             constant_record(file, index, node, ty, n, at)
         }
-        _ => Const::Nothing,
+        _ => None,
     }
 }
 
 // The bytes that a pattern determines at a type, if it determines all of them: where they come from, and how many they are. A Record is
 // asked first whether it has bytes at all, so that only what has them is measured.
-pub fn constant(file: &[u8], index: &[u16], node: usize, ty: usize) -> Const
+pub fn constant(file: &[u8], index: &[u16], node: usize, ty: usize) -> Option<Const>
     requires accepted_file { AcceptedFile file.now index.now }
     requires node_in_bounds { node < length (tables_of file.now).nodes }
     requires ty_in_bounds { ty < length (tables_of file.now).types }

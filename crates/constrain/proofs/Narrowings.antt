@@ -2,7 +2,7 @@
 use Prim.Native.Nat.{ℕ, ◌≤◌, ◌<◌}
 use mathlib.Core.Path.{◌≡◌, refl, sym, ap, ◌∙◌}
 use mathlib.Core.Bool.{Bool, true, false}
-use mathlib.Core.Option.{Option, none, some}
+use Rattle.std.specs.Prelude.{Option, None, Some}
 use lib.ListN.{length, get_or-eq_default}
 use Rattle.rules.specs.File as File
 use Rattle.rules.specs.File.{Tables, Node, type_at, node_at, var_name}
@@ -30,39 +30,39 @@ error-at : (T : Tables) (n : ℕ) → length T.nodes ≤ n → node_at T n ≡ N
 unfolding node_at
 error-at T n h = get_or-eq_default T.nodes Node.Error h
 
-past-nodes : (T : Tables) → Sound T → (n t : ℕ) → t < length T.types → length T.nodes ≤ n → constant T n t ≡ none
+past-nodes : (T : Tables) → Sound T → (n t : ℕ) → t < length T.types → length T.nodes ≤ n → constant T n t ≡ None
 unfolding constant_node var_name
 past-nodes T S n t h g =
     constant-is T S n t h
     ∙ ap (λ (m : ℕ). constant_node T (constant T) (node_at T m) (type_at T t)) (sym (stands_self T n (sym (ap var_name (error-at T n g)))))
     ∙ ap (λ (node : Node). constant_node T (constant T) node (type_at T t)) (error-at T n g)
 
-nothing_is : (r : Const) → is_nothing r ≡ true → r ≡ Co.Nothing
-nothing_is Co.Nothing e = refl
-nothing_is (Co.Bytes n t l) e = absurd (true≢false (sym e))
-nothing_is (Co.Prefix x) e = absurd (true≢false (sym e))
-nothing_is (Co.Fuzzy x d a) e = absurd (true≢false (sym e))
+nothing_is : (r : Option Const) → is_nothing r ≡ true → r ≡ None
+nothing_is None e = refl
+nothing_is (Some (Co.Bytes n t l)) e = absurd (true≢false (sym e))
+nothing_is (Some (Co.Prefix x)) e = absurd (true≢false (sym e))
+nothing_is (Some (Co.Fuzzy x d a)) e = absurd (true≢false (sym e))
 
-something : (r : Const) → r ≡ Co.Nothing → is_nothing r ≡ true
+something : (r : Option Const) → r ≡ None → is_nothing r ≡ true
 something r e = ap is_nothing e
 
-view-none : (T : Tables) (n t : ℕ) → constant T n t ≡ none → const_view T n t ≡ Co.Nothing
+view-none : (T : Tables) (n t : ℕ) → constant T n t ≡ None → const_view T n t ≡ None
 unfolding const_view
 view-none T n t e = ap (view_of T n t) e
 
 module _ (T : Tables) (n t : ℕ) where
-  some-told : (r : Const) → r ≡ const_view T n t → is_nothing r ≡ false → true ≡ is_some (constant T n t)
+  some-told : (r : Option Const) → r ≡ const_view T n t → is_nothing r ≡ false → true ≡ is_some (constant T n t)
   some-told r v h = go (constant T n t) refl
     where
       go : (o : Option ConstantRules.Const) → constant T n t ≡ o → true ≡ is_some o
-      go none g = absurd (true≢false (sym (something r (v ∙ view-none T n t g)) ∙ h))
-      go (some c) g = refl
+      go None g = absurd (true≢false (sym (something r (v ∙ view-none T n t g)) ∙ h))
+      go (Some c) g = refl
 
-  pub known_past : Sound T → t < length T.types → length T.nodes ≤ n → Known T n t Co.Nothing
+  pub known_past : Sound T → t < length T.types → length T.nodes ≤ n → Known T n t None
   unfolding const_of
   known_past S h g = record { is = sym (past-nodes T S n t h g); some = λ e. absurd (true≢false e); made = λ e. absurd (true≢false e) }
 
-  pub known-here : n < length T.nodes → t < length T.types → (r : Const) → r ≡ const_view T n t → const_of T r ≡ constant T n t → Known T n t r
+  pub known-here : n < length T.nodes → t < length T.types → (r : Option Const) → r ≡ const_view T n t → const_of T r ≡ constant T n t → Known T n t r
   known-here i h r v e =
       record {
         is = e;
@@ -71,24 +71,24 @@ module _ (T : Tables) (n t : ℕ) where
       }
 
 -- what goes on from a constant of node n that node m brought: f where there is one, k where there is none
-module _ {A : Type 0} (T : Tables) (m n t : ℕ) (path : File.FieldPath) (s₀ : State) (c : Const) (v : Known T n t c) (f k : State → A) where
+module _ {A : Type 0} (T : Tables) (m n t : ℕ) (path : File.FieldPath) (s₀ : State) (c : Option Const) (v : Known T n t c) (f k : State → A) where
   abbrev by : Option ConstantRules.Const → A
-  by o = elim o [ some x ↦ f (narrow_by (ops T) T m x path s₀) | none ↦ k s₀ ]
+  by o = elim o [ Some x ↦ f (narrow_by (ops T) T m x path s₀) | None ↦ k s₀ ]
 
   pub after-constant : is_nothing c ≡ false → (s : State) → s ≡ narrowed_by T m (const_of T c) path s₀ → f s ≡ by (constant T n t)
   unfolding narrowed_by
   after-constant e s q = go (constant T n t) (v.some e) (q ∙ ap (λ (o : Option ConstantRules.Const). narrowed_by T m o path s₀) v.is)
     where
       go : (o : Option ConstantRules.Const) → true ≡ is_some o → s ≡ narrowed_by T m o path s₀ → f s ≡ by o
-      go none b g = absurd (true≢false b)
-      go (some x) b g = ap f g
+      go None b g = absurd (true≢false b)
+      go (Some x) b g = ap f g
 
   pub after_none : is_nothing c ≡ true → k s₀ ≡ by (constant T n t)
   unfolding const_of
   after_none e = ap by (sym (ap (const_of T) (nothing_is c e)) ∙ v.is)
 
 module _ (T : Tables) (n t : ℕ) (path : File.FieldPath) (s₀ : State) where
-  module _ (c : Const) (v : Known T n t c) (falls : Bool) (s : State) where
+  module _ (c : Option Const) (v : Known T n t c) (falls : Bool) (s : State) where
     pub or_yes : is_nothing c ≡ false → s ≡ narrowed_by T n (const_of T c) path s₀ → s ≡ narrow_or T n t path falls s₀
     unfolding narrow_or
     or_yes e q = after-constant T n n t path s₀ c v (λ x. x) (diagnosed n Code.RejectTypeMismatch falls) e s q
@@ -105,10 +105,10 @@ module _ (T : Tables) (n t : ℕ) (path : File.FieldPath) (s₀ : State) where
       idle : Idle (ops T) s₀
       idle = stopped T s₀ h
 
-      go : (o : Option ConstantRules.Const) (b : Bool) → s₀ ≡ elim o [ some x ↦ narrow_by (ops T) T n x path s₀ | none ↦ diagnosed n Code.RejectTypeMismatch b s₀ ]
-      go (some x) b = sym (idle.narrow n path (narrowing x))
-      go none true = sym (idle.report n Code.RejectTypeMismatch) ∙ ap (report n Code.RejectTypeMismatch) (sym idle.skip)
-      go none false = sym (idle.report n Code.RejectTypeMismatch)
+      go : (o : Option ConstantRules.Const) (b : Bool) → s₀ ≡ elim o [ Some x ↦ narrow_by (ops T) T n x path s₀ | None ↦ diagnosed n Code.RejectTypeMismatch b s₀ ]
+      go (Some x) b = sym (idle.narrow n path (narrowing x))
+      go None true = sym (idle.report n Code.RejectTypeMismatch) ∙ ap (report n Code.RejectTypeMismatch) (sym idle.skip)
+      go None false = sym (idle.report n Code.RejectTypeMismatch)
 
   pub ranged-is : (s : State) → s ≡ narrow_or T n t path false s₀ → (a : ℕ) (below : FieldWalk State) → s ≡ ranged (ops T) T a below n t path s₀
   unfolding ranged narrow_or

@@ -1,9 +1,8 @@
 -- The constraints of a variable: those of one rank in file order, the ranks one after another.
-use Prim.Native.Nat.{ℕ, zero, suc, ◌+◌, ◌≤◌, ◌<◌}
+use Prim.Native.Nat.{ℕ, zero, suc, ◌+◌, ◌-◌, ◌≤◌, ◌<◌}
 use mathlib.Core.Path.{◌≡◌, refl, sym, ap, ◌∙◌}
 use mathlib.Core.Bool.{Bool, true, false}
 use mathlib.Core.List.{List, [], ◌∷◌, ◌++◌}
-use mathlib.Core.Option.{Option, none, some}
 use native.Mathlib.Numerals.{add-one}
 use native.Mathlib.Omega.{arith}
 use types.Run.{OneOf, miss}
@@ -12,6 +11,8 @@ use lib.Dec.{eqb}
 use lib.ListN.{length, drop, drop_of_length-le}
 use lib.Seq.{drop-cons}
 use borrow.Author.Tests.{eq-eqb, ne_eqb}
+use Rattle.std.specs.Prelude.{◌||◌, Option, None, Some}
+use Rattle.std.specs.List.{list_any, range_with_len}
 use Rattle.rules.proofs.Cases.{true≢false, some≢none}
 use Rattle.rules.specs.Base.{first, filter}
 use Rattle.rules.specs.File as File
@@ -26,9 +27,6 @@ use Rattle.views.specs.declared.Constraint as CodeConstraint
 use Rattle.views.specs.declared.NodeView.{NodeView}
 use Rattle.views.specs.declared.NodeView.TheVariants as Nv
 use Rattle.views.specs.contracts.NodeView as NodeViews
-use Rattle.tables.specs.Tables.{found_option}
-use Rattle.tables.specs.declared.Found.{Found}
-use Rattle.tables.specs.declared.Found.TheVariants as Fo
 use Rattle.walk.specs.Walk.{walk_state}
 use Rattle.walk.specs.declared.Walk.{Walk}
 use Rattle.constrain.specs.Constrain.{narrow_or, pattern_for, is_constrained}
@@ -76,23 +74,23 @@ module _ (f : List ℕ) (node : Node) (v : NodeView) (s : SeenNode f node v) whe
 
 -- One constraint, by name and rank.
 module _ (T : Tables) (x r : ℕ) (k : Constraint) (v : CodeConstraint.Constraint) (e : constraint_of v ≡ k) where
-  pub not_named : (v.name ≡ x → ⊥) → none ≡ pattern_for T x r k
+  pub not_named : (v.name ≡ x → ⊥) → None ≡ pattern_for T x r k
   unfolding pattern_for
-  not_named d = sym (ap (pattern_for T x r) (sym e) ∙ ap (λ (b : Bool). elim b [ true ↦ elim (eqb (rank (node_at T v.node)) r) [ true ↦ some v.node | false ↦ none ] | false ↦ none ]) (ne_eqb _ _ d))
+  not_named d = sym (ap (pattern_for T x r) (sym e) ∙ ap (λ (b : Bool). elim b [ true ↦ elim (eqb (rank (node_at T v.node)) r) [ true ↦ Some v.node | false ↦ None ] | false ↦ None ]) (ne_eqb _ _ d))
 
   module _ (d : v.name ≡ x) (j : ℕ) (ej : j ≡ rank (node_at T v.node)) where
-    ranked-as : pattern_for T x r k ≡ elim (eqb j r) [ true ↦ some v.node | false ↦ none ]
+    ranked-as : pattern_for T x r k ≡ elim (eqb j r) [ true ↦ Some v.node | false ↦ None ]
     unfolding pattern_for
     ranked-as =
         ap (pattern_for T x r) (sym e)
-        ∙ ap (λ (b : Bool). elim b [ true ↦ elim (eqb (rank (node_at T v.node)) r) [ true ↦ some v.node | false ↦ none ] | false ↦ none ]) (eq-eqb _ _ d)
-        ∙ ap (λ (i : ℕ). elim (eqb i r) [ true ↦ some v.node | false ↦ none ]) (sym ej)
+        ∙ ap (λ (b : Bool). elim b [ true ↦ elim (eqb (rank (node_at T v.node)) r) [ true ↦ Some v.node | false ↦ None ] | false ↦ None ]) (eq-eqb _ _ d)
+        ∙ ap (λ (i : ℕ). elim (eqb i r) [ true ↦ Some v.node | false ↦ None ]) (sym ej)
 
-    pub of-rank : j ≡ r → some v.node ≡ pattern_for T x r k
-    of-rank h = sym (ranked-as ∙ ap (λ (b : Bool). elim b [ true ↦ some v.node | false ↦ none ]) (eq-eqb _ _ h))
+    pub of-rank : j ≡ r → Some v.node ≡ pattern_for T x r k
+    of-rank h = sym (ranked-as ∙ ap (λ (b : Bool). elim b [ true ↦ Some v.node | false ↦ None ]) (eq-eqb _ _ h))
 
-    pub not-of-rank : (j ≡ r → ⊥) → none ≡ pattern_for T x r k
-    not-of-rank h = sym (ranked-as ∙ ap (λ (b : Bool). elim b [ true ↦ some v.node | false ↦ none ]) (ne_eqb _ _ h))
+    pub not-of-rank : (j ≡ r → ⊥) → None ≡ pattern_for T x r k
+    not-of-rank h = sym (ranked-as ∙ ap (λ (b : Bool). elim b [ true ↦ Some v.node | false ↦ None ]) (ne_eqb _ _ h))
 
 -- Those of one rank, of which the first i are done.
 abbrev picked : Tables → ℕ → ℕ → List Constraint → List Constraint
@@ -107,15 +105,15 @@ module _ (T : Tables) (x r t : ℕ) (path : File.FieldPath) where
 
   -- what is done with a pattern that may be found
   unfoldable pub by : Option ℕ → State → State
-  by none s = s
-  by (some p) s = narrow_or T p t path true s
+  by None s = s
+  by (Some p) s = narrow_or T p t path true s
 
-  by_rank : (k : Constraint) (ks : List Constraint) (s : State) (b : Bool) → constrain_each (ops T) T (elim b [ true ↦ k ∷ picked T x r ks | false ↦ picked T x r ks ]) t path s ≡ constrain_each (ops T) T (picked T x r ks) t path (by (elim b [ true ↦ some k.node | false ↦ none ]) s)
+  by_rank : (k : Constraint) (ks : List Constraint) (s : State) (b : Bool) → constrain_each (ops T) T (elim b [ true ↦ k ∷ picked T x r ks | false ↦ picked T x r ks ]) t path s ≡ constrain_each (ops T) T (picked T x r ks) t path (by (elim b [ true ↦ Some k.node | false ↦ None ]) s)
   unfolding constrain_each by narrow_or
   by_rank k ks s true = refl
   by_rank k ks s false = refl
 
-  by_name : (k : Constraint) (ks : List Constraint) (s : State) (b : Bool) → constrain_each (ops T) T (filter (λ k. eqb (rank (node_at T k.node)) r) (elim b [ true ↦ k ∷ filter (λ k. eqb k.name x) ks | false ↦ filter (λ k. eqb k.name x) ks ])) t path s ≡ constrain_each (ops T) T (picked T x r ks) t path (by (elim b [ true ↦ elim (eqb (rank (node_at T k.node)) r) [ true ↦ some k.node | false ↦ none ] | false ↦ none ]) s)
+  by_name : (k : Constraint) (ks : List Constraint) (s : State) (b : Bool) → constrain_each (ops T) T (filter (λ k. eqb (rank (node_at T k.node)) r) (elim b [ true ↦ k ∷ filter (λ k. eqb k.name x) ks | false ↦ filter (λ k. eqb k.name x) ks ])) t path s ≡ constrain_each (ops T) T (picked T x r ks) t path (by (elim b [ true ↦ elim (eqb (rank (node_at T k.node)) r) [ true ↦ Some k.node | false ↦ None ] | false ↦ None ]) s)
   unfolding filter by
   by_name k ks s true = by_rank k ks s (eqb (rank (node_at T k.node)) r)
   by_name k ks s false = refl
@@ -134,27 +132,27 @@ module _ (T : Tables) (x r t : ℕ) (path : File.FieldPath) where
   going-first s w p = record { low = omega arith; work-long = refl; plan-long = refl; is = refl }
 
   module _ (i : ℕ) (s₀ s : State) (w₀ p₀ w p : List ℕ) (v : Going i s₀ s w₀ p₀ w p) where
-    module _ (h : i < length T.constraints) (q : Found) (e : found_option q ≡ pattern_for T x r (constraint_at T i)) where
-      next : from T.constraints s₀ ≡ from (drop (i + 1) T.constraints) (by (found_option q) s)
+    module _ (h : i < length T.constraints) (q : Option ℕ) (e : q ≡ pattern_for T x r (constraint_at T i)) where
+      next : from T.constraints s₀ ≡ from (drop (i + 1) T.constraints) (by (q) s)
       unfolding constraint_at
       next =
           v.is
           ∙ ap (λ ks. from ks s) (drop-cons T.constraints i no_constraint h)
           ∙ from_cons (constraint_at T i) (drop (suc i) T.constraints) s
           ∙ ap (λ (o : Option ℕ). from (drop (suc i) T.constraints) (by o s)) (sym e)
-          ∙ ap (λ (j : ℕ). from (drop j T.constraints) (by (found_option q) s)) (sym (add-one i))
+          ∙ ap (λ (j : ℕ). from (drop j T.constraints) (by (q) s)) (sym (add-one i))
 
-      pub going-not : q ≡ Fo.Nothing → Going (i + 1) s₀ s w₀ p₀ w p
+      pub going-not : q ≡ None → Going (i + 1) s₀ s w₀ p₀ w p
       unfolding by
       going-not d =
           record {
             low = omega arith;
             work-long = v.work-long;
             plan-long = v.plan-long;
-            is = next ∙ ap (λ (y : Found). from (drop (i + 1) T.constraints) (by (found_option y) s)) d;
+            is = next ∙ ap (λ (y : Option ℕ). from (drop (i + 1) T.constraints) (by (y) s)) d;
           }
 
-      pub going-one : (n : ℕ) → q ≡ Fo.Just n → (s' : State) → s' ≡ narrow_or T n t path true s → (w' p' : List ℕ) → length w' ≡ length w → length p' ≡ length p → Going (i + 1) s₀ s' w₀ p₀ w' p'
+      pub going-one : (n : ℕ) → q ≡ Some n → (s' : State) → s' ≡ narrow_or T n t path true s → (w' p' : List ℕ) → length w' ≡ length w → length p' ≡ length p → Going (i + 1) s₀ s' w₀ p₀ w' p'
       unfolding by
       going-one n d s' g w' p' ew ep =
           record {
@@ -163,7 +161,7 @@ module _ (T : Tables) (x r t : ℕ) (path : File.FieldPath) where
             plan-long = ep ∙ v.plan-long;
             is =
                 next
-                ∙ ap (λ (y : Found). from (drop (i + 1) T.constraints) (by (found_option y) s)) d
+                ∙ ap (λ (y : Option ℕ). from (drop (i + 1) T.constraints) (by (y) s)) d
                 ∙ ap (from (drop (i + 1) T.constraints)) (sym g);
           }
 
@@ -171,47 +169,30 @@ module _ (T : Tables) (x r t : ℕ) (path : File.FieldPath) where
     unfolding from constraints_of filter constrain_each
     going_end h = sym (v.is ∙ ap (λ ks. from ks s) (drop_of_length-le T.constraints h))
 
--- Whether any constraint has the name, looked for from the front.
+-- Whether any constraint has the name, as an iterator's `any` has it.
 module _ (T : Tables) (x : ℕ) where
   abbrev named : Constraint → Bool
   named k = eqb k.name x
 
   abbrev told : Option Constraint → Bool
-  told o = elim o [ none ↦ false | some k ↦ true ]
+  told o = elim o [ None ↦ false | Some k ↦ true ]
 
-  pub record Seeking (i : ℕ) : Type 0 where
-    pub low : i ≤ length T.constraints
-    pub is : first named T.constraints ≡ first named (drop i T.constraints)
+  or-told : (b : Bool) (k : Constraint) (o : Option Constraint) → (b || told o) ≡ told (elim b [ true ↦ Some k | false ↦ o ])
+  or-told true k o = refl
+  or-told false k o = refl
 
-  pub seek-first : Seeking 0
-  seek-first = record { low = omega arith; is = refl }
+  any-from : (n i : ℕ) → length T.constraints ≡ i + n → list_any (λ k. eqb (constraint_at T k).name x) (range_with_len i n) ≡ told (first named (drop i T.constraints))
+  unfolding first constraint_at
+  any-from zero i e = sym (ap (λ ks. told (first named ks)) (drop_of_length-le T.constraints {i = i} (omega arith)))
+  any-from (suc n) i e =
+      ap (λ (b : Bool). named (constraint_at T i) || b)
+      (ap (λ (j : ℕ). list_any (λ k. eqb (constraint_at T k).name x) (range_with_len j n)) (add-one i) ∙ any-from n (suc i) (omega arith))
+      ∙ or-told (named (constraint_at T i)) (constraint_at T i) (first named (drop (suc i) T.constraints))
+      ∙ sym (ap (λ ks. told (first named ks)) (drop-cons T.constraints i no_constraint (omega arith)))
 
-  module _ (i : ℕ) (g : Seeking i) where
-    module _ (h : i < length T.constraints) (v : CodeConstraint.Constraint) (e : constraint_of v ≡ constraint_at T i) where
-      here : first named T.constraints ≡ elim (named (constraint_of v)) [ true ↦ some (constraint_of v) | false ↦ first named (drop (suc i) T.constraints) ]
-      unfolding first constraint_at
-      here =
-          g.is
-          ∙ ap (first named) (drop-cons T.constraints i no_constraint h)
-          ∙ ap (λ (k : Constraint). elim (named k) [ true ↦ some k | false ↦ first named (drop (suc i) T.constraints) ]) (sym e)
-
-      pub seek-more : (v.name ≡ x → ⊥) → Seeking (i + 1)
-      seek-more d =
-          record {
-            low = omega arith;
-            is =
-                here
-                ∙ ap (λ (b : Bool). elim b [ true ↦ some (constraint_of v) | false ↦ first named (drop (suc i) T.constraints) ]) (ne_eqb _ _ d)
-                ∙ ap (λ (j : ℕ). first named (drop j T.constraints)) (sym (add-one i));
-          }
-
-      pub seek_hit : v.name ≡ x → true ≡ is_constrained T x
-      unfolding is_constrained
-      seek_hit d = sym (ap told (here ∙ ap (λ (b : Bool). elim b [ true ↦ some (constraint_of v) | false ↦ first named (drop (suc i) T.constraints) ]) (eq-eqb _ _ d)))
-
-    pub seek-end : length T.constraints ≤ i → false ≡ is_constrained T x
-    unfolding is_constrained first
-    seek-end h = sym (ap told (g.is ∙ ap (first named) (drop_of_length-le T.constraints h)))
+  pub any-constrained : (n : ℕ) → n ≡ length T.constraints → list_any (λ k. eqb (constraint_at T k).name x) (range_with_len 0 (n - 0)) ≡ is_constrained T x
+  unfolding is_constrained
+  any-constrained n e = any-from (n - 0) 0 (omega arith)
 
 -- The ranks one after another: there are four, so that a name has a constraint exactly where one of them does.
 anchor-small : (a : File.Anchor) → anchor_rank a < 4
@@ -258,21 +239,21 @@ filled-right : (a b : List Constraint) → filled b ≡ true → filled (a ++ b)
 filled-right [] b h = h
 filled-right (k ∷ a) b h = refl
 
-filter_none : (p : Constraint → Bool) (ks : List Constraint) → first p ks ≡ none → filter p ks ≡ []
+filter_none : (p : Constraint → Bool) (ks : List Constraint) → first p ks ≡ None → filter p ks ≡ []
 unfolding first filter
 filter_none p [] h = refl
 filter_none p (k ∷ ks) h = go (p k) h (filter_none p ks)
   where
-    go : (b : Bool) → ◌≡◌ {A = Option Constraint} (elim b [ true ↦ some k | false ↦ first p ks ]) none → (first p ks ≡ none → filter p ks ≡ []) → ◌≡◌ {A = List Constraint} (elim b [ true ↦ k ∷ filter p ks | false ↦ filter p ks ]) []
+    go : (b : Bool) → ◌≡◌ {A = Option Constraint} (elim b [ true ↦ Some k | false ↦ first p ks ]) None → (first p ks ≡ None → filter p ks ≡ []) → ◌≡◌ {A = List Constraint} (elim b [ true ↦ k ∷ filter p ks | false ↦ filter p ks ]) []
     go true e rest = absurd (some≢none k e)
     go false e rest = rest e
 
-filter-some : (p : Constraint → Bool) (ks : List Constraint) (c : Constraint) → first p ks ≡ some c → filled (filter p ks) ≡ true
+filter-some : (p : Constraint → Bool) (ks : List Constraint) (c : Constraint) → first p ks ≡ Some c → filled (filter p ks) ≡ true
 unfolding first filter
 filter-some p [] c h = absurd (some≢none c (sym h))
 filter-some p (k ∷ ks) c h = go (p k) h (filter-some p ks c)
   where
-    go : (b : Bool) → ◌≡◌ {A = Option Constraint} (elim b [ true ↦ some k | false ↦ first p ks ]) (some c) → (first p ks ≡ some c → filled (filter p ks) ≡ true) → filled (elim b [ true ↦ k ∷ filter p ks | false ↦ filter p ks ]) ≡ true
+    go : (b : Bool) → ◌≡◌ {A = Option Constraint} (elim b [ true ↦ Some k | false ↦ first p ks ]) (Some c) → (first p ks ≡ Some c → filled (filter p ks) ≡ true) → filled (elim b [ true ↦ k ∷ filter p ks | false ↦ filter p ks ]) ≡ true
     go true e rest = refl
     go false e rest = rest e
 
@@ -303,16 +284,16 @@ module _ (T : Tables) (x : ℕ) where
   ranked-filled h = go (first (named T x) T.constraints) refl h
     where
       go : (o : Option Constraint) → first (named T x) T.constraints ≡ o → told T x o ≡ true → filled (in_turn (filter (named T x) T.constraints)) ≡ true
-      go none e q = absurd (true≢false cc)
-      go (some k) e q = in-turn-filled (filter (named T x) T.constraints) (filter-some (named T x) T.constraints k e)
+      go None e q = absurd (true≢false cc)
+      go (Some k) e q = in-turn-filled (filter (named T x) T.constraints) (filter-some (named T x) T.constraints k e)
 
   ranked-none : is_constrained T x ≡ false → ranked T x ≡ []
   unfolding is_constrained ranked constraints_of filter
   ranked-none h = go (first (named T x) T.constraints) refl h
     where
       go : (o : Option Constraint) → first (named T x) T.constraints ≡ o → told T x o ≡ false → in_turn (filter (named T x) T.constraints) ≡ []
-      go none e q = ap in_turn (filter_none (named T x) T.constraints e)
-      go (some k) e q = absurd (true≢false cc)
+      go None e q = ap in_turn (filter_none (named T x) T.constraints e)
+      go (Some k) e q = absurd (true≢false cc)
 
   module _ (t : ℕ) (path : File.FieldPath) where
     each_append : (ks ls : List Constraint) (s : State) → constrain_each (ops T) T (ks ++ ls) t path s ≡ constrain_each (ops T) T ls t path (constrain_each (ops T) T ks t path s)

@@ -1,6 +1,5 @@
 -- What narrows a walk: a pattern's constant, and the patterns that constrain a variable.
-use Rattle.std.specs.Prelude.{ℕ, Bool, true, false, ◌≡◌, eqb}
-use Rattle.std.proofs.Math.Option.{Option, none, some}
+use Rattle.std.specs.Prelude.{ℕ, Bool, true, false, ◌≡◌, eqb, Option, None, Some}
 use Rattle.rules.specs.Base.{first}
 use Rattle.rules.specs.File as File
 use Rattle.rules.specs.File.{Tables, Constraint, node_at}
@@ -14,19 +13,19 @@ use Rattle.walk.specs.Walk.{diagnosed}
 use Rattle.constant.specs.declared.Const.{Const}
 use Rattle.constant.specs.declared.Const.TheVariants as Co
 
-abbrev pub is_nothing : Const → Bool
-is_nothing Co.Nothing = true
-is_nothing (Co.Bytes n t len) = false
-is_nothing (Co.Prefix x) = false
-is_nothing (Co.Fuzzy x d a) = false
+abbrev pub is_nothing : Option Const → Bool
+is_nothing None = true
+is_nothing (Some (Co.Bytes n t len)) = false
+is_nothing (Some (Co.Prefix x)) = false
+is_nothing (Some (Co.Fuzzy x d a)) = false
 
 -- whether there is a constant
 abbrev pub is_some : {A : Type 0} → Option A → Bool
-is_some none = false
-is_some (some c) = true
+is_some None = false
+is_some (Some c) = true
 
 -- c is the constant of node n at type t, if it has one
-pub record Known (T : Tables) (n t : ℕ) (c : Const) : Type 0 where
+pub record Known (T : Tables) (n t : ℕ) (c : Option Const) : Type 0 where
   pub is : const_of T c ≡ constant T n t
   pub some : is_nothing c ≡ false → true ≡ is_some (constant T n t)
   pub made : is_nothing c ≡ false → IsConstant T c
@@ -35,17 +34,17 @@ pub record Known (T : Tables) (n t : ℕ) (c : Const) : Type 0 where
 unfoldable pub narrow_or : Tables → ℕ → ℕ → File.FieldPath → Bool → State → State
 narrow_or T n t path falls s =
     elim (constant T n t) [
-      | some c ↦ narrow_by (ops T) T n c path s
-      | none ↦ diagnosed n Code.RejectTypeMismatch falls s
+      | Some c ↦ narrow_by (ops T) T n c path s
+      | None ↦ diagnosed n Code.RejectTypeMismatch falls s
     ]
 
 -- the pattern of a constraint, if it constrains name x and has rank r
 unfoldable pub pattern_for : Tables → ℕ → ℕ → Constraint → Option ℕ
 pattern_for T x r k =
     elim (eqb k.name x) [
-      | true ↦ elim (eqb (rank (node_at T k.node)) r) [ true ↦ some k.node | false ↦ none ]
-      | false ↦ none
+      | true ↦ elim (eqb (rank (node_at T k.node)) r) [ true ↦ Some k.node | false ↦ None ]
+      | false ↦ None
     ]
 
 unfoldable pub is_constrained : Tables → ℕ → Bool
-is_constrained T x = elim (first (λ k. eqb k.name x) T.constraints) [ none ↦ false | some k ↦ true ]
+is_constrained T x = elim (first (λ k. eqb k.name x) T.constraints) [ None ↦ false | Some k ↦ true ]

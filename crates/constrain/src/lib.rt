@@ -11,7 +11,6 @@ ghost use Rattle.file.specs.Tables.{Indexed, tables_of};
 ghost use Rattle.paths.specs.Paths.{path_of};
 ghost use Rattle.views.specs.Views.{anchor_of, constraint_at};
 ghost use Rattle.accepted_file.specs.AcceptedFile.{AcceptedFile};
-ghost use Rattle.tables.specs.Tables.{found_option};
 ghost use Rattle.seek.specs.Narrow.{IsConstant, const_of, narrowed_by};
 ghost use Rattle.walk.specs.Walk.{walk_state};
 ghost use Rattle.constrain.specs.Constrain.{is_nothing, Known, narrow_or, pattern_for, is_constrained};
@@ -21,30 +20,24 @@ use file::{CONSTRAINTS, NODES};
 use lists::Code;
 use narrow::narrowed;
 use paths::FieldPath;
-use tables::Found;
 use views::{Anchor, NodeView, constraint_at, count_of, node_of};
 use walk::Walk;
 
 // Whether there is no constant.
-pub fn is_nothing(c: Const) -> bool
+pub fn is_nothing(c: Option<Const>) -> bool
     ensures { result ≡ is_nothing c }
 {
-    match c {
-        Const::Nothing => true,
-        Const::Bytes(_, _, _) => false,
-        Const::Prefix(_) => false,
-        Const::Fuzzy(_, _, _) => false,
-    }
+    matches!(c, None)
 }
 
 // The constant that a node is at a type.
-pub fn known(file: &[u8], index: &[u16], node: usize, ty: usize) -> Const
+pub fn known(file: &[u8], index: &[u16], node: usize, ty: usize) -> Option<Const>
     requires accepted_file { AcceptedFile file.now index.now }
     requires ty_in_bounds { ty < length (tables_of file.now).types }
     ensures { Known (tables_of file.now) node ty result }
 {
     if node >= count_of(file, index, NODES) {
-        return Const::Nothing;
+        return None;
     }
     constant(file, index, node, ty)
 }
@@ -55,7 +48,7 @@ pub fn narrow(
     index: &[u16],
     plan: &mut [u8],
     node: usize,
-    c: Const,
+    c: Option<Const>,
     path: FieldPath,
     w: Walk,
 ) -> Walk
@@ -145,20 +138,17 @@ fn rank_of(file: &[u8], index: &[u16], node: usize) -> usize
 }
 
 // The pattern of constraint k, if it is of the name and the rank.
-fn pattern_for(file: &[u8], index: &[u16], name: usize, rank: usize, k: usize) -> Found
+fn pattern_for(file: &[u8], index: &[u16], name: usize, rank: usize, k: usize) -> Option<usize>
     requires indexed { Indexed file.now index.now }
     requires k_in_bounds { k < length (tables_of file.now).constraints }
     ensures { let T = tables_of file.now in
-        found_option result ≡ pattern_for T name rank (constraint_at T k) }
+        result ≡ pattern_for T name rank (constraint_at T k) }
 {
     let c = constraint_at(file, index, k);
-    if c.name != name {
-        return Found::Nothing;
-    }
-    if rank_of(file, index, c.node) == rank {
-        Found::Just(c.node)
+    if c.name == name && rank_of(file, index, c.node) == rank {
+        Some(c.node)
     } else {
-        Found::Nothing
+        None
     }
 }
 
@@ -181,15 +171,12 @@ fn constrain_rank(
         let after = walk_state T result work.new plan.new in
         after ≡ WalkRules.constrain_each (ops T) T (WalkRules.constraints_of T name rank) ty (path_of path) before }
 {
-    let n = count_of(file, index, CONSTRAINTS);
     let mut l = w;
-    let mut k: usize = 0;
-    while k < n {
-        let found = pattern_for(file, index, name, rank, k);
-        k += 1;
-        if let Found::Just(p) = found {
-            l = narrow_or_report(file, index, work, plan, p, ty, path, true, l);
-        }
+    for k in 0..count_of(file, index, CONSTRAINTS) {
+        let Some(p) = pattern_for(file, index, name, rank, k) else {
+            continue;
+        };
+        l = narrow_or_report(file, index, work, plan, p, ty, path, true, l);
     }
     l
 }
@@ -199,16 +186,7 @@ fn is_constrained(file: &[u8], index: &[u16], name: usize) -> bool
     requires { Indexed file.now index.now }
     ensures { result ≡ is_constrained (tables_of file.now) name }
 {
-    let n = count_of(file, index, CONSTRAINTS);
-    let mut k: usize = 0;
-    while k < n {
-        let c = constraint_at(file, index, k);
-        if c.name == name {
-            return true;
-        }
-        k += 1;
-    }
-    false
+    (0..count_of(file, index, CONSTRAINTS)).any(|k| constraint_at(file, index, k).name == name)
 }
 
 // The field that captures a variable, narrowed by every pattern that constrains it; without any, the comparisons bound the level.

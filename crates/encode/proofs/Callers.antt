@@ -2,7 +2,7 @@
 use Prim.Native.Nat.{ℕ, ◌+◌, ◌≤◌}
 use mathlib.Core.Path.{◌≡◌, sym, ap, ◌∙◌}
 use mathlib.Core.List.{List}
-use mathlib.Core.Option.{Option, some}
+use Rattle.std.specs.Prelude.{Option, Some}
 use native.Mathlib.Omega.{arith}
 use lib.ListN.{length}
 use Rattle.rules.specs.Base.{◌when_some◌}
@@ -16,8 +16,8 @@ use Rattle.constant.specs.declared.Const.TheVariants as Co
 use Rattle.constant.proofs.Known.{known_bytes}
 use Rattle.encode.specs.Written.{or_empty, bytes_of, RoomForBytes}
 
-module _ (T : Tables) (n t m s l : ℕ) (e : const_view T n t ≡ Co.Bytes m s l) (short : l ≤ plan_limit) where
-  found : bytes_of T n t ≡ some (known_bytes T n t m s l e).bytes
+module _ (T : Tables) (n t m s l : ℕ) (e : const_view T n t ≡ Some (Co.Bytes m s l)) (short : l ≤ plan_limit) where
+  found : bytes_of T n t ≡ Some (known_bytes T n t m s l e).bytes
   unfolding bytes_of ◌when_some◌ bytes_only
   found = ap (λ (o : Option ConstantRules.Const). o when_some bytes_only) (known_bytes T n t m s l e).is
 
@@ -25,11 +25,11 @@ module _ (T : Tables) (n t m s l : ℕ) (e : const_view T n t ≡ Co.Bytes m s l
   unfolding or_empty
   same = ap or_empty found
 
-  pub bytes-are : ConstantRules.constant T n t ≡ some (ConstantRules.Const.Bytes (or_empty (bytes_of T n t)))
-  bytes-are = (known_bytes T n t m s l e).is ∙ ap (λ (x : List ℕ). some (ConstantRules.Const.Bytes x)) (sym same)
+  pub bytes-are : ConstantRules.constant T n t ≡ Some (ConstantRules.Const.Bytes (or_empty (bytes_of T n t)))
+  bytes-are = (known_bytes T n t m s l e).is ∙ ap (λ (x : List ℕ). Some (ConstantRules.Const.Bytes x)) (sym same)
 
   pub bytes-size : l ≡ length (or_empty (bytes_of T n t))
   bytes-size = omega (arith, (known_bytes T n t m s l e).size, ap length same)
 
   pub bytes-here : (at : ℕ) → at + l ≤ reach → RoomForBytes (bytes_of T n t) at
-  bytes-here at h = record { is = found ∙ ap some (sym same); room = omega (arith, bytes-size) }
+  bytes-here at h = record { is = found ∙ ap Some (sym same); room = omega (arith, bytes-size) }

@@ -2,7 +2,7 @@
 use Prim.Native.Nat.{ℕ, zero, suc, ◌+◌, ◌*◌, ◌≤◌, ◌<◌}
 use mathlib.Core.Path.{◌≡◌, refl, sym, ap, ◌∙◌, subst}
 use mathlib.Core.List.{List, [], ◌∷◌, ◌++◌}
-use mathlib.Core.Option.{Option, none, some}
+use Rattle.std.specs.Prelude.{Option, None, Some}
 use native.Mathlib.Omega.{arith}
 use lib.ListN.{length, length-append}
 use types.Run.{OneOf, miss}
@@ -25,11 +25,7 @@ use Rattle.views.specs.declared.TypeView.{TypeView}
 use Rattle.views.specs.declared.TypeView.TheVariants as Tv
 use Rattle.views.specs.contracts.NodeView as NodeViews
 use Rattle.views.specs.contracts.TypeView as TypeViews
-use Rattle.tables.specs.Tables.{found_option, alternative_option}
-use Rattle.tables.specs.declared.Found.{Found}
-use Rattle.tables.specs.declared.Found.TheVariants as Fo
-use Rattle.tables.specs.declared.MaybeAlternative.{MaybeAlternative}
-use Rattle.tables.specs.declared.MaybeAlternative.TheVariants as Ma
+use Rattle.tables.specs.Tables.{alternative_option}
 use Rattle.constant.specs.Sizes.{field_bytes}
 use Rattle.constant.proofs.Measured.{fields_from, fields-start, fields-more, fields-end, neither}
 use Rattle.constant.proofs.Arms.{ConstantSeen}
@@ -37,14 +33,14 @@ use Rattle.records.specs.Records.{put, reach}
 use Rattle.encode.specs.Written.{or_empty, bytes_of, record_bytes, RoomForBytes, Wrote}
 use Rattle.encode.proofs.Puts.{wrote_one, wrote_then, wrote_as, wrote-end, Going, going_start, going_more, going_end}
 
-full : (o : Option (List ℕ)) (x : List ℕ) → o ≡ some x → or_empty o ≡ x
+full : (o : Option (List ℕ)) (x : List ℕ) → o ≡ Some x → or_empty o ≡ x
 unfolding or_empty
 full o x e = ap or_empty e
 
-there : (o : Option (List ℕ)) (x : List ℕ) → o ≡ some x → o ≡ some (or_empty o)
-there o x e = e ∙ ap some (sym (full o x e))
+there : (o : Option (List ℕ)) (x : List ℕ) → o ≡ Some x → o ≡ Some (or_empty o)
+there o x e = e ∙ ap Some (sym (full o x e))
 
-pub nowhere : (o : Option (List ℕ)) (at : ℕ) → RoomForBytes o at → o ≡ none → ⊥
+pub nowhere : (o : Option (List ℕ)) (at : ℕ) → RoomForBytes o at → o ≡ None → ⊥
 nowhere o at h e = some≢none (or_empty o) (sym h.is ∙ e)
 
 -- the same bytes under another name
@@ -56,12 +52,12 @@ wrote-same o o' at end w w' a e = subst (λ (q : Option (List ℕ)). Wrote (or_e
 
 -- a scalar's bytes, at whatever type it has them
 module _ (c bytes : List ℕ) where
-  alone : (o : Option ConstantRules.Const) → Perhaps (λ k. ConstantRules.Const.Bytes c ≡ k) o → (o when_some bytes_only) ≡ some bytes → c ≡ bytes
+  alone : (o : Option ConstantRules.Const) → Perhaps (λ k. ConstantRules.Const.Bytes c ≡ k) o → (o when_some bytes_only) ≡ Some bytes → c ≡ bytes
   unfolding ◌when_some◌ bytes_only
-  alone none h e = absurd (some≢none bytes (sym e))
-  alone (some k) h e = some-injective c bytes (ap bytes_only (perhaps-some k h refl) ∙ e)
+  alone None h e = absurd (some≢none bytes (sym e))
+  alone (Some k) h e = some-injective c bytes (ap bytes_only (perhaps-some k h refl) ∙ e)
 
-no-prefix : (x : List ℕ) (ty : Ty) → (at_str ty (ConstantRules.Const.Prefix x) when_some bytes_only) ≡ none
+no-prefix : (x : List ℕ) (ty : Ty) → (at_str ty (ConstantRules.Const.Prefix x) when_some bytes_only) ≡ None
 unfolding at_str ◌when_some◌ bytes_only
 no-prefix x Ty.Int = refl
 no-prefix x Ty.Str = refl
@@ -70,7 +66,7 @@ no-prefix x (Ty.Fact p) = refl
 no-prefix x (Ty.Record fs) = refl
 no-prefix x (Ty.Union alts) = refl
 
-no-fuzzy : (x d : ℕ) (a : File.Anchor) (ty : Ty) → (at_str ty (ConstantRules.Const.Fuzzy x d a) when_some bytes_only) ≡ none
+no-fuzzy : (x d : ℕ) (a : File.Anchor) (ty : Ty) → (at_str ty (ConstantRules.Const.Fuzzy x d a) when_some bytes_only) ≡ None
 unfolding at_str ◌when_some◌ bytes_only
 no-fuzzy x d a Ty.Int = refl
 no-fuzzy x d a Ty.Str = refl
@@ -80,7 +76,7 @@ no-fuzzy x d a (Ty.Record fs) = refl
 no-fuzzy x d a (Ty.Union alts) = refl
 
 -- a node that has no bytes
-no_bytes : (T : Tables) (b : ℕ → ℕ → Option ConstantRules.Const) (f : List ℕ) (v : NodeView) (ty : Ty) → OneOf (3 ∷ 4 ∷ 5 ∷ 6 ∷ 7 ∷ 9 ∷ 10 ∷ 11 ∷ 12 ∷ 13 ∷ 14 ∷ 15 ∷ 16 ∷ []) (tag_of NodeViews.the_type v) → (constant_node T b (node_of f v) ty when_some bytes_only) ≡ none
+no_bytes : (T : Tables) (b : ℕ → ℕ → Option ConstantRules.Const) (f : List ℕ) (v : NodeView) (ty : Ty) → OneOf (3 ∷ 4 ∷ 5 ∷ 6 ∷ 7 ∷ 9 ∷ 10 ∷ 11 ∷ 12 ∷ 13 ∷ 14 ∷ 15 ∷ 16 ∷ []) (tag_of NodeViews.the_type v) → (constant_node T b (node_of f v) ty when_some bytes_only) ≡ None
 unfolding constant_node ◌when_some◌
 no_bytes T b f (Nv.Int at) ty w = absurd (miss (3 ∷ 4 ∷ 5 ∷ 6 ∷ 7 ∷ 9 ∷ 10 ∷ 11 ∷ 12 ∷ 13 ∷ 14 ∷ 15 ∷ 16 ∷ []) 0 tt w)
 no_bytes T b f (Nv.Str x) ty w = absurd (miss (3 ∷ 4 ∷ 5 ∷ 6 ∷ 7 ∷ 9 ∷ 10 ∷ 11 ∷ 12 ∷ 13 ∷ 14 ∷ 15 ∷ 16 ∷ []) 1 tt w)
@@ -126,29 +122,29 @@ module _ (f : List ℕ) (T : Tables) (n t : ℕ) (v : NodeView) (k : ConstantSee
   put_other at h w = nowhere (bytes_of T n t) at h (node-bytes v refl ∙ no_bytes T (ConstantRules.constant T) f v (type_at T t) w)
 
 -- A field's bytes are those of its pattern.
-module _ (T : Tables) (patterns : List File.FieldPattern) (x t : ℕ) (r : Found) (e : found_option r ≡ field_pattern patterns x) where
-  pub field-bytes : (p : ℕ) → r ≡ Fo.Just p → field_bytes (ConstantRules.constant T) patterns x t ≡ bytes_of T p t
+module _ (T : Tables) (patterns : List File.FieldPattern) (x t : ℕ) (r : Option ℕ) (e : r ≡ field_pattern patterns x) where
+  pub field-bytes : (p : ℕ) → r ≡ Some p → field_bytes (ConstantRules.constant T) patterns x t ≡ bytes_of T p t
   unfolding field_bytes bytes_of ◌when_some◌
-  field-bytes p q = sym (ap (λ (o : Option ℕ). o when_some λ p. ConstantRules.constant T p t when_some bytes_only) (sym (ap found_option q) ∙ e))
+  field-bytes p q = sym (ap (λ (o : Option ℕ). o when_some λ p. ConstantRules.constant T p t when_some bytes_only) (sym (q) ∙ e))
 
-  pub field-missing : (at : ℕ) → RoomForBytes (field_bytes (ConstantRules.constant T) patterns x t) at → r ≡ Fo.Nothing → ⊥
+  pub field-missing : (at : ℕ) → RoomForBytes (field_bytes (ConstantRules.constant T) patterns x t) at → r ≡ None → ⊥
   unfolding field_bytes ◌when_some◌
-  field-missing at h q = nowhere _ at h (sym (ap (λ (o : Option ℕ). o when_some λ p. ConstantRules.constant T p t when_some bytes_only) (sym (ap found_option q) ∙ e)))
+  field-missing at h q = nowhere _ at h (sym (ap (λ (o : Option ℕ). o when_some λ p. ConstantRules.constant T p t when_some bytes_only) (sym (q) ∙ e)))
 
 -- The fields, one after another.
 module _ (b : ℕ → ℕ → Option ConstantRules.Const) (patterns : List File.FieldPattern) (f : List ℕ) (k from : ℕ) where
   record Split (i : ℕ) (v : FieldTy) : Type 0 where
-    first : field_bytes b patterns v.name v.ty ≡ some (or_empty (field_bytes b patterns v.name v.ty))
-    rest : fields_from b patterns f k from (i + 1) ≡ some (or_empty (fields_from b patterns f k from (i + 1)))
+    first : field_bytes b patterns v.name v.ty ≡ Some (or_empty (field_bytes b patterns v.name v.ty))
+    rest : fields_from b patterns f k from (i + 1) ≡ Some (or_empty (fields_from b patterns f k from (i + 1)))
     joined : or_empty (fields_from b patterns f k from i) ≡ or_empty (field_bytes b patterns v.name v.ty) ++ or_empty (fields_from b patterns f k from (i + 1))
 
-  split : (i : ℕ) (v : FieldTy) → i < k → field_of v ≡ field_at f (from + 4 * i) → fields_from b patterns f k from i ≡ some (or_empty (fields_from b patterns f k from i)) → Split i v
+  split : (i : ℕ) (v : FieldTy) → i < k → field_of v ≡ field_at f (from + 4 * i) → fields_from b patterns f k from i ≡ Some (or_empty (fields_from b patterns f k from i)) → Split i v
   split i v h e g =
       let x = field_bytes b patterns v.name v.ty in
       let y = fields_from b patterns f k from (i + 1) in
       let all = or_empty (fields_from b patterns f k from i) in
-      let p = bind-some x (λ bytes. y when_some λ more. some (bytes ++ more)) all (sym (fields-more b patterns f k from i v h e) ∙ g) in
-      let q = bind-some y (λ more. some (p.0 ++ more)) all p.2 in
+      let p = bind-some x (λ bytes. y when_some λ more. Some (bytes ++ more)) all (sym (fields-more b patterns f k from i v h e) ∙ g) in
+      let q = bind-some y (λ more. Some (p.0 ++ more)) all p.2 in
       record {
         first = there x p.0 p.1;
         rest = there y q.0 q.1;
@@ -158,13 +154,13 @@ module _ (b : ℕ → ℕ → Option ConstantRules.Const) (patterns : List File.
   module _ (at : ℕ) (w : List ℕ) where
     pub record Fielding (i p : ℕ) (v : List ℕ) : Type 0 where
       pub within : i ≤ k
-      pub given : fields_from b patterns f k from i ≡ some (or_empty (fields_from b patterns f k from i))
+      pub given : fields_from b patterns f k from i ≡ Some (or_empty (fields_from b patterns f k from i))
       pub going : Going (or_empty (constant_fields b patterns (run (field_at f) 4 k from))) at w (or_empty (fields_from b patterns f k from i)) p v
 
     pub put-start : RoomForBytes (constant_fields b patterns (run (field_at f) 4 k from)) at → Fielding 0 at w
     put-start h =
         let e = fields-start b patterns f k from in
-        record { within = omega arith; given = sym e ∙ h.is ∙ ap (λ (o : Option (List ℕ)). some (or_empty o)) e; going = going_start _ _ at w (ap or_empty e) }
+        record { within = omega arith; given = sym e ∙ h.is ∙ ap (λ (o : Option (List ℕ)). Some (or_empty o)) e; going = going_start _ _ at w (ap or_empty e) }
 
     pub put-here : RoomForBytes (constant_fields b patterns (run (field_at f) 4 k from)) at → (i p : ℕ) (u : List ℕ) → Fielding i p u → i < k → (v : FieldTy) → field_of v ≡ field_at f (from + 4 * i) → RoomForBytes (field_bytes b patterns v.name v.ty) p
     put-here h i p u g l v e =
@@ -182,17 +178,17 @@ module _ (b : ℕ → ℕ → Option ConstantRules.Const) (patterns : List File.
 
 -- A record around its fields.
 module _ (b : ℕ → ℕ → Option ConstantRules.Const) (patterns : List File.FieldPattern) where
-  record-parts : (fs : List File.FieldTy) (bytes : List ℕ) → record_bytes b patterns (Ty.Record fs) ≡ some bytes → (constant_fields b patterns fs ≡ some (or_empty (constant_fields b patterns fs))) × (bytes ≡ encode_record (or_empty (constant_fields b patterns fs)))
+  record-parts : (fs : List File.FieldTy) (bytes : List ℕ) → record_bytes b patterns (Ty.Record fs) ≡ Some bytes → (constant_fields b patterns fs ≡ Some (or_empty (constant_fields b patterns fs))) × (bytes ≡ encode_record (or_empty (constant_fields b patterns fs)))
   unfolding record_bytes constant_record bytes_only ◌when_some◌
   record-parts fs bytes e =
       let o = constant_fields b patterns fs in
-      let p = bind-some (o when_some λ bs. some (ConstantRules.Const.Bytes (encode_record bs))) bytes_only bytes e in
-      let q = bind-some o (λ bs. some (ConstantRules.Const.Bytes (encode_record bs))) p.0 p.1 in
+      let p = bind-some (o when_some λ bs. Some (ConstantRules.Const.Bytes (encode_record bs))) bytes_only bytes e in
+      let q = bind-some o (λ bs. Some (ConstantRules.Const.Bytes (encode_record bs))) p.0 p.1 in
       (there o q.0 q.1, some-injective _ _ (sym p.2 ∙ ap bytes_only (sym (some-injective _ _ q.2))) ∙ ap encode_record (sym (full o q.0 q.1)))
 
   module _ (f : List ℕ) (ty : Ty) (v : TypeView) (s : SeenType f ty v) (at : ℕ) (h : RoomForBytes (record_bytes b patterns ty) at) where
     module _ (k from : ℕ) (e : v ≡ Tv.Record k from) where
-      parts : (constant_fields b patterns (run (field_at f) 4 k from) ≡ some (or_empty (constant_fields b patterns (run (field_at f) 4 k from)))) × (or_empty (record_bytes b patterns ty) ≡ encode_record (or_empty (constant_fields b patterns (run (field_at f) 4 k from))))
+      parts : (constant_fields b patterns (run (field_at f) 4 k from) ≡ Some (or_empty (constant_fields b patterns (run (field_at f) 4 k from)))) × (or_empty (record_bytes b patterns ty) ≡ encode_record (or_empty (constant_fields b patterns (run (field_at f) 4 k from))))
       parts = record-parts (run (field_at f) 4 k from) (or_empty (record_bytes b patterns ty)) (ap (record_bytes b patterns) (subst (SeenType f ty) e s).is ∙ h.is)
 
       pub fields-here : RoomForBytes (constant_fields b patterns (run (field_at f) 4 k from)) (at + 1)
@@ -221,7 +217,7 @@ tag-size : (at d : ℕ) → at + 5 ≡ at + length (union_tag d)
 unfolding union_tag big_endian32
 tag-size at d = refl
 
-only-first : (f : List ℕ) (n at : ℕ) (g : File.FieldPattern) → only_field (run (pattern_at f) 4 n at) ≡ some g → (n ≡ 1) × (pattern_at f at ≡ g)
+only-first : (f : List ℕ) (n at : ℕ) (g : File.FieldPattern) → only_field (run (pattern_at f) 4 n at) ≡ Some g → (n ≡ 1) × (pattern_at f at ≡ g)
 unfolding run only_field
 only-first f zero at g e = absurd (some≢none g (sym e))
 only-first f (suc zero) at g e = (refl, some-injective (pattern_at f at) g e)
@@ -239,9 +235,9 @@ module _ (T : Tables) (f : List ℕ) (n pairs : ℕ) (alts : List File.Alternati
     -- its one pair, the alternative that this names, and the payload
     record Parts : Type 0 where
       alternative : File.Alternative
-      named : ConstantRules.alternative_of alts v.name ≡ some alternative
+      named : ConstantRules.alternative_of alts v.name ≡ Some alternative
       payload : List ℕ
-      is : bytes_of T v.node alternative.type ≡ some payload
+      is : bytes_of T v.node alternative.type ≡ Some payload
       whole : or_empty (record_bytes (ConstantRules.constant T) (run (pattern_at f) 4 n pairs) (Ty.Union alts)) ≡ encode_union alternative.disc payload
 
     parts-of : Parts
@@ -253,7 +249,7 @@ module _ (T : Tables) (f : List ℕ) (n pairs : ℕ) (alts : List File.Alternati
         let o = only-first f n pairs q.0 q.1 in
         let z : pairs ≡ pairs + 4 * 0 = omega arith in
         let g : q.0 ≡ pattern_of v = sym o.1 ∙ ap (pattern_at f) z ∙ sym e in
-        let m = subst (λ (y : File.FieldPattern). (ConstantRules.alternative_of alts y.name when_some λ alt. ConstantRules.constant T y.node alt.type when_some λ c. bytes_only c when_some λ bytes. some (ConstantRules.Const.Bytes (encode_union alt.disc bytes))) ≡ some p.0) g q.2 in
+        let m = subst (λ (y : File.FieldPattern). (ConstantRules.alternative_of alts y.name when_some λ alt. ConstantRules.constant T y.node alt.type when_some λ c. bytes_only c when_some λ bytes. Some (ConstantRules.Const.Bytes (encode_union alt.disc bytes))) ≡ Some p.0) g q.2 in
         let r = bind-some (ConstantRules.alternative_of alts v.name) _ p.0 m in
         let s = bind-some (ConstantRules.constant T v.node r.0.type) _ p.0 r.2 in
         let u = bind-some (bytes_only s.0) _ p.0 s.2 in
@@ -265,15 +261,15 @@ module _ (T : Tables) (f : List ℕ) (n pairs : ℕ) (alts : List File.Alternati
           whole = some-injective _ _ (sym p.2 ∙ ap bytes_only (sym (some-injective _ _ u.2)));
         }
 
-    module _ (r : MaybeAlternative) (q : alternative_option r ≡ ConstantRules.alternative_of alts v.name) where
-      pub union-none : r ≡ Ma.Nothing → ⊥
+    module _ (r : Option Alternative) (q : alternative_option r ≡ ConstantRules.alternative_of alts v.name) where
+      pub union-none : r ≡ None → ⊥
       union-none d = some≢none parts-of.alternative (sym (sym (ap alternative_option d) ∙ q ∙ parts-of.named))
 
-      module _ (a : Alternative) (d : r ≡ Ma.Just a) where
+      module _ (a : Alternative) (d : r ≡ Some a) where
         which : parts-of.alternative ≡ alternative_of a
         which = some-injective _ _ (sym (sym (ap alternative_option d) ∙ q ∙ parts-of.named))
 
-        payload-is : bytes_of T v.node a.ty ≡ some parts-of.payload
+        payload-is : bytes_of T v.node a.ty ≡ Some parts-of.payload
         payload-is = ap (λ (y : File.Alternative). bytes_of T v.node y.type) (sym which) ∙ parts-of.is
 
         union-is : or_empty (record_bytes (ConstantRules.constant T) (run (pattern_at f) 4 n pairs) (Ty.Union alts)) ≡ encode_union a.disc (or_empty (bytes_of T v.node a.ty))

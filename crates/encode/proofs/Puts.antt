@@ -1,20 +1,26 @@
 -- Bytes written one run after another.
 use Prim.Native.Nat.{ℕ, zero, suc, ◌+◌, ◌*◌, ◌-◌, ◌%◌, ◌≤◌, ◌<◌}
-use mathlib.Core.Path.{◌≡◌, refl, sym, ap, ◌∙◌, subst}
+use mathlib.Core.Path.{◌≡◌, refl, sym, ap, ap₂, ◌∙◌, subst}
 use mathlib.Core.Bool.{true}
 use mathlib.Core.List.{List, [], ◌∷◌, ◌++◌, reverse, reverse-cons}
 use native.Mathlib.Nat.{add-zero}
 use native.Mathlib.Omega.{arith}
-use lib.ListN.{length, get_or, set, length-append, length-set}
+use native.Mathlib.Numerals.{add-one}
+use lib.ListN.{length, get_or, take, drop, length-append}
+use Rattle.std.proofs.lemmas.List.{drop-drop}
+use Rattle.std.proofs.lemmas.List.Edits.{sets-eq}
+use lib.Seq.{drop-cons}
+use Rattle.std.proofs.Common.{append_assoc}
+use borrow.Rule.Slice.PartMut.{put_mid}
 use Rattle.rules.specs.Constant.{escape, flip_sign, encode_int, encode_prefix, encode_str, encode_bytes}
 use Rattle.views.specs.Views.{run, byte_at, SeenText}
 use Rattle.views.specs.declared.TextView.{TextView}
 use Rattle.views.proofs.Runs.{length_run}
 use Rattle.records.specs.Records.{put}
-use Rattle.records.proofs.Stores.{put-none, put_byte, put-append, next}
+use Rattle.records.proofs.Stores.{put-none, put-sets, put-append, next}
 use Rattle.constant.specs.Plain.{plain}
 use Rattle.constant.proofs.Plain.{plain-same}
-use Rattle.constant.proofs.Escapes.{escape-cons, escape-zero, escape-other, bytes_from, bytes-start, bytes-more, bytes-end, escaped_from, escaped-start, escaped-more, escaped-end, width-most}
+use Rattle.constant.proofs.Escapes.{escape-cons, escape-zero, escape-other, escaped_from, escaped-start, escaped-more, escaped-end, width-most}
 use Rattle.encode.specs.Written.{Wrote, down}
 
 -- nothing, one byte, and one run after another
@@ -97,30 +103,31 @@ module _ (f : List ℕ) (n from at : ℕ) (w : List ℕ) where
   pub text-far : (end : ℕ) (v : List ℕ) → n ≤ 32768 → Wrote (escape (run (byte_at f) 1 n from)) at w end v → end ≤ at + 65536
   text-far end v h a = omega (arith, a.place, escape-most (run (byte_at f) 1 n from), length_run (byte_at f) 1 n from)
 
--- Bytes as they are, where there is room for them.
+-- Bytes as they are, where there is room for them: a part of the file over a part of the buffer.
+part-is : (f : List ℕ) (n from : ℕ) → from + n ≤ length f → take n (drop from f) ≡ run (byte_at f) 1 n from
+unfolding run byte_at
+part-is f zero from h = refl
+part-is f (suc n) from h =
+    ap (take (suc n)) (drop-cons f from 0 (omega arith))
+    ∙ ap (λ (k : ℕ). get_or f from 0 ∷ take n (drop k f)) (sym (add-one from))
+    ∙ ap (λ (l : List ℕ). get_or f from 0 ∷ l) (part-is f n (from + 1) (omega arith))
+
 module _ (f : List ℕ) (n from at : ℕ) (w : List ℕ) where
-  pub record Copying (i : ℕ) (v : List ℕ) : Type 0 where
-    pub within : i ≤ n
-    pub going : Going (run (byte_at f) 1 n from) at w (bytes_from f n from i) (at + i) v
-
-  pub copy_start : Copying 0 w
-  copy_start =
+  pub copied : from + n ≤ length f → at + n ≤ length w → (j k : ℕ) → j ≡ n → k ≡ n → (ys : List ℕ) → ys ≡ take j (drop from f)
+      → Wrote (run (byte_at f) 1 n from) at w (at + n) (put_mid at k w ys)
+  copied h g j k e d ys q =
+      let xs : List ℕ = run (byte_at f) 1 n from in
+      let l : length xs ≡ n = length_run (byte_at f) 1 n from in
+      let m : at + k ≡ at + length xs = omega (arith, l, d) in
+      let r : List ℕ = drop (at + length xs) w in
+      let a : take at w ++ (xs ++ r) ≡ (take at w ++ xs) ++ r = simp append_assoc in
       record {
-        within = omega arith;
-        going = subst (λ (p : ℕ). Going (run (byte_at f) 1 n from) at w (bytes_from f n from 0) p w) (sym (add-zero at)) (going_start _ _ at w (bytes-start f n from));
+        place = omega (arith, l);
+        is =
+            ap₂ (λ (y r : List ℕ). take at w ++ (y ++ r)) (q ∙ ap (λ (i : ℕ). take i (drop from f)) e ∙ part-is f n from h)
+            (drop-drop k at w ∙ ap (λ (i : ℕ). drop i w) m)
+            ∙ a ∙ sym (sets-eq xs w at (omega (arith, l))) ∙ sym (put-sets w at xs);
       }
-
-  pub copy_more : (i : ℕ) (v : List ℕ) → Copying i v → i < n → Copying (i + 1) (set v (at + i) (get_or f (from + i) 0))
-  copy_more i v t h =
-      let b = get_or f (from + i) 0 in
-      let u = set v (at + i) b in
-      record {
-        within = omega arith;
-        going = going_more _ at w _ (at + i) v t.going (b ∷ []) (bytes_from f n from (i + 1)) (bytes-more f n from i h) (at + (i + 1)) u (wrote_one b (at + i) (at + (i + 1)) v u (omega arith) (put_byte v (at + i) b)) (length-set v (at + i) b);
-      }
-
-  pub copy-end : (i : ℕ) (v : List ℕ) → Copying i v → n ≤ i → Wrote (run (byte_at f) 1 n from) at w (at + n) v
-  copy-end i v t h = record { place = omega (arith, length_run (byte_at f) 1 n from); is = (going_end _ at w _ (at + i) v t.going (bytes-end f n from i h)).is }
 
   -- plain bytes are their own escaped form
   pub text-plain : (end : ℕ) (v : List ℕ) → plain (run (byte_at f) 1 n from) ≡ true → Wrote (run (byte_at f) 1 n from) at w end v → Wrote (escape (run (byte_at f) 1 n from)) at w end v

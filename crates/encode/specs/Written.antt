@@ -1,6 +1,5 @@
 -- Bytes that are written where they are wanted.
-use Rattle.std.specs.Prelude.{ℕ, zero, suc, ◌+◌, ◌≤◌, ◌≡◌, List, [], ◌∷◌, length}
-use Rattle.std.proofs.Math.Option.{Option, none, some}
+use Rattle.std.specs.Prelude.{ℕ, zero, suc, ◌+◌, ◌≤◌, ◌≡◌, List, [], ◌∷◌, length, Option, None, Some}
 use Rattle.rules.specs.Base.{◌when_some◌}
 use Rattle.rules.specs.File.{Tables, FieldPattern, Ty}
 use Rattle.rules.specs.Constant as ConstantRules
@@ -9,8 +8,8 @@ use Rattle.records.specs.Records.{put, reach}
 
 -- the bytes, or none
 unfoldable pub or_empty : Option (List ℕ) → List ℕ
-or_empty none = []
-or_empty (some bytes) = bytes
+or_empty None = []
+or_empty (Some bytes) = bytes
 
 -- the bytes of node n at type t, where its constant is bytes
 unfoldable pub bytes_of : Tables → ℕ → ℕ → Option (List ℕ)
@@ -22,7 +21,7 @@ record_bytes below patterns ty = constant_record below patterns ty when_some byt
 
 -- there are bytes, and they end where no sum of places wraps
 pub record RoomForBytes (o : Option (List ℕ)) (at : ℕ) : Type 0 where
-  pub is : o ≡ some (or_empty o)
+  pub is : o ≡ Some (or_empty o)
   pub room : at + length (or_empty o) ≤ reach
 
 -- buffer w with the bytes at a place is w', and end is the place after them

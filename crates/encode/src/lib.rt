@@ -17,7 +17,7 @@ ghost use Rattle.encode.specs.Written.{or_empty, bytes_of, record_bytes, RoomFor
 use constant::is_plain;
 use file::wide;
 use records::{put_tag, put8};
-use tables::{Found, MaybeAlternative, alternative_of, field_pattern, folded};
+use tables::{alternative_of, field_pattern, folded};
 use views::{NodeView, TypeView, field_pattern_at, field_ty_at, name_at, node_at, type_at};
 
 // Writes a byte of a text; a zero byte is followed by FF.
@@ -40,25 +40,19 @@ fn put_escapes(file: &[u8], buf: &mut [u8], at: usize, from: usize, n: usize) ->
         Wrote (escape text) at buf.old result buf.new }
 {
     let mut p = at;
-    let mut i: usize = 0;
-    while i < n {
+    for i in 0..n {
         p = put_escaped(buf, p, file[from + i]);
-        i += 1;
     }
     p
 }
 
-// Writes n bytes of the file as they are. There is room for them, so the loop tests nothing and becomes one copy.
+// Writes n bytes of the file as they are. There is room for them, so this is one copy.
 fn put_plain(file: &[u8], buf: &mut [u8], at: usize, from: usize, n: usize) -> usize
     requires { (from + n ≤ length file.now) × (at + n ≤ length buf.old) }
     ensures { let text = run (byte_at file.now) 1 n from in
         Wrote text at buf.old result buf.new }
 {
-    let mut i: usize = 0;
-    while i < n {
-        buf[at + i] = file[from + i];
-        i += 1;
-    }
+    buf[at..at + n].copy_from_slice(&file[from..from + n]);
     at + n
 }
 
@@ -68,10 +62,8 @@ fn put_text(file: &[u8], buf: &mut [u8], at: usize, from: usize, n: usize) -> us
     ensures { let text = run (byte_at file.now) 1 n from in
         Wrote (escape text) at buf.old result buf.new }
 {
-    if at + n <= buf.len() {
-        if is_plain(file, from, n) {
-            return put_plain(file, buf, at, from, n);
-        }
+    if at + n <= buf.len() && is_plain(file, from, n) {
+        return put_plain(file, buf, at, from, n);
     }
     put_escapes(file, buf, at, from, n)
 }
@@ -81,10 +73,8 @@ fn put_down(file: &[u8], buf: &mut [u8], at: usize, from: usize, n: usize) -> us
     requires { (from + n ≤ length file.now) × (n ≤ 8) × (at ≤ 2 * reach) }
     ensures { Wrote (down (byte_at file.now) n from) at buf.old result buf.new }
 {
-    let mut left = n;
     let mut p = at;
-    while left > 0 {
-        left -= 1;
+    for left in (0..n).rev() {
         put8(buf, p, file[from + left]);
         p += 1;
     }
@@ -164,7 +154,7 @@ fn put_field(
         let bytes = field_bytes (ConstantRules.constant (tables_of f)) patterns name ty in
         Wrote (or_empty bytes) at buf.old result buf.new }
 {
-    let Found::Just(p) = field_pattern(file, pairs, n, name) else {
+    let Some(p) = field_pattern(file, pairs, n, name) else {
         return at;
     };
     put_constant(file, index, buf, at, p, ty)
@@ -197,11 +187,9 @@ fn put_fields(
         Wrote (or_empty bytes) at buf.old result buf.new }
 {
     let mut p = at;
-    let mut i: usize = 0;
-    while i < k {
+    for i in 0..k {
         let f = field_ty_at(file, from, i);
         p = put_field(file, index, buf, p, node, n, pairs, f.name, f.ty);
-        i += 1;
     }
     p
 }
@@ -233,7 +221,7 @@ fn put_union(
         Wrote (or_empty bytes) at buf.old result buf.new }
 {
     let p = field_pattern_at(file, pairs, 0);
-    let MaybeAlternative::Just(a) = alternative_of(file, from, k, p.name) else {
+    let Some(a) = alternative_of(file, from, k, p.name) else {
         return at;
     };
     put_tag(buf, at, a.disc);

@@ -9,31 +9,32 @@ use Rattle.rules.specs.Base.{Each, done, more}
 use Rattle.rules.specs.Compile.{Compiled, Outcome, returned, buffer, compiled}
 use Rattle.rules.specs.Demand1.{Byte}
 use Rattle.zeroes.specs.Zeroed.{zeroed}
-use Rattle.endings.specs.Endings.{ending_outcome, length_of, answer_of, Within}
-use Rattle.endings.specs.declared.Ending.{Ending}
-use Rattle.endings.specs.declared.Ending.TheVariants.{Planned, Refused}
+use Rattle.std.specs.Prelude.{Result, Ok, Err}
+use Rattle.std.specs.Result.{result_unwrap_or}
+use Rattle.file.specs.declared.Refusal.{Refusal}
+use Rattle.endings.specs.Endings.{ending_outcome, answer_of, Within}
 
 zeroed-whole : (w : List ℕ) → zeroed w 0 ≡ replicate (length w) 0
 unfolding zeroed
 zeroed-whole w = ap (λ (k : ℕ). replicate k 0) (sub-zero (length w))
 
-returned-of : (e : Ending) (p : List ℕ) → Within e p → answer_of e ≡ returned (ending_outcome e p)
+returned-of : (e : Result ℕ Refusal) (p : List ℕ) → Within e p → answer_of e ≡ returned (ending_outcome e p)
 unfolding returned ending_outcome
-returned-of (Planned n) p h = sym (length-take-le n p h)
-returned-of (Refused n) p h = refl
+returned-of (Ok n) p h = sym (length-take-le n p h)
+returned-of (Err n) p h = refl
 
-buffer-of : (e : Ending) (p : List ℕ) → Within e p → zeroed p (length_of e) ≡ buffer (length p) (ending_outcome e p)
+buffer-of : (e : Result ℕ Refusal) (p : List ℕ) → Within e p → zeroed p (result_unwrap_or e 0) ≡ buffer (length p) (ending_outcome e p)
 unfolding buffer ending_outcome zeroed
-buffer-of (Planned n) p h = ap (λ (k : ℕ). take n p ++ replicate (length p - k) 0) (sym (length-take-le n p h))
-buffer-of (Refused n) p h = zeroed-whole p
+buffer-of (Ok n) p h = ap (λ (k : ℕ). take n p ++ replicate (length p - k) 0) (sym (length-take-le n p h))
+buffer-of (Err n) p h = zeroed-whole p
 
 -- what a call returned and left is what it comes to
 abbrev pub Left : ℕ → List ℕ → List ℕ → Compiled → Type 0
 Left r output work c = (r ≡ c.result) × ((output ≡ c.plan) × (work ≡ c.work))
 
 -- the last step of a call
-module _ (e : Ending) (p w : List ℕ) (h : Within e p) (r n : ℕ) (p' w' : List ℕ) where
-  pub finished : r ≡ answer_of e → n ≡ length_of e → p' ≡ zeroed p n → w' ≡ zeroed w 0 → Left r p' w' (compiled (ending_outcome e p) (length p) (length w))
+module _ (e : Result ℕ Refusal) (p w : List ℕ) (h : Within e p) (r n : ℕ) (p' w' : List ℕ) where
+  pub finished : r ≡ answer_of e → n ≡ result_unwrap_or e 0 → p' ≡ zeroed p n → w' ≡ zeroed w 0 → Left r p' w' (compiled (ending_outcome e p) (length p) (length w))
   unfolding compiled
   finished rs m ps ws = (rs ∙ returned-of e p h, (ps ∙ ap (zeroed p) m ∙ buffer-of e p h, ws ∙ zeroed-whole w))
 

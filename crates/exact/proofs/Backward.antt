@@ -2,7 +2,7 @@
 -- byte in its texts, and the registers that became parts hold encoded values.
 use mathlib.Core.Bool.{true}
 use mathlib.Core.List.{List, [], ◌∷◌, ◌++◌, append_assoc}
-use mathlib.Core.Option.{Option, none, some}
+use Rattle.std.specs.Prelude.{Option, None, Some}
 use mathlib.Core.Path.{◌≡◌, refl, sym, ap, ◌∙◌, subst}
 use Prim.Native.Nat.{ℕ, suc, ◌+◌, ◌<◌}
 use native.Mathlib.Omega.{arith}
@@ -48,8 +48,8 @@ each-before : {A : Type 0} {P : A → Type 0} (xs ys : List A) → Onwards xs ys
 each-before {A} {P} xs ys o h = each-front xs o.0 (subst (Each P) o.1 h)
 
 -- something
-abbrev pub Some : Option (List Binding) → Type 0
-Some m = (after : List Binding) × (m ≡ some after)
+abbrev pub Something : Option (List Binding) → Type 0
+Something m = (after : List Binding) × (m ≡ Some after)
 
 module _ (T : Tables) (engine : Engine) (address : ℕ) (ty : Ty) (key : Value) (folded : List ℕ) where
   -- what is known of a piece of the walk from w to w': of w what the walk before it left, of w' that the key passes
@@ -82,12 +82,12 @@ module _ (T : Tables) (engine : Engine) (address : ℕ) (ty : Ty) (key : Value) 
 
   -- from one walk to another, beside a match of the value at a path
   pub record Comes (w w' : Walk) (path : FieldPath) (t : ℕ) (m : Value → Option (List Binding)) : Type 0 where
-    pub back : (v : Value) (r : List ℕ) → OfType T v (type_at T t) → zero_free v ≡ true → Apart r → value_at ty key path ≡ some v → Ready engine ty key (built T w) (encode v ++ r) → Given w w' → Some (m v)
+    pub back : (v : Value) (r : List ℕ) → OfType T v (type_at T t) → zero_free v ≡ true → Apart r → value_at ty key path ≡ Some v → Ready engine ty key (built T w) (encode v ++ r) → Given w w' → Something (m v)
 
   abbrev pub WalksBack : FieldWalk Walk → Matching → ℕ → Type 0
   WalksBack walk match limit = (n t : ℕ) (path : FieldPath) (w : Walk) → t < limit → Comes w (walk n t path w) path t (λ v. match n t v path w.lists.bindings)
 
-  pub comes-some : (w w' : Walk) (path : FieldPath) (t : ℕ) (m : Value → Option (List Binding)) → ((v : Value) → Some (m v)) → Comes w w' path t m
+  pub comes-some : (w w' : Walk) (path : FieldPath) (t : ℕ) (m : Value → Option (List Binding)) → ((v : Value) → Something (m v)) → Comes w w' path t m
   comes-some w w' path t m h = record { back = λ v r of z a at rd gv. h v }
 
   pub comes-report : (n : ℕ) (code : Code) (w w' : Walk) (path : FieldPath) (t : ℕ) (m : Value → Option (List Binding)) → Comes w (report n code w') path t m
@@ -102,8 +102,8 @@ module _ (T : Tables) (engine : Engine) (address : ℕ) (ty : Ty) (key : Value) 
 
   -- one narrowing
   pub comes-narrow : (n : ℕ) (path : FieldPath) (x : Narrowing) (w : Walk) (t : ℕ) (m : Value → Option (List Binding))
-      → ((v : Value) (r : List ℕ) → OfType T v (type_at T t) → zero_free v ≡ true → Apart r → value_at ty key path ≡ some v → Ready engine ty key (built T w) (encode v ++ r) → Consts T engine address ty key folded w.lists.bindings
-      → HeldParts engine (placement T (Event.narrow n path x) (built T w)) → Passing engine ty key (placement T (Event.narrow n path x) (built T w)) → Some (m v))
+      → ((v : Value) (r : List ℕ) → OfType T v (type_at T t) → zero_free v ≡ true → Apart r → value_at ty key path ≡ Some v → Ready engine ty key (built T w) (encode v ++ r) → Consts T engine address ty key folded w.lists.bindings
+      → HeldParts engine (placement T (Event.narrow n path x) (built T w)) → Passing engine ty key (placement T (Event.narrow n path x) (built T w)) → Something (m v))
       → Comes w (emit (Event.narrow n path x) w) path t m
   comes-narrow n path x w t m h =
       record {
@@ -119,7 +119,7 @@ module _ (T : Tables) (engine : Engine) (address : ℕ) (ty : Ty) (key : Value) 
       comes-narrow n path (Narrowing.FactId from) w t _
       (λ v r of z a at rd c hd p. (w.lists.bindings, accept-true _ w.lists.bindings (same v r (whole T v (type_at T t) of) z a at (part-back engine ty key T (Becomes.fact from) n path (built T w) (encode v ++ r) rd p))))
     where
-      same : (v : Value) (r : List ℕ) → Whole v → zero_free v ≡ true → Apart r → value_at ty key path ≡ some v
+      same : (v : Value) (r : List ℕ) → Whole v → zero_free v ≡ true → Apart r → value_at ty key path ≡ Some v
           → Or (((built T w).building ≡ true) × Starts (encode_fact (engine.row from)) (encode v ++ r)) (holds engine ty key path (Narrowing.FactId from) ≡ true) → same_bytes (encode v) (encode_fact (engine.row from)) ≡ true
       same v r wh z a at (left s) = eq-same (encode v) (encode_fact (engine.row from)) (value_same v (Value.Fact (engine.row from)) r s.1.0 wh tt z a s.1.1).front
       same v r wh z a at (right h) = held-says engine ty key path (Narrowing.FactId from) v at h
@@ -138,7 +138,7 @@ module _ (T : Tables) (engine : Engine) (address : ℕ) (ty : Ty) (key : Value) 
       comes-narrow n path (Narrowing.RegisterField from other) w t _
       (λ v r of z a at rd c hd p. (w.lists.bindings, accept-true _ w.lists.bindings (same v r (whole T v (type_at T t) of) z a at hd (part-back engine ty key T (Becomes.register from other) n path (built T w) (encode v ++ r) rd p))))
     where
-      same : (v : Value) (r : List ℕ) → Whole v → zero_free v ≡ true → Apart r → value_at ty key path ≡ some v
+      same : (v : Value) (r : List ℕ) → Whole v → zero_free v ≡ true → Apart r → value_at ty key path ≡ Some v
           → HeldParts engine (placement T (Event.narrow n path (Narrowing.RegisterField from other)) (built T w))
           → Or (((built T w).building ≡ true) × Starts (engine.fields from other) (encode v ++ r)) (holds engine ty key path (Narrowing.RegisterField from other) ≡ true) → same_bytes (encode v) (engine.fields from other) ≡ true
       same v r wh z a at hd (left s) =
@@ -155,7 +155,7 @@ module _ (T : Tables) (engine : Engine) (address : ℕ) (ty : Ty) (key : Value) 
 
   -- the fields of a record
   pub record ComesAll (J : Walk → Type 0) (w w' : Walk) (place : ℕ → FieldPath) (i : ℕ) (fs : List FieldTy) (m : Values → Option (List Binding)) : Type 0 where
-    pub back : (vs : Values) (r : List ℕ) → OfTypes T vs fs → all_zero_free vs ≡ true → Apart r → ((k : ℕ) → value_at ty key (place (i + k)) ≡ nth vs k) → J w → Ready engine ty key (built T w) (encode_all vs ++ r) → Given w w' → Some (m vs)
+    pub back : (vs : Values) (r : List ℕ) → OfTypes T vs fs → all_zero_free vs ≡ true → Apart r → ((k : ℕ) → value_at ty key (place (i + k)) ≡ nth vs k) → J w → Ready engine ty key (built T w) (encode_all vs ++ r) → Given w w' → Something (m vs)
 
   module _ (J : Walk → Type 0) (walk : FieldWalk Walk) (match : Matching) (missing : Walk → Walk) (place : ℕ → FieldPath) (fields : List FieldPattern) (goes : Walks T engine address ty key folded walk match) (miss : Missing T engine address ty key folded J missing)
       (limit : ℕ) (comes : WalksBack walk match limit) where
@@ -165,16 +165,16 @@ module _ (T : Tables) (engine : Engine) (address : ℕ) (ty : Ty) (key : Value) 
     abbrev fmatch : Option ℕ → ℕ → ℕ → Value → List Binding → Option (List Binding)
     fmatch = first-match T engine address ty key folded J walk match missing place fields goes miss
 
-    first_back : (o : Option ℕ) (t i : ℕ) (w : Walk) (v : Value) (r : List ℕ) → t < limit → OfType T v (type_at T t) → zero_free v ≡ true → Apart r → value_at ty key (place i) ≡ some v
-        → Ready engine ty key (built T w) (encode v ++ r) → Given w (fwalk o t i w) → Some (fmatch o t i v w.lists.bindings)
+    first_back : (o : Option ℕ) (t i : ℕ) (w : Walk) (v : Value) (r : List ℕ) → t < limit → OfType T v (type_at T t) → zero_free v ≡ true → Apart r → value_at ty key (place i) ≡ Some v
+        → Ready engine ty key (built T w) (encode v ++ r) → Given w (fwalk o t i w) → Something (fmatch o t i v w.lists.bindings)
     unfolding first_walk first-match
-    first_back none t i w v r l of z a at rd gv = (w.lists.bindings, refl)
-    first_back (some n) t i w v r l of z a at rd gv = (comes n t (place i) w l).back v r of z a at rd gv
+    first_back None t i w v r l of z a at rd gv = (w.lists.bindings, refl)
+    first_back (Some n) t i w v r l of z a at rd gv = (comes n t (place i) w l).back v r of z a at rd gv
 
     each_back : (i : ℕ) (g : FieldTy) (fs : List FieldTy) (w w₁ w₂ : Walk) → w₁ ≡ fwalk (field_pattern fields g.name) g.type i w → g.type < limit → Grows T engine ty key w₁ w₂
         → ComesAll J w₁ w₂ place (suc i) fs (λ vs. each_matches match place fields (suc i) fs vs w₁.lists.bindings)
         → (vs : Values) (r : List ℕ) → OfTypes T vs (g ∷ fs) → all_zero_free vs ≡ true → Apart r → ((k : ℕ) → value_at ty key (place (i + k)) ≡ nth vs k) → J w → Ready engine ty key (built T w) (encode_all vs ++ r) → Given w w₂
-        → Some (each_matches match place fields i (g ∷ fs) vs w.lists.bindings)
+        → Something (each_matches match place fields i (g ∷ fs) vs w.lists.bindings)
     unfolding each_matches encode nth zero_free ◌when_some◌
     each_back i g fs w w₁ w₂ e l grown rest Values.no_more r of z a at j rd gv = absurd of
     each_back i g fs w w₁ w₂ e l grown rest (v and vs) r of z a at j rd gv =
@@ -182,7 +182,7 @@ module _ (T : Tables) (engine : Engine) (address : ℕ) (ty : Ty) (key : Value) 
         let grew = subst (Grows T engine ty key w) (sym e) (first-grows T engine address ty key folded J walk match missing place fields goes miss (field_pattern fields g.name) g.type i w) in
         let rd' = subst (Ready engine ty key (built T w)) (append_assoc (encode v) (encode_all vs) r) rd in
         let first = given-first w w₁ w₂ grew grown (encode v ++ (encode_all vs ++ r)) rd' gv in
-        let here : value_at ty key (place i) ≡ some v = ap (λ k. value_at ty key (place k)) (omega arith) ∙ at 0 in
+        let here : value_at ty key (place i) ≡ Some v = ap (λ k. value_at ty key (place k)) (omega arith) ∙ at 0 in
         let zv = both_left (zero_free v) (all_zero_free vs) z in
         let ap' = apart-all vs r a in
         let s = first_back (field_pattern fields g.name) g.type i w v (encode_all vs ++ r) l of.0 zv ap' here rd' (subst (Given w) e first) in
@@ -192,17 +192,17 @@ module _ (T : Tables) (engine : Engine) (address : ℕ) (ty : Ty) (key : Value) 
         let last = rest.back vs r of.1 (both_right (zero_free v) (all_zero_free vs) z) a (λ k. ap (λ n. value_at ty key (place n)) (omega arith) ∙ at (suc k)) (miss.keeps w w₁ grew j) reach₁.ready (given-second w w₁ w₂ grew gv) in (
           last.0,
           ap (λ (o : Option (List Binding)). o when_some λ onward. each_matches match place fields (suc i) fs vs onward)
-              (sym (first-match-is T engine address ty key folded J walk match missing place fields goes miss (field_pattern fields g.name) g.type i v w.lists.bindings) ∙ s.1 ∙ ap some (sym reach₁.bound)) ∙ last.1,
+              (sym (first-match-is T engine address ty key folded J walk match missing place fields goes miss (field_pattern fields g.name) g.type i v w.lists.bindings) ∙ s.1 ∙ ap Some (sym reach₁.bound)) ∙ last.1,
         )
 
     pub comes-each : (i : ℕ) {fs : List FieldTy} → Each (λ (g : FieldTy). g.type < limit) fs → (w : Walk) → ComesAll J w (each_field walk missing place fields i fs w) place i fs (λ vs. each_matches match place fields i fs vs w.lists.bindings)
     unfolding each_field
     comes-each i done w = record { back = λ vs r of z a at j rd gv. none_left vs of }
       where
-        none_left : (vs : Values) → OfTypes T vs [] → Some (each_matches match place fields i [] vs w.lists.bindings)
+        none_left : (vs : Values) → OfTypes T vs [] → Something (each_matches match place fields i [] vs w.lists.bindings)
         none_left Values.no_more of = (w.lists.bindings, unfold each_matches in refl)
         none_left (v and vs) of = absurd of
     comes-each i (more {x = g} {xs = fs} l low) w =
-        let w₁ : Walk = elim (field_pattern fields g.name) [ none ↦ missing w | some n ↦ walk n g.type (place i) w ] in
+        let w₁ : Walk = elim (field_pattern fields g.name) [ None ↦ missing w | Some n ↦ walk n g.type (place i) w ] in
         let e = sym (first-walk-is T engine address ty key folded J walk match missing place fields goes miss (field_pattern fields g.name) g.type i w) in
         record { back = each_back i g fs w w₁ (each_field walk missing place fields (suc i) fs w₁) e l (goes-each T engine address ty key folded J walk match missing place fields goes miss (suc i) fs w₁).grows (comes-each (suc i) low w₁) }

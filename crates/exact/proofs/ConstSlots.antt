@@ -1,7 +1,7 @@
 -- A Const slot that a pattern stands for is a constant of the file.
 use mathlib.Core.Bool.{Bool, true, false}
 use mathlib.Core.List.{List, []}
-use mathlib.Core.Option.{Option, none, some}
+use Rattle.std.specs.Prelude.{Option, None, Some}
 use mathlib.Core.Path.{◌≡◌, refl, sym, ap, ◌∙◌, subst}
 use Prim.Native.Nat.{ℕ, zero, suc, ◌<◌}
 use native.Mathlib.Nat.{zero-add}
@@ -41,7 +41,7 @@ get_take n k cs h =
     (λ l. absurd (true≢false (sym h ∙ get_or-eq_default (take n cs) false (omega (arith, l, length-take n cs)))))
 
 -- a field of a constant record is constant
-pub constant-field : (T : Tables) (n : ℕ) (fields : List FieldPattern) (x m : ℕ) → is_constant T n ≡ true → node_at T n ≡ Node.Record fields → field_pattern fields x ≡ some m → is_constant T m ≡ true
+pub constant-field : (T : Tables) (n : ℕ) (fields : List FieldPattern) (x m : ℕ) → is_constant T n ≡ true → node_at T n ≡ Node.Record fields → field_pattern fields x ≡ Some m → is_constant T m ≡ true
 unfolding constant_of field_pattern is_constant
 constant-field T n fields x m h q e =
     let a = ap (constant_of (take n (constants T))) (sym q) ∙ constant-of-node T n h in
@@ -62,17 +62,17 @@ module _ (T : Tables) (facts : Facts T) (bound : List Binding) (consts : (x : �
   -- an answer whose slot is fine, and which keeps the bindings
   record Fine (a : Answer (List Binding)) : Type 0 where
     same : a.walk ≡ bound
-    ok : (s : Slot) → a.slot ≡ some s → ConstOk T s
+    ok : (s : Slot) → a.slot ≡ Some s → ConstOk T s
 
-  fine-give : (o : Option Slot) → ((s : Slot) → o ≡ some s → ConstOk T s) → Fine (give o bound)
+  fine-give : (o : Option Slot) → ((s : Slot) → o ≡ Some s → ConstOk T s) → Fine (give o bound)
   unfolding give
   fine-give o h = record { same = refl; ok = h }
 
-  fine-none : Fine (give none bound)
-  fine-none = fine-give none (λ s e. absurd (some≢none s (sym e)))
+  fine-none : Fine (give None bound)
+  fine-none = fine-give None (λ s e. absurd (some≢none s (sym e)))
 
-  fine-some : (s : Slot) → ConstOk T s → Fine (give (some s) bound)
-  fine-some s h = fine-give (some s) (λ s' e. subst (ConstOk T) (some-injective s s' e) h)
+  fine-some : (s : Slot) → ConstOk T s → Fine (give (Some s) bound)
+  fine-some s h = fine-give (Some s) (λ s' e. subst (ConstOk T) (some-injective s s' e) h)
 
   fine-declined : (n : ℕ) (code : _) → Fine (declined quiet T n code bound)
   unfolding declined
@@ -82,34 +82,34 @@ module _ (T : Tables) (facts : Facts T) (bound : List Binding) (consts : (x : �
   unfolding ◌when_found◌ follow
   fine-next r g h k = go (r bound).slot refl
     where
-      go : (o : Option Slot) → (r bound).slot ≡ o → Fine (elim o [ none ↦ record { slot = none; walk = (r bound).walk } | some s ↦ g s (r bound).walk ])
-      go none e = record { same = h.same; ok = λ s q. absurd (some≢none s (sym q)) }
-      go (some s) e = subst (λ (b : List Binding). Fine (g s b)) (sym h.same) (k s (h.ok s e))
+      go : (o : Option Slot) → (r bound).slot ≡ o → Fine (elim o [ None ↦ record { slot = None; walk = (r bound).walk } | Some s ↦ g s (r bound).walk ])
+      go None e = record { same = h.same; ok = λ s q. absurd (some≢none s (sym q)) }
+      go (Some s) e = subst (λ (b : List Binding). Fine (g s b)) (sym h.same) (k s (h.ok s e))
 
-  slot-at-ok : (a : ℕ) (place : ℕ → FieldPath) (found : Option FieldAt) (s : Slot) → slot_at a place found ≡ some s → ConstOk T s
+  slot-at-ok : (a : ℕ) (place : ℕ → FieldPath) (found : Option FieldAt) (s : Slot) → slot_at a place found ≡ Some s → ConstOk T s
   unfolding slot_at ◌when_some◌
-  slot-at-ok a place none s e = absurd (some≢none s (sym e))
-  slot-at-ok a place (some f) s e = subst (ConstOk T) (some-injective _ s e) tt
+  slot-at-ok a place None s e = absurd (some≢none s (sym e))
+  slot-at-ok a place (Some f) s e = subst (ConstOk T) (some-injective _ s e) tt
 
-  row-field-ok : (a : ℕ) (p : Option ℕ) (x : ℕ) (s : Slot) → row_field T a p x ≡ some s → ConstOk T s
+  row-field-ok : (a : ℕ) (p : Option ℕ) (x : ℕ) (s : Slot) → row_field T a p x ≡ Some s → ConstOk T s
   unfolding row_field
   row-field-ok a p x s e = let r = bind-some p _ s e in slot-at-ok a _ _ s r.2
 
-  row-value-ok : (a : ℕ) (p : Option ℕ) (s : Slot) → row_value T a p ≡ some s → ConstOk T s
+  row-value-ok : (a : ℕ) (p : Option ℕ) (s : Slot) → row_value T a p ≡ Some s → ConstOk T s
   unfolding row_value
   row-value-ok a p s e =
       let r = bind-some p _ s e in
       let q = bind-some _ _ s r.2 in
       subst (ConstOk T) (some-injective _ s q.2) tt
 
-  folded-ok : (n x : ℕ) → is_constant T n ≡ true → (s : Slot) → folded_slot T n x ≡ some s → ConstOk T s
+  folded-ok : (n x : ℕ) → is_constant T n ≡ true → (s : Slot) → folded_slot T n x ≡ Some s → ConstOk T s
   unfolding folded_slot folded_field
   folded-ok n x h s e =
       let r = bind-some (folded_field T n x) _ s e in
       let f = bind-some (record_fields (node_at T n)) _ r.0 r.1 in
       subst (ConstOk T) (some-injective _ s r.2) (constant-field T n f.0 x r.0 h (record-node (node_at T n) f.0 f.1) f.2)
 
-  lookup-fine : (x : ℕ) (s : Slot) → lookup bound x ≡ some s → ConstOk T s
+  lookup-fine : (x : ℕ) (s : Slot) → lookup bound x ≡ Some s → ConstOk T s
   lookup-fine x (Slot.Row a p) e = tt
   lookup-fine x (Slot.Key a t) e = tt
   lookup-fine x (Slot.Derived a) e = tt
@@ -117,17 +117,17 @@ module _ (T : Tables) (facts : Facts T) (bound : List Binding) (consts : (x : �
   lookup-fine x (Slot.Value a t) e = tt
   lookup-fine x (Slot.Const c) e = facts.consts x c (const-lookup T.bindings x c (sym (consts x) ∙ found tt))
     where
-      found : Unit {0} → const_bound bound x ≡ some c
+      found : Unit {0} → const_bound bound x ≡ Some c
       found _ = unfold ◌when_some◌ const_node in ap (λ (o : Option Slot). o when_some const_node) e
 
-  hoisted-fine : (n : ℕ) (s : Slot) → hoisted_slot T (lookup bound) n ≡ some s → ConstOk T s
+  hoisted-fine : (n : ℕ) (s : Slot) → hoisted_slot T (lookup bound) n ≡ Some s → ConstOk T s
   unfolding hoisted_slot
   hoisted-fine n s e = let r = bind-some _ _ s e in lookup-fine _ s r.2
 
   fine-fetched : (n p : ℕ) (register : Option ℕ) → Fine (fetched_row quiet T n p register bound)
   unfolding fetched_row
-  fine-fetched n p none = fine-declined n _
-  fine-fetched n p (some r) = fine-some (Slot.Row r (some p)) tt
+  fine-fetched n p None = fine-declined n _
+  fine-fetched n p (Some r) = fine-some (Slot.Row r (Some p)) tt
 
   fine-dereference : (n : ℕ) (s : Slot) → ConstOk T s → Fine (dereference quiet T n s bound)
   unfolding dereference
@@ -171,8 +171,8 @@ module _ (T : Tables) (facts : Facts T) (bound : List Binding) (consts : (x : �
 
   fine-selected : (a : ℕ) (path : FieldPath) (alt : Option Alternative) → Fine (selected quiet T a path alt bound)
   unfolding selected
-  fine-selected a path none = fine-none
-  fine-selected a path (some alt) = record { same = refl; ok = λ s e. subst (ConstOk T) (some-injective _ s e) tt }
+  fine-selected a path None = fine-none
+  fine-selected a path (Some alt) = record { same = refl; ok = λ s e. subst (ConstOk T) (some-injective _ s e) tt }
 
   fine-select : (n : ℕ) (s : Slot) (x : ℕ) → ConstOk T s → Fine (select_slot quiet T n s x bound)
   unfolding select_slot
@@ -214,16 +214,16 @@ module _ (T : Tables) (facts : Facts T) (bound : List Binding) (consts : (x : �
   fine-below (suc limit) n =
       by-test (λ (r : Resolver (List Binding)). Fine (r bound)) (is_constant T n) (λ e. fine-some (Slot.Const n) e) (λ e. fine-node (resolve_below quiet T limit) (fine-below limit) n (node_at T n))
 
-  pub slot-constant : (n c : ℕ) → slot_of T n bound ≡ some (Slot.Const c) → is_constant T c ≡ true
+  pub slot-constant : (n c : ℕ) → slot_of T n bound ≡ Some (Slot.Const c) → is_constant T c ≡ true
   unfolding slot_of resolve
   slot-constant n c e = (fine-below (length T.nodes) n).ok (Slot.Const c) e
 
 -- no name is constant
-pub constant-no-var : (T : Tables) (c : ℕ) → is_constant T c ≡ true → var_name (node_at T c) ≡ none
+pub constant-no-var : (T : Tables) (c : ℕ) → is_constant T c ≡ true → var_name (node_at T c) ≡ None
 unfolding var_name constant_of
 constant-no-var T c h = go (node_at T c) refl
   where
-    go : (node : Node) → node_at T c ≡ node → var_name node ≡ none
+    go : (node : Node) → node_at T c ≡ node → var_name node ≡ None
     go (Node.Int bytes) q = refl
     go (Node.Str x) q = refl
     go (Node.Bytes bytes) q = refl

@@ -1,7 +1,7 @@
 -- Constants: where the matcher accepts a pattern that a type gives bytes, the value has those bytes, and nothing is bound.
 use mathlib.Core.Bool.{Bool, true, false}
 use mathlib.Core.List.{List, [], ◌∷◌, ◌++◌}
-use mathlib.Core.Option.{Option, none, some, get_or}
+use Rattle.std.specs.Prelude.{Option, None, Some, unwrap_or}
 use mathlib.Core.Path.{◌≡◌, refl, sym, ap, ap₂, ◌∙◌, subst}
 use Prim.Native.Nat.{ℕ, zero, suc, ◌<◌, ◌≤◌}
 use native.Mathlib.Nat.{zero-add, not-suc-le-zero}
@@ -21,7 +21,7 @@ use Rattle.exact.specs.Matcher.{Matching, quiet, slot_of, accept, each_matches, 
 use Rattle.exact.proofs.Bytes.{same-eq}
 
 -- a test that let the bindings through
-pub accepted : (test : Bool) (bound after : List Binding) → accept test bound ≡ some after → (test ≡ true) × (after ≡ bound)
+pub accepted : (test : Bool) (bound after : List Binding) → accept test bound ≡ Some after → (test ≡ true) × (after ≡ bound)
 unfolding accept
 accepted true bound after e = (refl, sym (some-injective bound after e))
 accepted false bound after e = absurd (some≢none after (sym e))
@@ -54,7 +54,7 @@ is-text p (Value.Fact id) e = absurd (true≢false (sym e))
 is-text p (Value.Rec fields) e = absurd (true≢false (sym e))
 is-text p (Value.Uni disc v) e = absurd (true≢false (sym e))
 
-pub is-record : (v : Value) (vs : Values) → fields_of v ≡ some vs → v ≡ Value.Rec vs
+pub is-record : (v : Value) (vs : Values) → fields_of v ≡ Some vs → v ≡ Value.Rec vs
 unfolding fields_of
 is-record (Value.Int own) vs e = absurd (some≢none vs (sym e))
 is-record (Value.Str text) vs e = absurd (some≢none vs (sym e))
@@ -63,7 +63,7 @@ is-record (Value.Fact id) vs e = absurd (some≢none vs (sym e))
 is-record (Value.Rec fields) vs e = ap Value.Rec (some-injective fields vs e)
 is-record (Value.Uni disc v) vs e = absurd (some≢none vs (sym e))
 
-pub is_union : (disc : ℕ) (v w : Value) → held disc v ≡ some w → v ≡ Value.Uni disc w
+pub is_union : (disc : ℕ) (v w : Value) → held disc v ≡ Some w → v ≡ Value.Uni disc w
 unfolding held
 is_union disc (Value.Int own) w e = absurd (some≢none w (sym e))
 is_union disc (Value.Str text) w e = absurd (some≢none w (sym e))
@@ -71,7 +71,7 @@ is_union disc (Value.Bytes own) w e = absurd (some≢none w (sym e))
 is_union disc (Value.Fact id) w e = absurd (some≢none w (sym e))
 is_union disc (Value.Rec fields) w e = absurd (some≢none w (sym e))
 is_union disc (Value.Uni d v) w e =
-    by-test (λ (o : Option Value). o ≡ some w → Value.Uni d v ≡ Value.Uni disc w) (eqb d disc)
+    by-test (λ (o : Option Value). o ≡ Some w → Value.Uni d v ≡ Value.Uni disc w) (eqb d disc)
     (λ q r. ap₂ Value.Uni (eqb-eq d disc q) (some-injective v w r)) (λ q r. absurd (some≢none w (sym r))) e
 
 -- bytes of a constant
@@ -80,11 +80,11 @@ bytes_of (Const.Bytes bytes) = bytes
 bytes_of (Const.Prefix bytes) = []
 bytes_of (Const.Fuzzy x d a) = []
 
-pub const-bytes : (a b : List ℕ) → some (Const.Bytes a) ≡ some (Const.Bytes b) → a ≡ b
+pub const-bytes : (a b : List ℕ) → Some (Const.Bytes a) ≡ Some (Const.Bytes b) → a ≡ b
 unfolding bytes_of
 const-bytes a b e = ap bytes_of (some-injective (Const.Bytes a) (Const.Bytes b) e)
 
-pub only-bytes : (c : Const) (b : List ℕ) → bytes_only c ≡ some b → c ≡ Const.Bytes b
+pub only-bytes : (c : Const) (b : List ℕ) → bytes_only c ≡ Some b → c ≡ Const.Bytes b
 unfolding bytes_only
 only-bytes (Const.Bytes a) b e = ap Const.Bytes (some-injective a b e)
 only-bytes (Const.Prefix a) b e = absurd (some≢none b (sym e))
@@ -96,7 +96,7 @@ IsBytes (Const.Prefix bytes) = ⊥
 IsBytes (Const.Fuzzy x d a) = ⊥
 
 -- a constant that fits one type alone
-pub at-int : (ty : Ty) (c d : Const) → at_int ty c ≡ some d → c ≡ d
+pub at-int : (ty : Ty) (c d : Const) → at_int ty c ≡ Some d → c ≡ d
 unfolding at_int
 at-int Ty.Int c d e = some-injective c d e
 at-int Ty.Str c d e = absurd (some≢none d (sym e))
@@ -105,7 +105,7 @@ at-int (Ty.Fact p) c d e = absurd (some≢none d (sym e))
 at-int (Ty.Record fs) c d e = absurd (some≢none d (sym e))
 at-int (Ty.Union alts) c d e = absurd (some≢none d (sym e))
 
-pub at-str : (ty : Ty) (c d : Const) → at_str ty c ≡ some d → c ≡ d
+pub at-str : (ty : Ty) (c d : Const) → at_str ty c ≡ Some d → c ≡ d
 unfolding at_str
 at-str Ty.Int c d e = absurd (some≢none d (sym e))
 at-str Ty.Str c d e = some-injective c d e
@@ -114,7 +114,7 @@ at-str (Ty.Fact p) c d e = absurd (some≢none d (sym e))
 at-str (Ty.Record fs) c d e = absurd (some≢none d (sym e))
 at-str (Ty.Union alts) c d e = absurd (some≢none d (sym e))
 
-pub at-bytes : (ty : Ty) (c d : Const) → at_bytes ty c ≡ some d → c ≡ d
+pub at-bytes : (ty : Ty) (c d : Const) → at_bytes ty c ≡ Some d → c ≡ d
 unfolding at_bytes
 at-bytes Ty.Int c d e = absurd (some≢none d (sym e))
 at-bytes Ty.Str c d e = absurd (some≢none d (sym e))
@@ -157,7 +157,7 @@ var-not-constant T n x e =
 pub read-node : (T : Tables) (n limit : ℕ) (bound : List Binding) → is_constant T n ≡ false → (resolve_below quiet T (suc limit) n bound).slot ≡ (resolve_node quiet T (resolve_below quiet T limit) n (node_at T n) bound).slot
 unfolding resolve_below
 read-node T n limit bound e =
-    ap (λ (b : Bool). ((elim b as (λ _. Resolver (List Binding)) [ true ↦ give (some (Slot.Const n)) | false ↦ resolve_node quiet T (resolve_below quiet T limit) n (node_at T n) ]) bound).slot) e
+    ap (λ (b : Bool). ((elim b as (λ _. Resolver (List Binding)) [ true ↦ give (Some (Slot.Const n)) | false ↦ resolve_node quiet T (resolve_below quiet T limit) n (node_at T n) ]) bound).slot) e
 
 -- a node of a kind that is never constant
 pub not-constant : (T : Tables) (node : Node) (n : ℕ) → node_at T n ≡ node → ((cs : List Bool) → constant_of cs node ≡ false) → is_constant T n ≡ false
@@ -178,7 +178,7 @@ slot-of-var T n x bound e = go (length T.nodes) refl
     go zero q = absurd (not-suc-le-zero (subst (λ k. n < k) q (var-in T n x e)))
     go (suc l) q = read-node T n l bound (var-not-constant T n x e) ∙ ap (λ (node : Node). (resolve_node quiet T (resolve_below quiet T l) n node bound).slot) e
 
-const-slot : (slot : Slot) (m : ℕ) → const_node slot ≡ some m → slot ≡ Slot.Const m
+const-slot : (slot : Slot) (m : ℕ) → const_node slot ≡ Some m → slot ≡ Slot.Const m
 unfolding const_node
 const-slot (Slot.Row a p) m e = absurd (some≢none m (sym e))
 const-slot (Slot.Key a t) m e = absurd (some≢none m (sym e))
@@ -187,10 +187,10 @@ const-slot (Slot.Field a p t) m e = absurd (some≢none m (sym e))
 const-slot (Slot.Value a t) m e = absurd (some≢none m (sym e))
 const-slot (Slot.Const n) m e = ap Slot.Const (some-injective n m e)
 
-pub const-lookup : (bound : List Binding) (x m : ℕ) → const_bound bound x ≡ some m → lookup bound x ≡ some (Slot.Const m)
+pub const-lookup : (bound : List Binding) (x m : ℕ) → const_bound bound x ≡ Some m → lookup bound x ≡ Some (Slot.Const m)
 const-lookup bound x m e =
     let r = bind-some (lookup bound x) const_node m e in
-    r.1 ∙ ap some (const-slot r.0 m r.2)
+    r.1 ∙ ap Some (const-slot r.0 m r.2)
 
 module _ (T : Tables) (engine : Engine) (address : ℕ) (ty : Ty) (key : Value) (folded : List ℕ) where
   -- the bindings hold the file's Consts
@@ -203,21 +203,21 @@ module _ (T : Tables) (engine : Engine) (address : ℕ) (ty : Ty) (key : Value) 
 
   -- a pattern that `constant` gives bytes
   abbrev HasBytes : ℕ → Type 0
-  HasBytes limit = (n t : ℕ) (b : List ℕ) → constant_below T limit n t ≡ some (Const.Bytes b)
-      → (f : ℕ) (v : Value) (path : FieldPath) (bound after : List Binding) → Consts bound → below f n t v path bound ≡ some after → (encode v ≡ b) × (after ≡ bound)
+  HasBytes limit = (n t : ℕ) (b : List ℕ) → constant_below T limit n t ≡ Some (Const.Bytes b)
+      → (f : ℕ) (v : Value) (path : FieldPath) (bound after : List Binding) → Consts bound → below f n t v path bound ≡ Some after → (encode v ≡ b) × (after ≡ bound)
 
   -- the node that a pattern stands for
-  pub node-stands : (n : ℕ) → var_name (node_at T n) ≡ none → stands_for T n ≡ n
+  pub node-stands : (n : ℕ) → var_name (node_at T n) ≡ None → stands_for T n ≡ n
   unfolding stands_for const_of ◌when_some◌
-  node-stands n e = ap (λ (o : Option ℕ). get_or (o when_some λ x. lookup T.bindings x when_some const_node) n) e
+  node-stands n e = ap (λ (o : Option ℕ). unwrap_or (o when_some λ x. lookup T.bindings x when_some const_node) n) e
 
-  pub var-stands : (n x : ℕ) → node_at T n ≡ Node.Var x → stands_for T n ≡ get_or (const_bound T.bindings x) n
+  pub var-stands : (n x : ℕ) → node_at T n ≡ Node.Var x → stands_for T n ≡ unwrap_or (const_bound T.bindings x) n
   unfolding stands_for const_of var_name ◌when_some◌
-  var-stands n x e = ap (λ (node : Node). get_or (var_name node when_some λ y. lookup T.bindings y when_some const_node) n) e
+  var-stands n x e = ap (λ (node : Node). unwrap_or (var_name node when_some λ y. lookup T.bindings y when_some const_node) n) e
 
   module _ (limit : ℕ) (ih : HasBytes limit) (f : ℕ) where
-    fields-bytes : (fields : List FieldPattern) (fs : List FieldTy) (b : List ℕ) → constant_fields (constant_below T limit) fields fs ≡ some b
-        → (place : ℕ → FieldPath) (i : ℕ) (vs : Values) (bound after : List Binding) → Consts bound → each_matches (below f) place fields i fs vs bound ≡ some after → (encode_all vs ≡ b) × (after ≡ bound)
+    fields-bytes : (fields : List FieldPattern) (fs : List FieldTy) (b : List ℕ) → constant_fields (constant_below T limit) fields fs ≡ Some b
+        → (place : ℕ → FieldPath) (i : ℕ) (vs : Values) (bound after : List Binding) → Consts bound → each_matches (below f) place fields i fs vs bound ≡ Some after → (encode_all vs ≡ b) × (after ≡ bound)
     unfolding constant_fields each_matches encode
     fields-bytes fields [] b e place i Values.no_more bound after c m = (some-injective [] b e, sym (some-injective bound after m))
     fields-bytes fields [] b e place i (v and vs) bound after c m = absurd (some≢none after (sym m))
@@ -227,15 +227,15 @@ module _ (T : Tables) (engine : Engine) (address : ℕ) (ty : Ty) (key : Value) 
         let constant = bind-some (constant_below T limit pattern.0 g.type) _ b pattern.2 in
         let own = bind-some (bytes_only constant.0) _ b constant.2 in
         let rest = bind-some (constant_fields (constant_below T limit) fields fs) _ b own.2 in
-        let first = bind-some (elim (field_pattern fields g.name) as (λ _. Option (List Binding)) [ none ↦ some bound | some n ↦ below f n g.type v (place i) bound ]) _ after m in
-        let h = ih pattern.0 g.type own.0 (constant.1 ∙ ap some (only-bytes constant.0 own.0 own.1)) f v (place i) bound first.0 c
-        (ap (λ (o : Option ℕ). elim o as (λ _. Option (List Binding)) [ none ↦ some bound | some n ↦ below f n g.type v (place i) bound ]) (sym pattern.1) ∙ first.1) in
+        let first = bind-some (elim (field_pattern fields g.name) as (λ _. Option (List Binding)) [ None ↦ Some bound | Some n ↦ below f n g.type v (place i) bound ]) _ after m in
+        let h = ih pattern.0 g.type own.0 (constant.1 ∙ ap Some (only-bytes constant.0 own.0 own.1)) f v (place i) bound first.0 c
+        (ap (λ (o : Option ℕ). elim o as (λ _. Option (List Binding)) [ None ↦ Some bound | Some n ↦ below f n g.type v (place i) bound ]) (sym pattern.1) ∙ first.1) in
         let k = fields-bytes fields fs rest.0 rest.1 place (suc i) vs bound after c (ap (λ (l : List Binding). each_matches (below f) place fields (suc i) fs vs l) (sym h.1) ∙ first.2) in
         (ap₂ (λ (x y : List ℕ). x ++ y) h.0 k.0 ∙ some-injective (own.0 ++ rest.0) b rest.2, k.1)
 
     union-bytes : (fields : List FieldPattern) (alts : List Alternative) (b : List ℕ) (v : Value) (path : FieldPath) (bound after : List Binding)
-        → constant_record (constant_below T limit) fields (Ty.Union alts) ≡ some (Const.Bytes b) → Consts bound
-        → union_matches T engine address ty key folded (below f) (only_field fields) alts v path bound ≡ some after → (encode v ≡ b) × (after ≡ bound)
+        → constant_record (constant_below T limit) fields (Ty.Union alts) ≡ Some (Const.Bytes b) → Consts bound
+        → union_matches T engine address ty key folded (below f) (only_field fields) alts v path bound ≡ Some after → (encode v ≡ b) × (after ≡ bound)
     unfolding constant_record union_matches alternative_matches encode
     union-bytes fields alts b v path bound after e c m =
         let only = bind-some (only_field fields) _ (Const.Bytes b) e in
@@ -245,12 +245,12 @@ module _ (T : Tables) (engine : Engine) (address : ℕ) (ty : Ty) (key : Value) 
         let chosen = ap (λ (p : Option FieldPattern). union_matches T engine address ty key folded (below f) p alts v path bound) (sym only.1) ∙ m in
         let named = ap (λ (a : Option Alternative). alternative_matches T engine address ty key folded (below f) only.0 a v path bound) (sym alt.1) ∙ chosen in
         let inner = bind-some (held alt.0.disc v) _ after named in
-        let h = ih only.0.node alt.0.type own.0 (constant.1 ∙ ap some (only-bytes constant.0 own.0 own.1)) f inner.0 (payload path alt.0.disc) bound after c inner.2 in
+        let h = ih only.0.node alt.0.type own.0 (constant.1 ∙ ap Some (only-bytes constant.0 own.0 own.1)) f inner.0 (payload path alt.0.disc) bound after c inner.2 in
         (ap encode (is_union alt.0.disc v inner.0 inner.1) ∙ ap (encode_union alt.0.disc) h.0 ∙ const-bytes _ b own.2, h.1)
 
     record-bytes : (fields : List FieldPattern) (u : Ty) (b : List ℕ) (v : Value) (path : FieldPath) (bound after : List Binding)
-        → constant_record (constant_below T limit) fields u ≡ some (Const.Bytes b) → Consts bound
-        → record_at T engine address ty key folded (below f) fields u v path bound ≡ some after → (encode v ≡ b) × (after ≡ bound)
+        → constant_record (constant_below T limit) fields u ≡ Some (Const.Bytes b) → Consts bound
+        → record_at T engine address ty key folded (below f) fields u v path bound ≡ Some after → (encode v ≡ b) × (after ≡ bound)
     unfolding constant_record record_at record_matches encode
     record-bytes fields Ty.Int b v path bound after e c m = absurd (some≢none (Const.Bytes b) (sym e))
     record-bytes fields Ty.Str b v path bound after e c m = absurd (some≢none (Const.Bytes b) (sym e))
@@ -265,19 +265,19 @@ module _ (T : Tables) (engine : Engine) (address : ℕ) (ty : Ty) (key : Value) 
 
     -- a pattern as it is written
     written-bytes : (node : Node) (t : ℕ) (b : List ℕ) (v : Value) (path : FieldPath) (bound after : List Binding)
-        → constant_node T (constant_below T limit) node (type_at T t) ≡ some (Const.Bytes b) → Consts bound
-        → written_matches T engine address ty key folded (below f) node t v path bound ≡ some after → (encode v ≡ b) × (after ≡ bound)
+        → constant_node T (constant_below T limit) node (type_at T t) ≡ Some (Const.Bytes b) → Consts bound
+        → written_matches T engine address ty key folded (below f) node t v path bound ≡ Some after → (encode v ≡ b) × (after ≡ bound)
     unfolding constant_node written_matches encode
     written-bytes (Node.Int bytes) t b v path bound after e c m =
         let a = accepted (is_int bytes v) bound after m in
-        (ap encode (is-int bytes v a.0) ∙ const-bytes _ b (ap some (at-int (type_at T t) _ _ e)), a.1)
+        (ap encode (is-int bytes v a.0) ∙ const-bytes _ b (ap Some (at-int (type_at T t) _ _ e)), a.1)
     written-bytes (Node.Str x) t b v path bound after e c m =
         let a = accepted (text_passes (same_bytes (name_at T x)) v) bound after m in
         let s = is-text (same_bytes (name_at T x)) v a.0 in
-        (ap encode s.1 ∙ ap encode_str (sym (same-eq (name_at T x) s.0 s.2)) ∙ const-bytes _ b (ap some (at-str (type_at T t) _ _ e)), a.1)
+        (ap encode s.1 ∙ ap encode_str (sym (same-eq (name_at T x) s.0 s.2)) ∙ const-bytes _ b (ap Some (at-str (type_at T t) _ _ e)), a.1)
     written-bytes (Node.Bytes bytes) t b v path bound after e c m =
         let a = accepted (is_bytes bytes v) bound after m in
-        (ap encode (is-bytes bytes v a.0) ∙ const-bytes _ b (ap some (at-bytes (type_at T t) _ _ e)), a.1)
+        (ap encode (is-bytes bytes v a.0) ∙ const-bytes _ b (ap Some (at-bytes (type_at T t) _ _ e)), a.1)
     written-bytes (Node.Var x) t b v path bound after e c m = absurd (some≢none (Const.Bytes b) (sym e))
     written-bytes Node.Wildcard t b v path bound after e c m = absurd (some≢none (Const.Bytes b) (sym e))
     written-bytes Node.Never t b v path bound after e c m = absurd (some≢none (Const.Bytes b) (sym e))
@@ -294,41 +294,41 @@ module _ (T : Tables) (engine : Engine) (address : ℕ) (ty : Ty) (key : Value) 
     written-bytes Node.Error t b v path bound after e c m = absurd (some≢none (Const.Bytes b) (sym e))
 
     -- what stands at n itself
-    own-bytes : (node : Node) (n t : ℕ) (b : List ℕ) (v : Value) (path : FieldPath) (bound after : List Binding) → node_at T n ≡ node → var_name node ≡ none
-        → constant_node T (constant_below T limit) (node_at T (stands_for T n)) (type_at T t) ≡ some (Const.Bytes b) → Consts bound
-        → written_matches T engine address ty key folded (below f) node t v path bound ≡ some after → (encode v ≡ b) × (after ≡ bound)
+    own-bytes : (node : Node) (n t : ℕ) (b : List ℕ) (v : Value) (path : FieldPath) (bound after : List Binding) → node_at T n ≡ node → var_name node ≡ None
+        → constant_node T (constant_below T limit) (node_at T (stands_for T n)) (type_at T t) ≡ Some (Const.Bytes b) → Consts bound
+        → written_matches T engine address ty key folded (below f) node t v path bound ≡ Some after → (encode v ≡ b) × (after ≡ bound)
     own-bytes node n t b v path bound after q k e c m =
         written-bytes node t b v path bound after
         (ap (λ (x : Node). constant_node T (constant_below T limit) x (type_at T t)) (sym (ap (node_at T) (node-stands n (ap var_name q ∙ k)) ∙ q)) ∙ e) c m
 
     -- a name
     var-bytes : (x n t : ℕ) (b : List ℕ) (v : Value) (path : FieldPath) (bound after : List Binding) → node_at T n ≡ Node.Var x
-        → constant_node T (constant_below T limit) (node_at T (stands_for T n)) (type_at T t) ≡ some (Const.Bytes b) → Consts bound
-        → node_matches T engine address ty key folded (below f) (Node.Var x) n t v path bound ≡ some after → (encode v ≡ b) × (after ≡ bound)
+        → constant_node T (constant_below T limit) (node_at T (stands_for T n)) (type_at T t) ≡ Some (Const.Bytes b) → Consts bound
+        → node_matches T engine address ty key folded (below f) (Node.Var x) n t v path bound ≡ Some after → (encode v ≡ b) × (after ≡ bound)
     unfolding node_matches read_matches slot_matches constant_node
     var-bytes x n t b v path bound after q e c m = go (const_bound T.bindings x) refl
       where
         go : (o : Option ℕ) → const_bound T.bindings x ≡ o → (encode v ≡ b) × (after ≡ bound)
-        go none k =
+        go None k =
             absurd (some≢none (Const.Bytes b) (sym
-            (sym (ap (λ (node : Node). constant_node T (constant_below T limit) node (type_at T t)) (ap (node_at T) (var-stands n x q ∙ ap (λ (o : Option ℕ). get_or o n) k) ∙ q)) ∙ e)))
-        go (some a) k =
+            (sym (ap (λ (node : Node). constant_node T (constant_below T limit) node (type_at T t)) (ap (node_at T) (var-stands n x q ∙ ap (λ (o : Option ℕ). unwrap_or o n) k) ∙ q)) ∙ e)))
+        go (Some a) k =
             let found = const-lookup bound x a (c x ∙ k) in
             let slot = slot-of-var T n x bound q ∙ found in
             written-bytes (node_at T a) t b v path bound after
-            (ap (λ (node : Node). constant_node T (constant_below T limit) node (type_at T t)) (sym (ap (node_at T) (var-stands n x q ∙ ap (λ (o : Option ℕ). get_or o n) k))) ∙ e) c
-            (ap (λ (o : Option Slot). elim o as (λ _. Option (List Binding)) [ none ↦ some bound | some s ↦ slot_matches T engine address ty key folded (below f) s t v path bound ]) (sym slot)
-            ∙ ap (λ (o : Option Slot). elim o as (λ _. Option (List Binding)) [ none ↦ new_name T engine address ty key folded x t v path bound | some s ↦ read_matches T engine address ty key folded (below f) n t v path bound ]) (sym found) ∙ m)
+            (ap (λ (node : Node). constant_node T (constant_below T limit) node (type_at T t)) (sym (ap (node_at T) (var-stands n x q ∙ ap (λ (o : Option ℕ). unwrap_or o n) k))) ∙ e) c
+            (ap (λ (o : Option Slot). elim o as (λ _. Option (List Binding)) [ None ↦ Some bound | Some s ↦ slot_matches T engine address ty key folded (below f) s t v path bound ]) (sym slot)
+            ∙ ap (λ (o : Option Slot). elim o as (λ _. Option (List Binding)) [ None ↦ new_name T engine address ty key folded x t v path bound | Some s ↦ read_matches T engine address ty key folded (below f) n t v path bound ]) (sym found) ∙ m)
 
     -- nothing else has bytes
-    no_bytes : (node : Node) (n t : ℕ) (b : List ℕ) → node_at T n ≡ node → var_name node ≡ none → constant_node T (constant_below T limit) node (type_at T t) ≡ none
-        → constant_node T (constant_below T limit) (node_at T (stands_for T n)) (type_at T t) ≡ some (Const.Bytes b) → ⊥
+    no_bytes : (node : Node) (n t : ℕ) (b : List ℕ) → node_at T n ≡ node → var_name node ≡ None → constant_node T (constant_below T limit) node (type_at T t) ≡ None
+        → constant_node T (constant_below T limit) (node_at T (stands_for T n)) (type_at T t) ≡ Some (Const.Bytes b) → ⊥
     no_bytes node n t b q k z e =
         some≢none (Const.Bytes b) (sym e ∙ ap (λ (x : Node). constant_node T (constant_below T limit) x (type_at T t)) (ap (node_at T) (node-stands n (ap var_name q ∙ k)) ∙ q) ∙ z)
 
     node-bytes : (node : Node) (n t : ℕ) (b : List ℕ) (v : Value) (path : FieldPath) (bound after : List Binding) → node_at T n ≡ node
-        → constant_node T (constant_below T limit) (node_at T (stands_for T n)) (type_at T t) ≡ some (Const.Bytes b) → Consts bound
-        → node_matches T engine address ty key folded (below f) node n t v path bound ≡ some after → (encode v ≡ b) × (after ≡ bound)
+        → constant_node T (constant_below T limit) (node_at T (stands_for T n)) (type_at T t) ≡ Some (Const.Bytes b) → Consts bound
+        → node_matches T engine address ty key folded (below f) node n t v path bound ≡ Some after → (encode v ≡ b) × (after ≡ bound)
     unfolding node_matches var_name constant_node
     node-bytes (Node.Int bytes) n t b v path bound after q e c m = own-bytes (Node.Int bytes) n t b v path bound after q refl e c m
     node-bytes (Node.Str x) n t b v path bound after q e c m = own-bytes (Node.Str x) n t b v path bound after q refl e c m
@@ -338,11 +338,11 @@ module _ (T : Tables) (engine : Engine) (address : ℕ) (ty : Ty) (key : Value) 
     node-bytes Node.Never n t b v path bound after q e c m = absurd (no_bytes Node.Never n t b q refl refl e)
     node-bytes (Node.Prefix x) n t b v path bound after q e c m = absurd (prefixed n t b q e)
       where
-        prefixed : (n t : ℕ) (b : List ℕ) → node_at T n ≡ Node.Prefix x → constant_node T (constant_below T limit) (node_at T (stands_for T n)) (type_at T t) ≡ some (Const.Bytes b) → ⊥
+        prefixed : (n t : ℕ) (b : List ℕ) → node_at T n ≡ Node.Prefix x → constant_node T (constant_below T limit) (node_at T (stands_for T n)) (type_at T t) ≡ Some (Const.Bytes b) → ⊥
         prefixed n t b q e = subst IsBytes (sym (at-str (type_at T t) _ _ (ap (λ (y : Node). constant_node T (constant_below T limit) y (type_at T t)) (sym (ap (node_at T) (node-stands n (ap var_name q)) ∙ q)) ∙ e))) tt
     node-bytes (Node.Fuzzy x d a) n t b v path bound after q e c m = absurd (fuzzied n t b q e)
       where
-        fuzzied : (n t : ℕ) (b : List ℕ) → node_at T n ≡ Node.Fuzzy x d a → constant_node T (constant_below T limit) (node_at T (stands_for T n)) (type_at T t) ≡ some (Const.Bytes b) → ⊥
+        fuzzied : (n t : ℕ) (b : List ℕ) → node_at T n ≡ Node.Fuzzy x d a → constant_node T (constant_below T limit) (node_at T (stands_for T n)) (type_at T t) ≡ Some (Const.Bytes b) → ⊥
         fuzzied n t b q e = subst IsBytes (sym (at-str (type_at T t) _ _ (ap (λ (y : Node). constant_node T (constant_below T limit) y (type_at T t)) (sym (ap (node_at T) (node-stands n (ap var_name q)) ∙ q)) ∙ e))) tt
     node-bytes (Node.Record fs) n t b v path bound after q e c m = own-bytes (Node.Record fs) n t b v path bound after q refl e c m
     node-bytes (Node.Access x k) n t b v path bound after q e c m = absurd (no_bytes (Node.Access x k) n t b q refl refl e)
@@ -360,16 +360,16 @@ module _ (T : Tables) (engine : Engine) (address : ℕ) (ty : Ty) (key : Value) 
   constant-bytes (suc limit) n t b e zero v path bound after c m = absurd (some≢none after (sym m))
   constant-bytes (suc limit) n t b e (suc f) v path bound after c m = node-bytes limit (constant-bytes limit) f (node_at T n) n t b v path bound after refl e c m
 
-  pub constant-of : (n t : ℕ) (k : Const) → constant T n t ≡ some k → var_name (node_at T n) ≡ none → (limit : ℕ) × (constant_node T (constant_below T limit) (node_at T n) (type_at T t) ≡ some k)
+  pub constant-of : (n t : ℕ) (k : Const) → constant T n t ≡ Some k → var_name (node_at T n) ≡ None → (limit : ℕ) × (constant_node T (constant_below T limit) (node_at T n) (type_at T t) ≡ Some k)
   unfolding constant constant_below
   constant-of n t k e o = go (length T.types) e
     where
-      go : (l : ℕ) → constant_below T l n t ≡ some k → (limit : ℕ) × (constant_node T (constant_below T limit) (node_at T n) (type_at T t) ≡ some k)
+      go : (l : ℕ) → constant_below T l n t ≡ Some k → (limit : ℕ) × (constant_node T (constant_below T limit) (node_at T n) (type_at T t) ≡ Some k)
       go zero q = absurd (some≢none k (sym q))
       go (suc l) q = (l, ap (λ (m : ℕ). constant_node T (constant_below T l) (node_at T m) (type_at T t)) (sym (node-stands n o)) ∙ q)
 
   -- a record's constant is bytes
-  pub record-constant : (limit : ℕ) (fields : List FieldPattern) (u : Ty) (k : Const) → constant_record (constant_below T limit) fields u ≡ some k → (b : List ℕ) × (k ≡ Const.Bytes b)
+  pub record-constant : (limit : ℕ) (fields : List FieldPattern) (u : Ty) (k : Const) → constant_record (constant_below T limit) fields u ≡ Some k → (b : List ℕ) × (k ≡ Const.Bytes b)
   unfolding constant_record
   record-constant limit fields Ty.Int k e = absurd (some≢none k (sym e))
   record-constant limit fields Ty.Str k e = absurd (some≢none k (sym e))
@@ -393,15 +393,15 @@ module _ (T : Tables) (engine : Engine) (address : ℕ) (ty : Ty) (key : Value) 
     pub same : after ≡ bound
 
   written_is : (node : Node) (limit f n t : ℕ) (k : Const) (v : Value) (path : FieldPath) (bound after : List Binding) → node_at T n ≡ node
-      → constant_node T (constant_below T limit) (node_at T n) (type_at T t) ≡ some k → (b : List ℕ) → k ≡ Const.Bytes b → Consts bound
-      → written_matches T engine address ty key folded (below f) node t v path bound ≡ some after → Written k v bound after
+      → constant_node T (constant_below T limit) (node_at T n) (type_at T t) ≡ Some k → (b : List ℕ) → k ≡ Const.Bytes b → Consts bound
+      → written_matches T engine address ty key folded (below f) node t v path bound ≡ Some after → Written k v bound after
   written_is node limit f n t k v path bound after q e b i c m =
       let h = written-bytes limit (constant-bytes limit) f node t b v path bound after
-      (ap (λ (x : Node). constant_node T (constant_below T limit) x (type_at T t)) (sym q) ∙ e ∙ ap some i) c m in
+      (ap (λ (x : Node). constant_node T (constant_below T limit) x (type_at T t)) (sym q) ∙ e ∙ ap Some i) c m in
       record { bytes = b; is = i; encoded = h.0; same = h.1 }
 
-  pub written-constant : (node : Node) (f n t : ℕ) (k : Const) (v : Value) (path : FieldPath) (bound after : List Binding) → node_at T n ≡ node → constant T n t ≡ some k → Consts bound
-      → written_matches T engine address ty key folded (below f) node t v path bound ≡ some after → Written k v bound after
+  pub written-constant : (node : Node) (f n t : ℕ) (k : Const) (v : Value) (path : FieldPath) (bound after : List Binding) → node_at T n ≡ node → constant T n t ≡ Some k → Consts bound
+      → written_matches T engine address ty key folded (below f) node t v path bound ≡ Some after → Written k v bound after
   unfolding var_name constant_node written_matches
   written-constant (Node.Int bytes) f n t k v path bound after q e c m =
       let l = constant-of n t k e (ap var_name q) in
@@ -434,13 +434,13 @@ module _ (T : Tables) (engine : Engine) (address : ℕ) (ty : Ty) (key : Value) 
   written-constant Node.Error f n t k v path bound after q e c m = absurd (some≢none after (sym m))
 
   -- a Prefix or a Fuzzy has its own kind of constant
-  pub prefix-constant : (n t x : ℕ) (k : Const) → node_at T n ≡ Node.Prefix x → constant T n t ≡ some k → k ≡ Const.Prefix (encode_prefix (name_at T x))
+  pub prefix-constant : (n t x : ℕ) (k : Const) → node_at T n ≡ Node.Prefix x → constant T n t ≡ Some k → k ≡ Const.Prefix (encode_prefix (name_at T x))
   unfolding var_name constant_node
   prefix-constant n t x k q e =
       let l = constant-of n t k e (ap var_name q) in
       sym (at-str (type_at T t) _ k (ap (λ (y : Node). constant_node T (constant_below T l.0) y (type_at T t)) (sym q) ∙ l.1))
 
-  pub fuzzy-constant : (n t x d : ℕ) (a : Anchor) (k : Const) → node_at T n ≡ Node.Fuzzy x d a → constant T n t ≡ some k → k ≡ Const.Fuzzy x d a
+  pub fuzzy-constant : (n t x d : ℕ) (a : Anchor) (k : Const) → node_at T n ≡ Node.Fuzzy x d a → constant T n t ≡ Some k → k ≡ Const.Fuzzy x d a
   unfolding var_name constant_node
   fuzzy-constant n t x d a k q e =
       let l = constant-of n t k e (ap var_name q) in

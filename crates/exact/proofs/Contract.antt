@@ -1,7 +1,7 @@
 -- From the exported function's contract: of a call that wrote a plan, every level of that plan.
 use mathlib.Core.Bool.{true, false}
 use mathlib.Core.List.{List, [], ◌∷◌, map}
-use mathlib.Core.Option.{none}
+use Rattle.std.specs.Prelude.{None}
 use mathlib.Core.Path.{◌≡◌, refl, sym, ap, ◌∙◌, subst}
 use Prim.Native.Nat.{ℕ, zero, suc, ◌<◌}
 use native.Mathlib.Nat.{not-suc-le-zero, le_of_suc-le-suc}
@@ -90,7 +90,7 @@ module _ (bytes out : List ℕ) (d : Demand3 bytes out) where
   level-is : (k : ℕ) → k < length T.levels → plan_level_at d.plan k ≡ planned T k
   unfolding plan_level_at level_at
   level-is k h =
-      let past : PlanLevel = record { narrowings = 0; closers = 0; parts = 0; seek = SeekKey.Prefix [] []; guide = none; residuals = []; folded = [] } in
+      let past : PlanLevel = record { narrowings = 0; closers = 0; parts = 0; seek = SeekKey.Prefix [] []; guide = None; residuals = []; folded = [] } in
       ap (λ (ls : List PlanLevel). get_or ls k past) d.holds.levels
       ∙ get-map plan_level d.levels k (record { start = starting T; left = starting T; events = []; built = new; mistyped = false }) past (omega (arith, h, d.every-level))
       ∙ ap (λ (ls : List Level). plan_level (level_at T ls k)) same-levels ∙ sym (planned-is T k)

@@ -1,7 +1,7 @@
 -- Where a value's bytes end: `first_value` finds the value that stands first, whatever follows it but FF.
 use mathlib.Core.Bool.{Bool, true, false}
 use mathlib.Core.List.{List, [], ◌∷◌, ◌++◌, append_assoc, reverse}
-use mathlib.Core.Option.{Option, some}
+use Rattle.std.specs.Prelude.{Option, Some}
 use mathlib.Core.Path.{◌≡◌, refl, sym, ap, ◌∙◌, subst}
 use Prim.Native.Nat.{ℕ, suc, ◌+◌, ◌-◌, ◌≤◌}
 use native.Mathlib.Omega.{arith}
@@ -48,16 +48,16 @@ unfolding encode
 apart-all Values.no_more r h = h
 apart-all (v and vs) r h = subst Apart (sym (append_assoc (encode v) (encode_all vs) r)) (apart-value v (encode_all vs ++ r))
 
-after-zero : (r : List ℕ) → Apart r → text_end true r ≡ some r
+after-zero : (r : List ℕ) → Apart r → text_end true r ≡ Some r
 unfolding text_end
 after-zero [] h = refl
-after-zero (b ∷ bs) h = ap (λ (t : Bool). elim t [ true ↦ text_end false bs | false ↦ some (b ∷ bs) ]) h
+after-zero (b ∷ bs) h = ap (λ (t : Bool). elim t [ true ↦ text_end false bs | false ↦ Some (b ∷ bs) ]) h
 
-text-ends : (s r : List ℕ) → Apart r → text_end false ((escape s ++ term) ++ r) ≡ some r
+text-ends : (s r : List ℕ) → Apart r → text_end false ((escape s ++ term) ++ r) ≡ Some r
 unfolding text_end escape
 text-ends [] r h = after-zero r h
 text-ends (x ∷ s) r h =
-    by-test (λ (l : List ℕ). text_end false ((l ++ term) ++ r) ≡ some r) (eqb x 0)
+    by-test (λ (l : List ℕ). text_end false ((l ++ term) ++ r) ≡ Some r) (eqb x 0)
     (λ e. text-ends s r h)
     (λ e. ap (λ t. text_end t ((escape s ++ term) ++ r)) e ∙ text-ends s r h)
 
@@ -184,14 +184,14 @@ mutual
   values-marks Values.no_more = omega arith
   values-marks (v and vs) = more-marks (marks v) (marks_all vs) (encode v) (encode_all vs) (value-marks v) (values-marks vs)
 
-pub first-value : (v : Value) (r : List ℕ) → Whole v → Apart r → first_value (encode v ++ r) ≡ some (encode v)
+pub first-value : (v : Value) (r : List ℕ) → Whole v → Apart r → first_value (encode v ++ r) ≡ Some (encode v)
 unfolding first_value ◌when_some◌ ended
 first-value v r w h =
     let n : ℕ = length (encode v ++ r) in
     let l = length-append (encode v) r in
     let enough : length (encode v ++ r) ≡ length (encode v ++ r) - marks v + marks v = omega (arith, l, value-marks v) in
     let left : length (encode v ++ r) - length r ≡ length (encode v) = omega (arith, l) in
-    ap (λ (e : Option (List ℕ)). e when_some λ rest. some (take (length (encode v ++ r) - length rest) (encode v ++ r)))
+    ap (λ (e : Option (List ℕ)). e when_some λ rest. Some (take (length (encode v ++ r) - length rest) (encode v ++ r)))
     (value-ends v w (length (encode v ++ r)) (length (encode v ++ r) - marks v) 0 r enough h)
-    ∙ ap (λ k. some (take k (encode v ++ r))) left
-    ∙ ap some (take-append_seam (encode v) r)
+    ∙ ap (λ k. Some (take k (encode v ++ r))) left
+    ∙ ap Some (take-append_seam (encode v) r)

@@ -33,7 +33,7 @@ use Rattle.exact.proofs.Planned.{held-parts, level-passed}
 use Rattle.exact.proofs.NoFactSkipped.{whole, text-is, CleanLists, SameBound, goes-level, clean-walk, next-same, clean-before, begins, begins-next, begins-is, none-mistyped, no-fact-skipped}
 use Rattle.exact.proofs.Accepts.{Facts}
 use Rattle.exact.proofs.FileFacts.{file-facts}
-use Rattle.exact.proofs.Backward.{PartHeld, Some}
+use Rattle.exact.proofs.Backward.{PartHeld, Something}
 use Rattle.exact.proofs.LevelBack.{comes-key}
 
 part_held : (T : Tables) (engine : Engine) (k : SeekKeyPart) → HoldsValue T engine k → PartHeld engine k
@@ -52,7 +52,7 @@ nothing_known T start i h = absurd (some≢none h.0 (sym h.1))
 module _ (T : Tables) (facts : Facts T) (S : Sound T) (texts : Each (λ (k : Constraint). IsText (node_at T k.node)) T.constraints) where
   one-back : (l : LevelEntry) (start : Lists) → l.predicate < length T.predicates → is_own (node_at T l.node) (key_type T l) start.bindings ≡ true → SameBound T texts start.bindings → CleanLists (level T l start).left → (level T l start).mistyped ≡ false
       → (engine : Engine) (key' : Value) → HoldsValues T engine (plan_level (level_by placement T (level T l start))).seek → OfType T key' (key_type T l) → zero_free key' ≡ true → passes engine (key_type T l) (plan_level (level_by placement T (level T l start))) key' ≡ true
-      → Some (matches T engine l (plan_level (level_by placement T (level T l start))).folded start.bindings key')
+      → Something (matches T engine l (plan_level (level_by placement T (level T l start))).folded start.bindings key')
   unfolding key_type plan_level level level_of level_by placed_by matches walk_level seek_key
   one-back l start h own same clean typed engine key' held of z p =
       let t : ℕ = (predicate_at T l.predicate).key in
@@ -73,7 +73,7 @@ module _ (T : Tables) (facts : Facts T) (S : Sound T) (texts : Each (λ (k : Con
   abbrev Claim : LevelEntry → Lists → Level → Type 0
   Claim l start lv =
       (engine : Engine) (key' : Value) → HoldsValues T engine (plan_level (level_by placement T lv)).seek → OfType T key' (key_type T l) → zero_free key' ≡ true → passes engine (key_type T l) (plan_level (level_by placement T lv)) key' ≡ true
-      → Some (matches T engine l (plan_level (level_by placement T lv)).folded start.bindings key')
+      → Something (matches T engine l (plan_level (level_by placement T lv)).folded start.bindings key')
 
   every_back : (start : Lists) {entries : List LevelEntry} → Each (λ (l : LevelEntry). l.predicate < length T.predicates) entries → SameBound T texts start.bindings → own_nodes T start entries ≡ true
       → Each (λ (l : Level). l.mistyped ≡ false) (levels_from T start entries) → CleanLists (left_by start (levels_from T start entries)) → (k : ℕ) → k < length entries → (d : LevelEntry)

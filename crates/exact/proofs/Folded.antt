@@ -1,8 +1,7 @@
 -- What a level folds is of the name that it folds for: each folded comparison has that name on one side and a constant on the other.
 use mathlib.Core.Bool.{Bool, true, false}
 use mathlib.Core.List.{List, [], ◌∷◌, ◌++◌}
-use mathlib.Core.Option
-use mathlib.Core.Option.{Option, none, some}
+use Rattle.std.specs.Prelude.{Option, None, Some, unwrap_or}
 use mathlib.Core.Path.{◌≡◌, refl, sym, ap, ◌∙◌, subst}
 use Prim.Native.Nat.{ℕ, zero, suc, ◌+◌, ◌<◌, ◌≤◌}
 use native.Mathlib.Omega.{arith}
@@ -27,15 +26,15 @@ comparison_at T i = get_or T.comparisons i (record { op = CompareOp.Lt; left = 0
 
 has-snoc : (j i : ℕ) (ns : List ℕ) → Has j (ns ++ (i ∷ [])) → Or (Has j ns) (j ≡ i)
 unfolding first
-has-snoc j i [] h = by-test (λ (o : Option ℕ). (k : ℕ) × (o ≡ some k) → Or (Has j []) (j ≡ i)) (eqb j i) (λ e q. right (eqb-eq j i e)) (λ e q. absurd (some≢none q.0 (sym q.1))) h
+has-snoc j i [] h = by-test (λ (o : Option ℕ). (k : ℕ) × (o ≡ Some k) → Or (Has j []) (j ≡ i)) (eqb j i) (λ e q. right (eqb-eq j i e)) (λ e q. absurd (some≢none q.0 (sym q.1))) h
 has-snoc j i (n ∷ ns) h = go (has-snoc j i ns) (eqb j n) refl h
   where
-    go : (Has j (ns ++ (i ∷ [])) → Or (Has j ns) (j ≡ i)) → (t : Bool) → eqb j n ≡ t → (k : ℕ) × (elim t as (λ _. Option ℕ) [ true ↦ some n | false ↦ first (eqb j) (ns ++ (i ∷ [])) ] ≡ some k) → Or (Has j (n ∷ ns)) (j ≡ i)
-    go ih true e q = left (n, ap (λ (b : Bool). elim b as (λ _. Option ℕ) [ true ↦ some n | false ↦ first (eqb j) ns ]) e)
+    go : (Has j (ns ++ (i ∷ [])) → Or (Has j ns) (j ≡ i)) → (t : Bool) → eqb j n ≡ t → (k : ℕ) × (elim t as (λ _. Option ℕ) [ true ↦ Some n | false ↦ first (eqb j) (ns ++ (i ∷ [])) ] ≡ Some k) → Or (Has j (n ∷ ns)) (j ≡ i)
+    go ih true e q = left (n, ap (λ (b : Bool). elim b as (λ _. Option ℕ) [ true ↦ Some n | false ↦ first (eqb j) ns ]) e)
     go ih false e q = back (ih q)
       where
         back : Or (Has j ns) (j ≡ i) → Or (Has j (n ∷ ns)) (j ≡ i)
-        back (left x) = left (x.0, ap (λ (b : Bool). elim b as (λ _. Option ℕ) [ true ↦ some n | false ↦ first (eqb j) ns ]) e ∙ x.1)
+        back (left x) = left (x.0, ap (λ (b : Bool). elim b as (λ _. Option ℕ) [ true ↦ Some n | false ↦ first (eqb j) ns ]) e ∙ x.1)
         back (right x) = right x
 
 -- an edge that is taken, or none
@@ -48,33 +47,33 @@ taken j i CompareOp.Ge value e = by-option (λ (e' : Edges). Has j e'.folded →
 
 -- after one comparison
 pub after : Tables → ℕ → ℕ → ℕ → Comparison → Edges → Edges
-after T x t i c e = elim (sided T x t c) [ none ↦ e | some s ↦ take_edge i s.op s.value e ]
+after T x t i c e = elim (sided T x t c) [ None ↦ e | Some s ↦ take_edge i s.op s.value e ]
 
-taken-one : (T : Tables) (x t j i : ℕ) (c : Comparison) (e : Edges) → Has j (after T x t i c e).folded → Or (Has j e.folded) ((j ≡ i) × (s : Sided) × (sided T x t c ≡ some s))
+taken-one : (T : Tables) (x t j i : ℕ) (c : Comparison) (e : Edges) → Has j (after T x t i c e).folded → Or (Has j e.folded) ((j ≡ i) × (s : Sided) × (sided T x t c ≡ Some s))
 unfolding after
 taken-one T x t j i c e h = go (sided T x t c) refl h
   where
-    go : (o : Option Sided) → sided T x t c ≡ o → Has j (elim o as (λ _. Edges) [ none ↦ e | some s ↦ take_edge i s.op s.value e ]).folded → Or (Has j e.folded) ((j ≡ i) × (s : Sided) × (sided T x t c ≡ some s))
-    go none q k = left k
-    go (some s) q k = back (taken j i s.op s.value e k)
+    go : (o : Option Sided) → sided T x t c ≡ o → Has j (elim o as (λ _. Edges) [ None ↦ e | Some s ↦ take_edge i s.op s.value e ]).folded → Or (Has j e.folded) ((j ≡ i) × (s : Sided) × (sided T x t c ≡ Some s))
+    go None q k = left k
+    go (Some s) q k = back (taken j i s.op s.value e k)
       where
-        back : Or (Has j e.folded) (j ≡ i) → Or (Has j e.folded) ((j ≡ i) × (s : Sided) × (sided T x t c ≡ some s))
+        back : Or (Has j e.folded) (j ≡ i) → Or (Has j e.folded) ((j ≡ i) × (s : Sided) × (sided T x t c ≡ Some s))
         back (left y) = left y
         back (right y) = right (y, s, q)
 
 -- what is folded was folded before, or has the name on one side
 pub fold-of : (T : Tables) (x t i : ℕ) (cs : List Comparison) (e : Edges) → ((k : ℕ) → k < length cs → comparison_at T (i + k) ≡ get_or cs k (record { op = CompareOp.Lt; left = 0; right = 0 })) → (j : ℕ) → Has j (fold_from T x t i cs e).folded
-    → Or (Has j e.folded) ((s : Sided) × (sided T x t (comparison_at T j) ≡ some s))
+    → Or (Has j e.folded) ((s : Sided) × (sided T x t (comparison_at T j) ≡ Some s))
 unfolding fold_from after
 fold-of T x t i [] e at j h = left h
 fold-of T x t i (c ∷ cs) e at j h =
     back (fold-of T x t (suc i) cs (after T x t i c e) (λ k l. ap (comparison_at T) (omega arith) ∙ at (suc k) (omega (arith, l))) j h)
   where
-    back : Or (Has j (after T x t i c e).folded) ((s : Sided) × (sided T x t (comparison_at T j) ≡ some s)) → Or (Has j e.folded) ((s : Sided) × (sided T x t (comparison_at T j) ≡ some s))
+    back : Or (Has j (after T x t i c e).folded) ((s : Sided) × (sided T x t (comparison_at T j) ≡ Some s)) → Or (Has j e.folded) ((s : Sided) × (sided T x t (comparison_at T j) ≡ Some s))
     back (right y) = right y
     back (left y) = here (taken-one T x t j i c e y)
       where
-        here : Or (Has j e.folded) ((j ≡ i) × (s : Sided) × (sided T x t c ≡ some s)) → Or (Has j e.folded) ((s : Sided) × (sided T x t (comparison_at T j) ≡ some s))
+        here : Or (Has j e.folded) ((j ≡ i) × (s : Sided) × (sided T x t c ≡ Some s)) → Or (Has j e.folded) ((s : Sided) × (sided T x t (comparison_at T j) ≡ Some s))
         here (left z) = left z
         here (right z) =
             right (z.1, ap (sided T x t) (ap (comparison_at T) (z.0 ∙ first-at) ∙ at 0 (omega arith)) ∙ z.2)
@@ -83,7 +82,7 @@ fold-of T x t i (c ∷ cs) e at j h =
             first-at = omega arith
 
 -- Names on the sides of a comparison.
-var-named : (node : Node) (x : ℕ) → var_name node ≡ some x → node ≡ Node.Var x
+var-named : (node : Node) (x : ℕ) → var_name node ≡ Some x → node ≡ Node.Var x
 unfolding var_name
 var-named (Node.Int bytes) x e = absurd (some≢none x (sym e))
 var-named (Node.Str y) x e = absurd (some≢none x (sym e))
@@ -107,43 +106,43 @@ is-var : (T : Tables) (x n : ℕ) → is_var T x n ≡ true → node_at T n ≡ 
 unfolding is_var
 is-var T x n h = var-named (node_at T n) x (go (var_name (node_at T n)) h)
   where
-    go : (o : Option ℕ) → elim o as (λ _. Bool) [ none ↦ false | some y ↦ eqb y x ] ≡ true → o ≡ some x
-    go none q = absurd (true≢false (sym q))
-    go (some y) q = ap some (eqb-eq y x q)
+    go : (o : Option ℕ) → elim o as (λ _. Bool) [ None ↦ false | Some y ↦ eqb y x ] ≡ true → o ≡ Some x
+    go None q = absurd (true≢false (sym q))
+    go (Some y) q = ap Some (eqb-eq y x q)
 
 var_of : ℕ → Node → ℕ
-var_of d node = Option.get_or (var_name node) d
+var_of d node = unwrap_or (var_name node) d
 
 var-same : (x y : ℕ) → Node.Var x ≡ Node.Var y → x ≡ y
 unfolding var_of var_name
 var-same x y e = ap (var_of x) e
 
 -- a name that has a constant is bound to one in the file
-const-var : (T : Tables) (y n u : ℕ) (k : Const) → node_at T n ≡ Node.Var y → constant T n u ≡ some k → const_bound T.bindings y ≡ none → ⊥
+const-var : (T : Tables) (y n u : ℕ) (k : Const) → node_at T n ≡ Node.Var y → constant T n u ≡ Some k → const_bound T.bindings y ≡ None → ⊥
 unfolding constant stands_for const_of var_name ◌when_some◌ constant_node constant_below
 const-var T y n u k q e h = go (length T.types) e
   where
     stands : stands_for T n ≡ n
-    stands = ap (λ (node : Node). Option.get_or (var_name node when_some λ x. lookup T.bindings x when_some const_node) n) q ∙ ap (λ (o : Option ℕ). Option.get_or o n) h
+    stands = ap (λ (node : Node). unwrap_or (var_name node when_some λ x. lookup T.bindings x when_some const_node) n) q ∙ ap (λ (o : Option ℕ). unwrap_or o n) h
 
-    go : (l : ℕ) → constant_below T l n u ≡ some k → ⊥
+    go : (l : ℕ) → constant_below T l n u ≡ Some k → ⊥
     go zero p = some≢none k (sym p)
     go (suc l) p = some≢none k (sym p ∙ ap (λ (m : ℕ). constant_node T (constant_below T l) (node_at T m) (type_at T u)) stands ∙ ap (λ (node : Node). constant_node T (constant_below T l) node (type_at T u)) q)
 
 -- a comparison that a level folded for another name says nothing of a new one
-module _ (T : Tables) (bound : List Binding) (consts : (x : ℕ) → const_bound bound x ≡ const_bound T.bindings x) (y : ℕ) (fresh : lookup bound y ≡ none) where
-  no_const : const_bound T.bindings y ≡ none
+module _ (T : Tables) (bound : List Binding) (consts : (x : ℕ) → const_bound bound x ≡ const_bound T.bindings x) (y : ℕ) (fresh : lookup bound y ≡ None) where
+  no_const : const_bound T.bindings y ≡ None
   unfolding ◌when_some◌
   no_const = sym (consts y) ∙ ap (λ (o : Option Slot). o when_some const_node) fresh
 
-  unlike : (x : ℕ) (slot : Slot) → lookup bound x ≡ some slot → x ≡ y → ⊥
+  unlike : (x : ℕ) (slot : Slot) → lookup bound x ≡ Some slot → x ≡ y → ⊥
   unlike x slot h e = some≢none slot (sym h ∙ ap (lookup bound) e ∙ fresh)
 
-  pub other_name : (x u t : ℕ) (slot : Slot) (c : Comparison) (s : Sided) → lookup bound x ≡ some slot → sided T x u c ≡ some s → sided T y t c ≡ none
+  pub other_name : (x u t : ℕ) (slot : Slot) (c : Comparison) (s : Sided) → lookup bound x ≡ Some slot → sided T x u c ≡ Some s → sided T y t c ≡ None
   unfolding sided compared ◌when_some◌
   other_name x u t slot c s h e = go (is_var T y c.left) refl (is_var T y c.right) refl
     where
-      found : (other : Compared) × (compared T x c ≡ some other) × ((k : Const) × (constant T other.node u ≡ some k))
+      found : (other : Compared) × (compared T x c ≡ Some other) × ((k : Const) × (constant T other.node u ≡ Some k))
       found =
           let a = bind-some (compared T x c) _ s e in
           let b = bind-some (constant T a.0.node u) _ s a.2 in
@@ -157,7 +156,7 @@ module _ (T : Tables) (bound : List Binding) (consts : (x : ℕ) → const_bound
           node_of z = z.node
 
           at : (l : Bool) → is_var T x c.left ≡ l → (r : Bool) → is_var T x c.right ≡ r
-              → elim l as (λ _. Option Compared) [ true ↦ some (record { op = c.op; node = c.right }) | false ↦ elim r [ true ↦ some (record { op = flipped c.op; node = c.left }) | false ↦ none ] ] ≡ some found.0 → P
+              → elim l as (λ _. Option Compared) [ true ↦ Some (record { op = c.op; node = c.right }) | false ↦ elim r [ true ↦ Some (record { op = flipped c.op; node = c.left }) | false ↦ None ] ] ≡ Some found.0 → P
           at true p r q z = f p (ap node_of (sym (some-injective (record { op = c.op; node = c.right }) found.0 z)))
           at false p true q z = g q (ap node_of (sym (some-injective (record { op = flipped c.op; node = c.left }) found.0 z)))
           at false p false q z = absurd (some≢none found.0 (sym z))
@@ -174,13 +173,13 @@ module _ (T : Tables) (bound : List Binding) (consts : (x : ℕ) → const_bound
           (λ q z. const-var T y c.right u found.2.0 (is-var T y c.right p) (ap (λ (n : ℕ). constant T n u) (sym z) ∙ found.2.1) no_const)
           (λ q z. unlike x slot h (var-same x y (sym (is-var T x c.right q) ∙ is-var T y c.right p)))
 
-      go : (l : Bool) → is_var T y c.left ≡ l → (r : Bool) → is_var T y c.right ≡ r → sided T y t c ≡ none
+      go : (l : Bool) → is_var T y c.left ≡ l → (r : Bool) → is_var T y c.right ≡ r → sided T y t c ≡ None
       go true p r q = absurd (not_left p)
       go false p true q = absurd (not_right q)
       go false p false q =
-          ap (λ (o : Option Compared). o when_some λ other. constant T other.node t when_some λ k. bytes_only k when_some λ value. some (record { op = other.op; value = value }))
-          (ap (λ (b : Bool). elim b as (λ _. Option Compared) [ true ↦ some (record { op = c.op; node = c.right }) | false ↦ elim (is_var T y c.right) [ true ↦ some (record { op = flipped c.op; node = c.left }) | false ↦ none ] ]) p
-          ∙ ap (λ (b : Bool). elim b as (λ _. Option Compared) [ true ↦ some (record { op = flipped c.op; node = c.left }) | false ↦ none ]) q)
+          ap (λ (o : Option Compared). o when_some λ other. constant T other.node t when_some λ k. bytes_only k when_some λ value. Some (record { op = other.op; value = value }))
+          (ap (λ (b : Bool). elim b as (λ _. Option Compared) [ true ↦ Some (record { op = c.op; node = c.right }) | false ↦ elim (is_var T y c.right) [ true ↦ Some (record { op = flipped c.op; node = c.left }) | false ↦ None ] ]) p
+          ∙ ap (λ (b : Bool). elim b as (λ _. Option Compared) [ true ↦ Some (record { op = flipped c.op; node = c.left }) | false ↦ None ]) q)
 
 -- The matcher's question about comparisons, answered.
 all-from : (i : ℕ) (p : ℕ → Comparison → Bool) (c : Comparison) (cs : List Comparison) → p i c ≡ true → all_from (suc i) p cs ≡ true → all_from i p (c ∷ cs) ≡ true
@@ -190,17 +189,17 @@ all-from i p c cs e h = ap (λ (b : Bool). elim b as (λ _. Bool) [ true ↦ all
 asked-unless : (T : Tables) (folded : List ℕ) (x t : ℕ) (v : Value) (i : ℕ) (c : Comparison) → (Has i folded → comparison_holds T x t v c ≡ true) → asked T folded x t v i c ≡ true
 asked-unless T folded x t v i c h = by-option (λ (b : Bool). b ≡ true) (first (eqb i) folded) (λ e. refl) (λ j e. h (j, e))
 
-holds-none : (T : Tables) (x t : ℕ) (v : Value) (c : Comparison) → sided T x t c ≡ none → comparison_holds T x t v c ≡ true
+holds-none : (T : Tables) (x t : ℕ) (v : Value) (c : Comparison) → sided T x t c ≡ None → comparison_holds T x t v c ≡ true
 unfolding comparison_holds
-holds-none T x t v c e = ap (λ (o : Option Sided). elim o as (λ _. Bool) [ none ↦ true | some s ↦ ordered s.op (encode v) s.value ]) e
+holds-none T x t v c e = ap (λ (o : Option Sided). elim o as (λ _. Bool) [ None ↦ true | Some s ↦ ordered s.op (encode v) s.value ]) e
 
-holds-some : (T : Tables) (x t : ℕ) (v : Value) (c : Comparison) (s : Sided) → sided T x t c ≡ some s → ordered s.op (encode v) s.value ≡ true → comparison_holds T x t v c ≡ true
+holds-some : (T : Tables) (x t : ℕ) (v : Value) (c : Comparison) (s : Sided) → sided T x t c ≡ Some s → ordered s.op (encode v) s.value ≡ true → comparison_holds T x t v c ≡ true
 unfolding comparison_holds
-holds-some T x t v c s e h = ap (λ (o : Option Sided). elim o as (λ _. Bool) [ none ↦ true | some s' ↦ ordered s'.op (encode v) s'.value ]) e ∙ h
+holds-some T x t v c s e h = ap (λ (o : Option Sided). elim o as (λ _. Bool) [ None ↦ true | Some s' ↦ ordered s'.op (encode v) s'.value ]) e ∙ h
 
 module _ (T : Tables) (folded : List ℕ) (x t : ℕ) (v : Value) where
   -- none of the folded ones has the name on a side
-  all-silent : (i : ℕ) (cs : List Comparison) → ((k : ℕ) → k < length cs → comparison_at T (i + k) ≡ get_or cs k (record { op = CompareOp.Lt; left = 0; right = 0 })) → ((j : ℕ) → Has j folded → sided T x t (comparison_at T j) ≡ none)
+  all-silent : (i : ℕ) (cs : List Comparison) → ((k : ℕ) → k < length cs → comparison_at T (i + k) ≡ get_or cs k (record { op = CompareOp.Lt; left = 0; right = 0 })) → ((j : ℕ) → Has j folded → sided T x t (comparison_at T j) ≡ None)
       → all_from i (asked T folded x t v) cs ≡ true
   all-silent i [] at h = unfold all_from in refl
   all-silent i (c ∷ cs) at h =
@@ -209,16 +208,16 @@ module _ (T : Tables) (folded : List ℕ) (x t : ℕ) (v : Value) where
       (asked-unless T folded x t v i c (λ k. holds-none T x t v c (ap (sided T x t) (sym here) ∙ h i k)))
       (all-silent (suc i) cs (λ k l. ap (comparison_at T) (omega arith) ∙ at (suc k) (omega (arith, l))) h)
 
-  pub silent : ((j : ℕ) → Has j folded → sided T x t (comparison_at T j) ≡ none) → folded_hold T folded x t v ≡ true
+  pub silent : ((j : ℕ) → Has j folded → sided T x t (comparison_at T j) ≡ None) → folded_hold T folded x t v ≡ true
   unfolding folded_hold comparison_at
   silent h = all-silent 0 T.comparisons (λ k l. ap (comparison_at T) (omega arith)) h
 
   -- the edge that an op and a constant give
   abbrev EdgeOf : CompareOp → List ℕ → Edges → Type 0
-  EdgeOf CompareOp.Lt value e = e.hi ≡ some (edge value false)
-  EdgeOf CompareOp.Le value e = e.hi ≡ some (edge value true)
-  EdgeOf CompareOp.Gt value e = e.lo ≡ some (edge value false)
-  EdgeOf CompareOp.Ge value e = e.lo ≡ some (edge value true)
+  EdgeOf CompareOp.Lt value e = e.hi ≡ Some (edge value false)
+  EdgeOf CompareOp.Le value e = e.hi ≡ Some (edge value true)
+  EdgeOf CompareOp.Gt value e = e.lo ≡ Some (edge value false)
+  EdgeOf CompareOp.Ge value e = e.lo ≡ Some (edge value true)
 
   edge-says : (op : CompareOp) (value w : List ℕ) (e : Edges) → EdgeOf op value e → above e.lo w ≡ true → under e.hi w ≡ true → ordered op w value ≡ true
   unfolding above under
@@ -229,15 +228,15 @@ module _ (T : Tables) (folded : List ℕ) (x t : ℕ) (v : Value) where
 
   edge-taken : (i : ℕ) (op : CompareOp) (value : List ℕ) (e : Edges) → Has i (take_edge i op value e).folded → (Has i e.folded → ⊥) → EdgeOf op value (take_edge i op value e)
   unfolding take_edge take_hi take_lo
-  edge-taken i CompareOp.Lt value e = by-option (λ (e' : Edges). Has i e'.folded → (Has i e.folded → ⊥) → e'.hi ≡ some (edge value false)) e.hi (λ q h k. refl) (λ y q h k. absurd (k h))
-  edge-taken i CompareOp.Le value e = by-option (λ (e' : Edges). Has i e'.folded → (Has i e.folded → ⊥) → e'.hi ≡ some (edge value true)) e.hi (λ q h k. refl) (λ y q h k. absurd (k h))
-  edge-taken i CompareOp.Gt value e = by-option (λ (e' : Edges). Has i e'.folded → (Has i e.folded → ⊥) → e'.lo ≡ some (edge value false)) e.lo (λ q h k. refl) (λ y q h k. absurd (k h))
-  edge-taken i CompareOp.Ge value e = by-option (λ (e' : Edges). Has i e'.folded → (Has i e.folded → ⊥) → e'.lo ≡ some (edge value true)) e.lo (λ q h k. refl) (λ y q h k. absurd (k h))
+  edge-taken i CompareOp.Lt value e = by-option (λ (e' : Edges). Has i e'.folded → (Has i e.folded → ⊥) → e'.hi ≡ Some (edge value false)) e.hi (λ q h k. refl) (λ y q h k. absurd (k h))
+  edge-taken i CompareOp.Le value e = by-option (λ (e' : Edges). Has i e'.folded → (Has i e.folded → ⊥) → e'.hi ≡ Some (edge value true)) e.hi (λ q h k. refl) (λ y q h k. absurd (k h))
+  edge-taken i CompareOp.Gt value e = by-option (λ (e' : Edges). Has i e'.folded → (Has i e.folded → ⊥) → e'.lo ≡ Some (edge value false)) e.lo (λ q h k. refl) (λ y q h k. absurd (k h))
+  edge-taken i CompareOp.Ge value e = by-option (λ (e' : Edges). Has i e'.folded → (Has i e.folded → ⊥) → e'.lo ≡ Some (edge value true)) e.lo (λ q h k. refl) (λ y q h k. absurd (k h))
 
   -- an edge that is set stays
   record Stays (e e' : Edges) : Type 0 where
-    lo : (z : RangeEdge) → e.lo ≡ some z → e'.lo ≡ some z
-    hi : (z : RangeEdge) → e.hi ≡ some z → e'.hi ≡ some z
+    lo : (z : RangeEdge) → e.lo ≡ Some z → e'.lo ≡ Some z
+    hi : (z : RangeEdge) → e.hi ≡ Some z → e'.hi ≡ Some z
 
   stays-hi : (i : ℕ) (z : RangeEdge) (e : Edges) → Stays e (take_hi i z e)
   unfolding take_hi
@@ -278,7 +277,7 @@ module _ (T : Tables) (folded : List ℕ) (x t : ℕ) (v : Value) where
   later i [] e j h = left h
   later i (c ∷ cs) e j h = back (later (suc i) cs (after T x t i c e) j h)
     where
-      here : Or (Has j e.folded) ((j ≡ i) × (s : Sided) × (sided T x t c ≡ some s)) → Or (Has j e.folded) (i ≤ j)
+      here : Or (Has j e.folded) ((j ≡ i) × (s : Sided) × (sided T x t c ≡ Some s)) → Or (Has j e.folded) (i ≤ j)
       here (left z) = left z
       here (right z) = right (omega (arith, z.0))
 
@@ -296,7 +295,7 @@ module _ (T : Tables) (folded : List ℕ) (x t : ℕ) (v : Value) where
       (asked-unless T folded x t v i c (λ k. own (sided T x t c) refl (subst (Has i) (sym f) k)))
       (answered (suc i) cs (after T x t i c e) (λ j k. lower j (taken-one T x t j i c e k)) f lo hi)
     where
-      lower : (j : ℕ) → Or (Has j e.folded) ((j ≡ i) × (s : Sided) × (sided T x t c ≡ some s)) → j < suc i
+      lower : (j : ℕ) → Or (Has j e.folded) ((j ≡ i) × (s : Sided) × (sided T x t c ≡ Some s)) → j < suc i
       lower j (left z) = omega (arith, low j z)
       lower j (right z) = omega (arith, z.0)
 
@@ -307,12 +306,12 @@ module _ (T : Tables) (folded : List ℕ) (x t : ℕ) (v : Value) where
       was-here (left z) = z
       was-here (right z) = absurd (omega (arith, z))
 
-      after-some : (s : Sided) → sided T x t c ≡ some s → after T x t i c e ≡ take_edge i s.op s.value e
-      after-some s q = ap (λ (o : Option Sided). elim o as (λ _. Edges) [ none ↦ e | some s' ↦ take_edge i s'.op s'.value e ]) q
+      after-some : (s : Sided) → sided T x t c ≡ Some s → after T x t i c e ≡ take_edge i s.op s.value e
+      after-some s q = ap (λ (o : Option Sided). elim o as (λ _. Edges) [ None ↦ e | Some s' ↦ take_edge i s'.op s'.value e ]) q
 
       own : (o : Option Sided) → sided T x t c ≡ o → Has i (fold_from T x t (suc i) cs (after T x t i c e)).folded → comparison_holds T x t v c ≡ true
-      own none q k = holds-none T x t v c q
-      own (some s) q k =
+      own None q k = holds-none T x t v c q
+      own (Some s) q k =
           let m = was-here (later (suc i) cs (after T x t i c e) i k) in
           let g = edge-taken i s.op s.value e (subst (λ (e' : Edges). Has i e'.folded) (after-some s q) m) not-before in
           holds-some T x t v c s q

@@ -1,7 +1,7 @@
 -- The comparisons that a level folds: where they hold of a value, its bytes are within the edges.
 use mathlib.Core.Bool.{Bool, true}
 use mathlib.Core.List.{List, [], ◌∷◌, ◌++◌}
-use mathlib.Core.Option.{Option, none, some}
+use Rattle.std.specs.Prelude.{Option, None, Some}
 use mathlib.Core.Path.{◌≡◌, refl, sym, ap, ◌∙◌, subst}
 use Prim.Native.Nat.{ℕ, suc}
 use lib.ListN.{length, drop}
@@ -24,19 +24,19 @@ use Rattle.exact.proofs.Placing.{Edged, Ready, ready-fall}
 
 -- a number stands in a list
 abbrev pub Has : ℕ → List ℕ → Type 0
-Has i ns = (j : ℕ) × (first (eqb i) ns ≡ some j)
+Has i ns = (j : ℕ) × (first (eqb i) ns ≡ Some j)
 
 has-append : (i : ℕ) (ns ms : List ℕ) → Has i ns → Has i (ns ++ ms)
 unfolding first
 has-append i [] ms h = absurd (some≢none h.0 (sym h.1))
 has-append i (n ∷ ns) ms h =
-    by-test (λ (o : Option ℕ). (j : ℕ) × (o ≡ some j)) (eqb i n) (λ e. (n, refl))
+    by-test (λ (o : Option ℕ). (j : ℕ) × (o ≡ Some j)) (eqb i n) (λ e. (n, refl))
     (λ e. has-append i ns ms (h.0, sym (by-test (λ (o : Option ℕ). o ≡ first (eqb i) ns) (eqb i n) (λ q. absurd (true≢false (sym q ∙ e))) (λ q. refl)) ∙ h.1))
 
 has_last : (i : ℕ) (ns : List ℕ) → Has i (ns ++ (i ∷ []))
 unfolding first
-has_last i [] = by-test (λ (o : Option ℕ). (j : ℕ) × (o ≡ some j)) (eqb i i) (λ e. (i, refl)) (λ e. absurd (true≢false (sym (eq-eqb i i refl) ∙ e)))
-has_last i (n ∷ ns) = by-test (λ (o : Option ℕ). (j : ℕ) × (o ≡ some j)) (eqb i n) (λ e. (n, refl)) (λ e. has_last i ns)
+has_last i [] = by-test (λ (o : Option ℕ). (j : ℕ) × (o ≡ Some j)) (eqb i i) (λ e. (i, refl)) (λ e. absurd (true≢false (sym (eq-eqb i i refl) ∙ e)))
+has_last i (n ∷ ns) = by-test (λ (o : Option ℕ). (j : ℕ) × (o ≡ Some j)) (eqb i n) (λ e. (n, refl)) (λ e. has_last i ns)
 
 has-onwards : (i : ℕ) (ns ms : List ℕ) → Onwards ns ms → Has i ns → Has i ms
 has-onwards i ns ms o h = subst (Has i) (sym o.1) (has-append i ns o.0 h)
@@ -52,7 +52,7 @@ grew-edge i CompareOp.Le value e = by-option (Grew e) e.hi (λ q. onwards-one e.
 grew-edge i CompareOp.Gt value e = by-option (Grew e) e.lo (λ q. onwards-one e.folded i) (λ lo q. onwards-same e.folded)
 grew-edge i CompareOp.Ge value e = by-option (Grew e) e.lo (λ q. onwards-one e.folded i) (λ lo q. onwards-same e.folded)
 
-grew-sided : (T : Tables) (x t i : ℕ) (c : Comparison) (e : Edges) → Grew e (elim (sided T x t c) [ none ↦ e | some s ↦ take_edge i s.op s.value e ])
+grew-sided : (T : Tables) (x t i : ℕ) (c : Comparison) (e : Edges) → Grew e (elim (sided T x t c) [ None ↦ e | Some s ↦ take_edge i s.op s.value e ])
 grew-sided T x t i c e = by-option (Grew e) (sided T x t c) (λ q. onwards-same e.folded) (λ s q. grew-edge i s.op s.value e)
 
 pub grew-fold : (T : Tables) (x t i : ℕ) (cs : List Comparison) (e : Edges) → Grew e (fold_from T x t i cs e)
@@ -79,10 +79,10 @@ good-edge w i CompareOp.Ge value e g h =
 
 -- what the matcher asks of comparison i
 abbrev pub asked : Tables → List ℕ → ℕ → ℕ → Value → ℕ → Comparison → Bool
-asked T folded x t v i c = elim (first (eqb i) folded) [ none ↦ true | some j ↦ comparison_holds T x t v c ]
+asked T folded x t v i c = elim (first (eqb i) folded) [ None ↦ true | Some j ↦ comparison_holds T x t v c ]
 
 asked-holds : (T : Tables) (folded : List ℕ) (x t : ℕ) (v : Value) (i : ℕ) (c : Comparison) → Has i folded → asked T folded x t v i c ≡ true → comparison_holds T x t v c ≡ true
-asked-holds T folded x t v i c h e = ap (λ (o : Option ℕ). elim o [ none ↦ true | some j ↦ comparison_holds T x t v c ]) (sym h.1) ∙ e
+asked-holds T folded x t v i c h e = ap (λ (o : Option ℕ). elim o [ None ↦ true | Some j ↦ comparison_holds T x t v c ]) (sym h.1) ∙ e
 
 all_first : (i : ℕ) (p : ℕ → Comparison → Bool) (c : Comparison) (cs : List Comparison) → all_from i p (c ∷ cs) ≡ true → (p i c ≡ true) × (all_from (suc i) p cs ≡ true)
 unfolding all_from
@@ -90,15 +90,15 @@ all_first i p c cs = by-test (λ r. r ≡ true → (p i c ≡ true) × (all_from
 
 module _ (T : Tables) (folded : List ℕ) (x t : ℕ) (v : Value) where
   good-sided : (i : ℕ) (c : Comparison) (e : Edges) → Good (encode v) e
-      → (Has i (elim (sided T x t c) as (λ _. Edges) [ none ↦ e | some s ↦ take_edge i s.op s.value e ]).folded → comparison_holds T x t v c ≡ true)
-      → Good (encode v) (elim (sided T x t c) [ none ↦ e | some s ↦ take_edge i s.op s.value e ])
+      → (Has i (elim (sided T x t c) as (λ _. Edges) [ None ↦ e | Some s ↦ take_edge i s.op s.value e ]).folded → comparison_holds T x t v c ≡ true)
+      → Good (encode v) (elim (sided T x t c) [ None ↦ e | Some s ↦ take_edge i s.op s.value e ])
   unfolding comparison_holds
   good-sided i c e g = go (sided T x t c)
     where
-      go : (o : Option Sided) → (Has i (elim o as (λ _. Edges) [ none ↦ e | some s ↦ take_edge i s.op s.value e ]).folded → elim o as (λ _. Bool) [ none ↦ true | some s ↦ ordered s.op (encode v) s.value ] ≡ true)
-          → Good (encode v) (elim o [ none ↦ e | some s ↦ take_edge i s.op s.value e ])
-      go none h = g
-      go (some s) h = good-edge (encode v) i s.op s.value e g h
+      go : (o : Option Sided) → (Has i (elim o as (λ _. Edges) [ None ↦ e | Some s ↦ take_edge i s.op s.value e ]).folded → elim o as (λ _. Bool) [ None ↦ true | Some s ↦ ordered s.op (encode v) s.value ] ≡ true)
+          → Good (encode v) (elim o [ None ↦ e | Some s ↦ take_edge i s.op s.value e ])
+      go None h = g
+      go (Some s) h = good-edge (encode v) i s.op s.value e g h
 
   good-fold : (i : ℕ) (cs : List Comparison) (e : Edges) → Good (encode v) e → ((j : ℕ) → Has j (fold_from T x t i cs e).folded → Has j folded) → all_from i (asked T folded x t v) cs ≡ true → Good (encode v) (fold_from T x t i cs e)
   unfolding fold_from
@@ -110,11 +110,11 @@ module _ (T : Tables) (folded : List ℕ) (x t : ℕ) (v : Value) where
       h s.1
 
 edged-within : (lo hi : Option RangeEdge) (value : Option (List ℕ)) → within lo hi value ≡ true → Edged lo hi value
-edged-within none none value e = tt
-edged-within none (some hi) value e = e
-edged-within (some lo) hi value e = e
+edged-within None None value e = tt
+edged-within None (Some hi) value e = e
+edged-within (Some lo) hi value e = e
 
-good_new : (w : List ℕ) (e : Edges) → e.lo ≡ none → e.hi ≡ none → Good w e
+good_new : (w : List ℕ) (e : Edges) → e.lo ≡ None → e.hi ≡ None → Good w e
 unfolding above under
 good_new w e p q = record { lo = ap (λ (o : Option RangeEdge). above o w) p; hi = ap (λ (o : Option RangeEdge). under o w) q }
 

@@ -2,7 +2,7 @@
 -- bound the same.
 use mathlib.Core.Bool.{false}
 use mathlib.Core.List.{List, [], ◌∷◌, ◌++◌, append_assoc}
-use mathlib.Core.Option.{Option, none, some}
+use Rattle.std.specs.Prelude.{Option, None, Some}
 use mathlib.Core.Path.{◌≡◌, refl, sym, ap, ◌∙◌, subst}
 use Prim.Native.Nat.{ℕ, suc, ◌+◌}
 use native.Mathlib.Omega.{arith}
@@ -40,12 +40,12 @@ module _ (T : Tables) (engine : Engine) (address : ℕ) (ty : Ty) (key : Value) 
 
   abbrev pub Kept : Walk → Walk → Option (List Binding) → List ℕ → List ℕ → Type 0
   Kept w w' m x r =
-      Clean w' → Final w' → Consts T engine address ty key folded w.lists.bindings → Ready engine ty key (built T w) x → (after : List Binding) → m ≡ some after → Reached w' r after
+      Clean w' → Final w' → Consts T engine address ty key folded w.lists.bindings → Ready engine ty key (built T w) x → (after : List Binding) → m ≡ Some after → Reached w' r after
 
   -- from one walk to another, beside a match of the value at a path
   pub record Goes (w w' : Walk) (path : FieldPath) (m : Value → Option (List Binding)) : Type 0 where
     pub grows : Grows T engine ty key w w'
-    pub live : (v : Value) (r : List ℕ) → Whole v → Apart r → value_at ty key path ≡ some v → Kept w w' (m v) (encode v ++ r) r
+    pub live : (v : Value) (r : List ℕ) → Whole v → Apart r → value_at ty key path ≡ Some v → Kept w w' (m v) (encode v ++ r) r
 
   -- a walk of one pattern beside a matcher of one pattern
   abbrev pub Walks : FieldWalk Walk → Matching → Type 0
@@ -79,13 +79,13 @@ module _ (T : Tables) (engine : Engine) (address : ℕ) (ty : Ty) (key : Value) 
       stays : Unit {0} → (emit Event.skip w).lists.bindings ≡ after
       stays _ = unfold emit in b
 
-  pub goes-skip : (w : Walk) (path : FieldPath) (m : Value → Option (List Binding)) → ((v : Value) (after : List Binding) → m v ≡ some after → after ≡ w.lists.bindings) → Goes w (emit Event.skip w) path m
+  pub goes-skip : (w : Walk) (path : FieldPath) (m : Value → Option (List Binding)) → ((v : Value) (after : List Binding) → m v ≡ Some after → after ≡ w.lists.bindings) → Goes w (emit Event.skip w) path m
   goes-skip w path m h =
       record { grows = grows-skip T engine ty key w; live = λ v r wh a at c f k rd after q. reached-skip w (encode v ++ r) r after rd (sym (h v after q)) }
 
   -- one narrowing
   pub goes-narrow : (n : ℕ) (path : FieldPath) (x : Narrowing) (w : Walk) (m : Value → Option (List Binding))
-      → ((v : Value) (r : List ℕ) (after : List Binding) → value_at ty key path ≡ some v → Consts T engine address ty key folded w.lists.bindings → m v ≡ some after
+      → ((v : Value) (r : List ℕ) (after : List Binding) → value_at ty key path ≡ Some v → Consts T engine address ty key folded w.lists.bindings → m v ≡ Some after
       → (after ≡ w.lists.bindings) × (Ready engine ty key (built T w) (encode v ++ r) → Ready engine ty key (placement T (Event.narrow n path x) (built T w)) r))
       → Goes w (emit (Event.narrow n path x) w) path m
   goes-narrow n path x w m h =
@@ -101,7 +101,7 @@ module _ (T : Tables) (engine : Engine) (address : ℕ) (ty : Ty) (key : Value) 
 
   -- a constant's bytes
   pub goes-written : (n : ℕ) (path : FieldPath) (k : Const) (w : Walk) (m : Value → Option (List Binding))
-      → ((v : Value) (after : List Binding) → Consts T engine address ty key folded w.lists.bindings → m v ≡ some after → Written T engine address ty key folded k v w.lists.bindings after)
+      → ((v : Value) (after : List Binding) → Consts T engine address ty key folded w.lists.bindings → m v ≡ Some after → Written T engine address ty key folded k v w.lists.bindings after)
       → Goes w (emit (Event.narrow n path (narrowing k)) w) path m
   unfolding narrowing part_bytes says has_bytes
   goes-written n path k w m h =
@@ -128,33 +128,33 @@ module _ (T : Tables) (engine : Engine) (address : ℕ) (ty : Ty) (key : Value) 
   module _ (J : Walk → Type 0) (walk : FieldWalk Walk) (match : Matching) (missing : Walk → Walk) (place : ℕ → FieldPath) (fields : List FieldPattern) (goes : Walks walk match) (miss : Missing J missing) where
     -- one field, named by the pattern or not
     unfoldable pub first_walk : Option ℕ → ℕ → ℕ → Walk → Walk
-    first_walk none t i w = missing w
-    first_walk (some n) t i w = walk n t (place i) w
+    first_walk None t i w = missing w
+    first_walk (Some n) t i w = walk n t (place i) w
 
     unfoldable pub first-match : Option ℕ → ℕ → ℕ → Value → List Binding → Option (List Binding)
-    first-match none t i v bound = some bound
-    first-match (some n) t i v bound = match n t v (place i) bound
+    first-match None t i v bound = Some bound
+    first-match (Some n) t i v bound = match n t v (place i) bound
 
     pub first-grows : (o : Option ℕ) (t i : ℕ) (w : Walk) → Grows T engine ty key w (first_walk o t i w)
     unfolding first_walk
-    first-grows none t i w = miss.grows w
-    first-grows (some n) t i w = (goes n t (place i) w).grows
+    first-grows None t i w = miss.grows w
+    first-grows (Some n) t i w = (goes n t (place i) w).grows
 
-    pub first_live : (o : Option ℕ) (t i : ℕ) (w : Walk) (v : Value) (r : List ℕ) → Whole v → Apart r → value_at ty key (place i) ≡ some v → J w
+    pub first_live : (o : Option ℕ) (t i : ℕ) (w : Walk) (v : Value) (r : List ℕ) → Whole v → Apart r → value_at ty key (place i) ≡ Some v → J w
         → Kept w (first_walk o t i w) (first-match o t i v w.lists.bindings) (encode v ++ r) r
     unfolding first_walk first-match
-    first_live none t i w v r wh a at j c f k rd after q = record { ready = miss.ready w (encode v ++ r) r j rd; bound = miss.bound w ∙ some-injective w.lists.bindings after q }
-    first_live (some n) t i w v r wh a at j c f k rd after q = (goes n t (place i) w).live v r wh a at c f k rd after q
+    first_live None t i w v r wh a at j c f k rd after q = record { ready = miss.ready w (encode v ++ r) r j rd; bound = miss.bound w ∙ some-injective w.lists.bindings after q }
+    first_live (Some n) t i w v r wh a at j c f k rd after q = (goes n t (place i) w).live v r wh a at c f k rd after q
 
-    pub first-walk-is : (o : Option ℕ) (t i : ℕ) (w : Walk) → first_walk o t i w ≡ elim o as (λ _. Walk) [ none ↦ missing w | some n ↦ walk n t (place i) w ]
+    pub first-walk-is : (o : Option ℕ) (t i : ℕ) (w : Walk) → first_walk o t i w ≡ elim o as (λ _. Walk) [ None ↦ missing w | Some n ↦ walk n t (place i) w ]
     unfolding first_walk
-    first-walk-is none t i w = refl
-    first-walk-is (some n) t i w = refl
+    first-walk-is None t i w = refl
+    first-walk-is (Some n) t i w = refl
 
-    pub first-match-is : (o : Option ℕ) (t i : ℕ) (v : Value) (bound : List Binding) → first-match o t i v bound ≡ elim o as (λ _. Option (List Binding)) [ none ↦ some bound | some n ↦ match n t v (place i) bound ]
+    pub first-match-is : (o : Option ℕ) (t i : ℕ) (v : Value) (bound : List Binding) → first-match o t i v bound ≡ elim o as (λ _. Option (List Binding)) [ None ↦ Some bound | Some n ↦ match n t v (place i) bound ]
     unfolding first-match
-    first-match-is none t i v bound = refl
-    first-match-is (some n) t i v bound = refl
+    first-match-is None t i v bound = refl
+    first-match-is (Some n) t i v bound = refl
 
     each-done : (i : ℕ) (w : Walk) (vs : Values) (r : List ℕ) → Kept w w (each_matches match place fields i [] vs w.lists.bindings) (encode_all vs ++ r) r
     unfolding each_matches encode
@@ -172,8 +172,8 @@ module _ (T : Tables) (engine : Engine) (address : ℕ) (ty : Ty) (key : Value) 
         let grew = subst (Grows T engine ty key w) (sym e) (first-grows (field_pattern fields g.name) g.type i w) in
         let c₁ = rest.grows.clean c in
         let f₁ = final-back w₁ w₂ rest.grows f in
-        let m = bind-some (elim (field_pattern fields g.name) as (λ _. Option (List Binding)) [ none ↦ some w.lists.bindings | some n ↦ match n g.type v (place i) w.lists.bindings ]) _ after q in
-        let here : value_at ty key (place i) ≡ some v = ap (λ l. value_at ty key (place l)) (omega arith) ∙ at 0 in
+        let m = bind-some (elim (field_pattern fields g.name) as (λ _. Option (List Binding)) [ None ↦ Some w.lists.bindings | Some n ↦ match n g.type v (place i) w.lists.bindings ]) _ after q in
+        let here : value_at ty key (place i) ≡ Some v = ap (λ l. value_at ty key (place l)) (omega arith) ∙ at 0 in
         let first = first_live (field_pattern fields g.name) g.type i w v (encode_all vs ++ r) wh.0 (apart-all vs r a) here j
         (subst Clean e c₁) (subst Final e f₁) k
         (subst (Ready engine ty key (built T w)) (append_assoc (encode v) (encode_all vs) r) rd)
@@ -187,7 +187,7 @@ module _ (T : Tables) (engine : Engine) (address : ℕ) (ty : Ty) (key : Value) 
     unfolding each_field
     goes-each i [] w = record { grows = grows_same T engine ty key w; live = λ vs r wh a at j. each-done i w vs r }
     goes-each i (g ∷ fs) w =
-        let w₁ : Walk = elim (field_pattern fields g.name) [ none ↦ missing w | some n ↦ walk n g.type (place i) w ] in
+        let w₁ : Walk = elim (field_pattern fields g.name) [ None ↦ missing w | Some n ↦ walk n g.type (place i) w ] in
         let e = sym (first-walk-is (field_pattern fields g.name) g.type i w) in
         let rest = goes-each (suc i) fs w₁ in
         record {

@@ -1,7 +1,7 @@
 -- What every piece of a walk does, whatever the key: it adds to the lists, binds no Const, and places its events.
 use mathlib.Core.Bool.{Bool, true, false}
 use mathlib.Core.List.{List, [], ◌∷◌, ◌++◌}
-use mathlib.Core.Option.{Option, none, some}
+use Rattle.std.specs.Prelude.{Option, None, Some}
 use mathlib.Core.Path.{◌≡◌, refl, sym, ap, ◌∙◌, subst}
 use Prim.Native.Nat.{ℕ}
 use native.Mathlib.Omega.{arith}
@@ -51,27 +51,27 @@ unfolding report
 dirty n code w c = snoc-nil w.lists.diagnostics (record { node = n; code = code }) c.diagnostics
 
 -- a name that is bound stays bound
-last_more : (found : Option Binding) (p : Binding → Bool) (bs : List Binding) (b : Binding) → last_or found p (bs ++ (b ∷ [])) ≡ elim (p b) as (λ _. Option Binding) [ true ↦ some b | false ↦ last_or found p bs ]
+last_more : (found : Option Binding) (p : Binding → Bool) (bs : List Binding) (b : Binding) → last_or found p (bs ++ (b ∷ [])) ≡ elim (p b) as (λ _. Option Binding) [ true ↦ Some b | false ↦ last_or found p bs ]
 unfolding last_or
 last_more found p [] b = refl
 last_more found p (c ∷ bs) b =
-    by-test (λ (o : Option Binding). last_or found p ((c ∷ bs) ++ (b ∷ [])) ≡ elim (p b) as (λ _. Option Binding) [ true ↦ some b | false ↦ o ]) (p c)
-    (λ t. ap (λ (x : Bool). elim x as (λ _. Option Binding) [ true ↦ last_or (some c) p (bs ++ (b ∷ [])) | false ↦ last_or found p (bs ++ (b ∷ [])) ]) t ∙ last_more (some c) p bs b)
-    (λ t. ap (λ (x : Bool). elim x as (λ _. Option Binding) [ true ↦ last_or (some c) p (bs ++ (b ∷ [])) | false ↦ last_or found p (bs ++ (b ∷ [])) ]) t ∙ last_more found p bs b)
+    by-test (λ (o : Option Binding). last_or found p ((c ∷ bs) ++ (b ∷ [])) ≡ elim (p b) as (λ _. Option Binding) [ true ↦ Some b | false ↦ o ]) (p c)
+    (λ t. ap (λ (x : Bool). elim x as (λ _. Option Binding) [ true ↦ last_or (Some c) p (bs ++ (b ∷ [])) | false ↦ last_or found p (bs ++ (b ∷ [])) ]) t ∙ last_more (Some c) p bs b)
+    (λ t. ap (λ (x : Bool). elim x as (λ _. Option Binding) [ true ↦ last_or (Some c) p (bs ++ (b ∷ [])) | false ↦ last_or found p (bs ++ (b ∷ [])) ]) t ∙ last_more found p bs b)
 
-pub lookup-more : (bs : List Binding) (b : Binding) (x : ℕ) (slot : Slot) → lookup bs x ≡ some slot → (slot' : Slot) × (lookup (bs ++ (b ∷ [])) x ≡ some slot')
+pub lookup-more : (bs : List Binding) (b : Binding) (x : ℕ) (slot : Slot) → lookup bs x ≡ Some slot → (slot' : Slot) × (lookup (bs ++ (b ∷ [])) x ≡ Some slot')
 unfolding lookup ◌when_some◌
 lookup-more bs b x slot e = go (eqb b.name x) refl
   where
-    go : (t : Bool) → eqb b.name x ≡ t → (slot' : Slot) × (lookup (bs ++ (b ∷ [])) x ≡ some slot')
-    go true q = (b.slot, ap (λ (o : Option Binding). o when_some λ c. some c.slot) (last_more none (λ c. eqb c.name x) bs b ∙ ap (λ (t : Bool). elim t as (λ _. Option Binding) [ true ↦ some b | false ↦ last_or none (λ c. eqb c.name x) bs ]) q))
-    go false q = (slot, ap (λ (o : Option Binding). o when_some λ c. some c.slot) (last_more none (λ c. eqb c.name x) bs b ∙ ap (λ (t : Bool). elim t as (λ _. Option Binding) [ true ↦ some b | false ↦ last_or none (λ c. eqb c.name x) bs ]) q) ∙ e)
+    go : (t : Bool) → eqb b.name x ≡ t → (slot' : Slot) × (lookup (bs ++ (b ∷ [])) x ≡ Some slot')
+    go true q = (b.slot, ap (λ (o : Option Binding). o when_some λ c. Some c.slot) (last_more None (λ c. eqb c.name x) bs b ∙ ap (λ (t : Bool). elim t as (λ _. Option Binding) [ true ↦ Some b | false ↦ last_or None (λ c. eqb c.name x) bs ]) q))
+    go false q = (slot, ap (λ (o : Option Binding). o when_some λ c. Some c.slot) (last_more None (λ c. eqb c.name x) bs b ∙ ap (λ (t : Bool). elim t as (λ _. Option Binding) [ true ↦ Some b | false ↦ last_or None (λ c. eqb c.name x) bs ]) q) ∙ e)
 
-pub lookup-last : (bs : List Binding) (x : ℕ) (slot : Slot) → lookup (bs ++ (record { name = x; slot = slot } ∷ [])) x ≡ some slot
+pub lookup-last : (bs : List Binding) (x : ℕ) (slot : Slot) → lookup (bs ++ (record { name = x; slot = slot } ∷ [])) x ≡ Some slot
 unfolding lookup ◌when_some◌
 lookup-last bs x slot =
-    ap (λ (o : Option Binding). o when_some λ c. some c.slot)
-    (last_more none (λ c. eqb c.name x) bs (record { name = x; slot = slot }) ∙ ap (λ (t : Bool). elim t as (λ _. Option Binding) [ true ↦ some (record { name = x; slot = slot }) | false ↦ last_or none (λ c. eqb c.name x) bs ]) (eq-eqb x x refl))
+    ap (λ (o : Option Binding). o when_some λ c. Some c.slot)
+    (last_more None (λ c. eqb c.name x) bs (record { name = x; slot = slot }) ∙ ap (λ (t : Bool). elim t as (λ _. Option Binding) [ true ↦ Some (record { name = x; slot = slot }) | false ↦ last_or None (λ c. eqb c.name x) bs ]) (eq-eqb x x refl))
 
 pub either_left : (a b : Bool) → either a b ≡ false → a ≡ false
 either_left true b e = e
@@ -111,7 +111,7 @@ edges-closer T n b = by-test (λ (b' : SeekBuilder). b'.edges ≡ b.edges) b.bui
 -- each comparison that the level has folded has a name on one side that is bound, and a constant on the other
 abbrev pub Known : Tables → Walk → Type 0
 Known T w =
-    (i : ℕ) → Has i (built T w).edges.folded → (x : ℕ) × (u : ℕ) × (s : Sided) × (slot : Slot) × (sided T x u (comparison_at T i) ≡ some s) × (lookup w.lists.bindings x ≡ some slot)
+    (i : ℕ) → Has i (built T w).edges.folded → (x : ℕ) × (u : ℕ) × (s : Sided) × (slot : Slot) × (sided T x u (comparison_at T i) ≡ Some s) × (lookup w.lists.bindings x ≡ Some slot)
 
 module _ (T : Tables) (engine : Engine) (ty : Ty) (key : Value) where
   pub record Grows (w w' : Walk) : Type 0 where
@@ -139,7 +139,7 @@ module _ (T : Tables) (engine : Engine) (ty : Ty) (key : Value) where
       folds : (built T (emit e w)).edges.folded ≡ (built T w).edges.folded
       folds = ap (λ (b : SeekBuilder). b.edges.folded) (built-emit T e w) ∙ ap (λ (z : Edges). z.folded) d
 
-      stays : (x : ℕ) (slot : Slot) → lookup w.lists.bindings x ≡ some slot → lookup (emit e w).lists.bindings x ≡ some slot
+      stays : (x : ℕ) (slot : Slot) → lookup w.lists.bindings x ≡ Some slot → lookup (emit e w).lists.bindings x ≡ Some slot
       stays x slot h = unfold emit in h
 
       knows : Known T w → Known T (emit e w)
@@ -160,19 +160,19 @@ module _ (T : Tables) (engine : Engine) (ty : Ty) (key : Value) where
   built-bound x t w = built-emit T Event.skip (emit (Event.bound x t) w) ∙ ap (placement T Event.skip) (built-emit T (Event.bound x t) w)
 
   -- what a bound folds is its name's
-  known-bound : (x t : ℕ) (w : Walk) (slot : Slot) → lookup w.lists.bindings x ≡ some slot → Known T w → (i : ℕ) → Has i (placement T Event.skip (placement T (Event.bound x t) (built T w))).edges.folded
-      → (y : ℕ) × (u : ℕ) × (s : Sided) × (slot' : Slot) × (sided T y u (comparison_at T i) ≡ some s) × (lookup w.lists.bindings y ≡ some slot')
+  known-bound : (x t : ℕ) (w : Walk) (slot : Slot) → lookup w.lists.bindings x ≡ Some slot → Known T w → (i : ℕ) → Has i (placement T Event.skip (placement T (Event.bound x t) (built T w))).edges.folded
+      → (y : ℕ) × (u : ℕ) × (s : Sided) × (slot' : Slot) × (sided T y u (comparison_at T i) ≡ Some s) × (lookup w.lists.bindings y ≡ Some slot')
   unfolding open_placings place_bound with_edges fall comparison_at
   known-bound x t w slot e k i =
-      by-test (λ (b : SeekBuilder). Has i b.edges.folded → (y : ℕ) × (u : ℕ) × (s : Sided) × (slot' : Slot) × (sided T y u (comparison_at T i) ≡ some s) × (lookup w.lists.bindings y ≡ some slot')) (built T w).building
+      by-test (λ (b : SeekBuilder). Has i b.edges.folded → (y : ℕ) × (u : ℕ) × (s : Sided) × (slot' : Slot) × (sided T y u (comparison_at T i) ≡ Some s) × (lookup w.lists.bindings y ≡ Some slot')) (built T w).building
       (λ on h. from (fold-of T x t 0 T.comparisons (built T w).edges (λ l m. ap (comparison_at T) (omega arith)) i h))
       (λ off h. k i h)
     where
-      from : Or (Has i (built T w).edges.folded) ((s : Sided) × (sided T x t (comparison_at T i) ≡ some s)) → (y : ℕ) × (u : ℕ) × (s : Sided) × (slot' : Slot) × (sided T y u (comparison_at T i) ≡ some s) × (lookup w.lists.bindings y ≡ some slot')
+      from : Or (Has i (built T w).edges.folded) ((s : Sided) × (sided T x t (comparison_at T i) ≡ Some s)) → (y : ℕ) × (u : ℕ) × (s : Sided) × (slot' : Slot) × (sided T y u (comparison_at T i) ≡ Some s) × (lookup w.lists.bindings y ≡ Some slot')
       from (left h) = k i h
       from (right h) = (x, t, h.0, slot, h.1, e)
 
-  pub grows-bound : (x t : ℕ) (w : Walk) (slot : Slot) → lookup w.lists.bindings x ≡ some slot → Grows w (emit Event.skip (emit (Event.bound x t) w))
+  pub grows-bound : (x t : ℕ) (w : Walk) (slot : Slot) → lookup w.lists.bindings x ≡ Some slot → Grows w (emit Event.skip (emit (Event.bound x t) w))
   unfolding emit
   grows-bound x t w slot e =
       record {
@@ -202,7 +202,7 @@ module _ (T : Tables) (engine : Engine) (ty : Ty) (key : Value) where
         known = λ k. k;
       }
 
-  pub grows-bind : (x : ℕ) (slot : Slot) (w : Walk) → lookup w.lists.bindings x ≡ none → const_node slot ≡ none → Grows w (bind x slot w)
+  pub grows-bind : (x : ℕ) (slot : Slot) (w : Walk) → lookup w.lists.bindings x ≡ None → const_node slot ≡ None → Grows w (bind x slot w)
   unfolding bind
   grows-bind x slot w e k =
       record {

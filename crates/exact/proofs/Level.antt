@@ -1,7 +1,7 @@
 -- A level's whole key beside the matcher.
 use mathlib.Core.Bool.{Bool, true, false}
 use mathlib.Core.List.{List, [], ◌∷◌, ◌++◌, append-nil}
-use mathlib.Core.Option.{Option, none, some}
+use Rattle.std.specs.Prelude.{Option, None, Some}
 use mathlib.Core.Path.{◌≡◌, refl, sym, ap, ◌∙◌, subst}
 use Prim.Native.Nat.{ℕ}
 use native.Mathlib.Omega.{arith}
@@ -24,18 +24,18 @@ use Rattle.exact.proofs.Forward.{Kept, reached-skip, Missing, goes-each}
 use Rattle.exact.proofs.Names.{IsText}
 use Rattle.exact.proofs.Patterns.{goes-field}
 
-pub stored-scalar : (ty : Ty) (v : Value) → record_ty ty ≡ none → stored ty v ≡ encode v
+pub stored-scalar : (ty : Ty) (v : Value) → record_ty ty ≡ None → stored ty v ≡ encode v
 unfolding stored
 stored-scalar ty (Value.Int bytes) e = refl
 stored-scalar ty (Value.Str text) e = refl
 stored-scalar ty (Value.Bytes bytes) e = refl
 stored-scalar ty (Value.Fact id) e = refl
-stored-scalar ty (Value.Rec fields) e = ap (λ (o : Option (List FieldTy)). elim o as (λ _. List ℕ) [ some fs ↦ encode_all fields | none ↦ encode (Value.Rec fields) ]) e
+stored-scalar ty (Value.Rec fields) e = ap (λ (o : Option (List FieldTy)). elim o as (λ _. List ℕ) [ Some fs ↦ encode_all fields | None ↦ encode (Value.Rec fields) ]) e
 stored-scalar ty (Value.Uni disc v) e = refl
 
-pub stored-record : (ty : Ty) (fs : List FieldTy) (vs : Values) → record_ty ty ≡ some fs → stored ty (Value.Rec vs) ≡ encode_all vs
+pub stored-record : (ty : Ty) (fs : List FieldTy) (vs : Values) → record_ty ty ≡ Some fs → stored ty (Value.Rec vs) ≡ encode_all vs
 unfolding stored
-stored-record ty fs vs e = ap (λ (o : Option (List FieldTy)). elim o as (λ _. List ℕ) [ some fs' ↦ encode_all vs | none ↦ encode (Value.Rec vs) ]) e
+stored-record ty fs vs e = ap (λ (o : Option (List FieldTy)). elim o as (λ _. List ℕ) [ Some fs' ↦ encode_all vs | None ↦ encode (Value.Rec vs) ]) e
 
 module _ (T : Tables) (engine : Engine) (address t : ℕ) (key' : Value) (folded : List ℕ) (texts : Each (λ (k : Constraint). IsText (node_at T k.node)) T.constraints) where
   abbrev pub ty : Ty
@@ -46,7 +46,7 @@ module _ (T : Tables) (engine : Engine) (address t : ℕ) (key' : Value) (folded
     pub grows : Grows T engine ty key' w w'
     pub live : Whole key' → Kept T engine address ty key' folded w w' m (stored ty key') []
 
-  goes-scalar : (n : ℕ) (w : Walk) → record_ty ty ≡ none → GoesKey w (field (walk_ops T) T address n t (field_path 0) w) (field_matches T engine address ty key' folded n t key' (field_path 0) w.lists.bindings)
+  goes-scalar : (n : ℕ) (w : Walk) → record_ty ty ≡ None → GoesKey w (field (walk_ops T) T address n t (field_path 0) w) (field_matches T engine address ty key' folded n t key' (field_path 0) w.lists.bindings)
   goes-scalar n w e =
       let g = goes-field T engine address ty key' folded texts n t (field_path 0) w in
       record {
@@ -66,7 +66,7 @@ module _ (T : Tables) (engine : Engine) (address t : ℕ) (key' : Value) (folded
         keeps = λ w w' g j. j;
       }
 
-  goes-fields : (fields : List FieldPattern) (fs : List FieldTy) (w : Walk) → record_ty ty ≡ some fs
+  goes-fields : (fields : List FieldPattern) (fs : List FieldTy) (w : Walk) → record_ty ty ≡ Some fs
       → GoesKey w (each_field (field (walk_ops T) T address) (λ u. emit Event.skip u) field_path fields 0 fs w)
       (fields_of key' when_some λ vs. each_matches (field_matches T engine address ty key' folded) field_path fields 0 fs vs w.lists.bindings)
   goes-fields fields fs w e =
@@ -80,14 +80,14 @@ module _ (T : Tables) (engine : Engine) (address t : ℕ) (key' : Value) (folded
             (subst (Ready engine ty key' (built T w)) (ap (stored ty) is ∙ stored-record ty fs inner.0 e ∙ sym (append-nil (encode_all inner.0))) rd) after inner.2;
       }
 
-  goes-skipped : (w : Walk) → GoesKey w (emit Event.skip w) (some w.lists.bindings)
+  goes-skipped : (w : Walk) → GoesKey w (emit Event.skip w) (Some w.lists.bindings)
   goes-skipped w =
       record { grows = grows-skip T engine ty key' w; live = λ wh c f k rd after q. reached-skip T engine address ty key' folded w (stored ty key') [] after rd (some-injective w.lists.bindings after q) }
 
-  goes-named : (x : ℕ) (fs : List FieldTy) (n : ℕ) (w : Walk) → lookup w.lists.bindings x ≡ none → GoesKey w (whole_variable (walk_ops T) T address x n t fs w) (whole_matches T engine address ty key' folded (Node.Var x) t fs w.lists.bindings)
+  goes-named : (x : ℕ) (fs : List FieldTy) (n : ℕ) (w : Walk) → lookup w.lists.bindings x ≡ None → GoesKey w (whole_variable (walk_ops T) T address x n t fs w) (whole_matches T engine address ty key' folded (Node.Var x) t fs w.lists.bindings)
   unfolding whole_variable whole_matches const_node
   goes-named x fs n w e =
-      subst (λ (o : Option Slot). GoesKey w (elim o [ none ↦ bind x (Slot.Key address t) (emit Event.skip w) | some slot ↦ whole_read (walk_ops T) T address n fs w ]) (elim o [ none ↦ some (w.lists.bindings ++ (record { name = x; slot = Slot.Key address t } ∷ [])) | some slot ↦ some w.lists.bindings ])) (sym e)
+      subst (λ (o : Option Slot). GoesKey w (elim o [ None ↦ bind x (Slot.Key address t) (emit Event.skip w) | Some slot ↦ whole_read (walk_ops T) T address n fs w ]) (elim o [ None ↦ Some (w.lists.bindings ++ (record { name = x; slot = Slot.Key address t } ∷ [])) | Some slot ↦ Some w.lists.bindings ])) (sym e)
       (record {
         grows = grows-next T engine ty key' w (emit Event.skip w) _ (grows-skip T engine ty key' w) (grows-bind T engine ty key' x (Slot.Key address t) (emit Event.skip w) (still tt) refl);
         live = λ wh c f k rd after q.
@@ -95,29 +95,29 @@ module _ (T : Tables) (engine : Engine) (address t : ℕ) (key' : Value) (folded
             record { ready = bound-ready s.ready; bound = bound-is after q };
       })
     where
-      still : Unit {0} → lookup (emit Event.skip w).lists.bindings x ≡ none
+      still : Unit {0} → lookup (emit Event.skip w).lists.bindings x ≡ None
       still _ = unfold emit in e
 
       bound-ready : Ready engine ty key' (built T (emit Event.skip w)) [] → Ready engine ty key' (built T (bind x (Slot.Key address t) (emit Event.skip w))) []
       bound-ready rd = unfold bind in rd
 
-      bound-is : (after : List Binding) → some (w.lists.bindings ++ (record { name = x; slot = Slot.Key address t } ∷ [])) ≡ some after → (bind x (Slot.Key address t) (emit Event.skip w)).lists.bindings ≡ after
+      bound-is : (after : List Binding) → Some (w.lists.bindings ++ (record { name = x; slot = Slot.Key address t } ∷ [])) ≡ Some after → (bind x (Slot.Key address t) (emit Event.skip w)).lists.bindings ≡ after
       bound-is after q = unfold bind emit in some-injective _ after q
 
-  pub is-new : (x : ℕ) (fs : List FieldTy) (bound : List Binding) → is_new (record_ty ty) bound x ≡ true → record_ty ty ≡ some fs → lookup bound x ≡ none
+  pub is-new : (x : ℕ) (fs : List FieldTy) (bound : List Binding) → is_new (record_ty ty) bound x ≡ true → record_ty ty ≡ Some fs → lookup bound x ≡ None
   unfolding is_new
   is-new x fs bound h e = go (lookup bound x) (ap (λ (o : Option (List FieldTy)). is_new o bound x) (sym e) ∙ h)
     where
-      go : (o : Option Slot) → elim o as (λ _. Bool) [ none ↦ true | some slot ↦ false ] ≡ true → o ≡ none
-      go none q = refl
-      go (some slot) q = absurd (true≢false (sym q))
+      go : (o : Option Slot) → elim o as (λ _. Bool) [ None ↦ true | Some slot ↦ false ] ≡ true → o ≡ None
+      go None q = refl
+      go (Some slot) q = absurd (true≢false (sym q))
 
   -- a record key, by the level's own node
-  goes-whole : (node : Node) (n : ℕ) (fs : List FieldTy) (w : Walk) → node_at T n ≡ node → record_ty ty ≡ some fs → is_own node ty w.lists.bindings ≡ true
+  goes-whole : (node : Node) (n : ℕ) (fs : List FieldTy) (w : Walk) → node_at T n ≡ node → record_ty ty ≡ Some fs → is_own node ty w.lists.bindings ≡ true
       → GoesKey w (record_key (walk_ops T) T address (record_fields node) n t fs w) (whole_matches T engine address ty key' folded node t fs w.lists.bindings)
   unfolding record_key record_fields whole_matches whole_key is_own
   goes-whole (Node.Record fields) n fs w q e h = goes-fields fields fs w e
-  goes-whole Node.Wildcard n fs w q e h = subst (λ (x : Node). GoesKey w (whole_key (walk_ops T) T address x n t fs w) (some w.lists.bindings)) (sym q) (goes-skipped w)
+  goes-whole Node.Wildcard n fs w q e h = subst (λ (x : Node). GoesKey w (whole_key (walk_ops T) T address x n t fs w) (Some w.lists.bindings)) (sym q) (goes-skipped w)
   goes-whole (Node.Var x) n fs w q e h =
       subst (λ (y : Node). GoesKey w (whole_key (walk_ops T) T address y n t fs w) (whole_matches T engine address ty key' folded (Node.Var x) t fs w.lists.bindings)) (sym q)
       (goes-named x fs n w (is-new x fs w.lists.bindings h e))
@@ -141,7 +141,7 @@ module _ (T : Tables) (engine : Engine) (address t : ℕ) (key' : Value) (folded
   goes-key n w h = go (record_ty (type_at T t)) refl
     where
       go : (o : Option (List FieldTy)) → record_ty (type_at T t) ≡ o
-          → GoesKey w (elim o [ some fs ↦ record_key (walk_ops T) T address (record_fields (node_at T n)) n t fs w | none ↦ field (walk_ops T) T address n t (field_path 0) w ])
-          (elim o [ some fs ↦ whole_matches T engine address ty key' folded (node_at T n) t fs w.lists.bindings | none ↦ field_matches T engine address ty key' folded n t key' (field_path 0) w.lists.bindings ])
-      go none e = goes-scalar n w e
-      go (some fs) e = goes-whole (node_at T n) n fs w refl e h
+          → GoesKey w (elim o [ Some fs ↦ record_key (walk_ops T) T address (record_fields (node_at T n)) n t fs w | None ↦ field (walk_ops T) T address n t (field_path 0) w ])
+          (elim o [ Some fs ↦ whole_matches T engine address ty key' folded (node_at T n) t fs w.lists.bindings | None ↦ field_matches T engine address ty key' folded n t key' (field_path 0) w.lists.bindings ])
+      go None e = goes-scalar n w e
+      go (Some fs) e = goes-whole (node_at T n) n fs w refl e h

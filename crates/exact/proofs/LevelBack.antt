@@ -1,7 +1,7 @@
 -- What passes matches: a level's whole key.
 use mathlib.Core.Bool.{true}
 use mathlib.Core.List.{List, [], ◌∷◌, ◌++◌, append-nil}
-use mathlib.Core.Option.{Option, none, some}
+use Rattle.std.specs.Prelude.{Option, None, Some}
 use mathlib.Core.Path.{◌≡◌, refl, sym, ap, ◌∙◌, subst}
 use Prim.Native.Nat.{ℕ, ◌<◌}
 use native.Mathlib.Omega.{arith}
@@ -26,7 +26,7 @@ use Rattle.exact.proofs.Names.{IsText}
 use Rattle.exact.proofs.Patterns.{goes-field}
 use Rattle.exact.proofs.Level.{stored-scalar, stored-record, miss-skip, is-new}
 use Rattle.exact.proofs.Pieces.{record-type}
-use Rattle.exact.proofs.Backward.{Some, Given, comes-each}
+use Rattle.exact.proofs.Backward.{Something, Given, comes-each}
 use Rattle.exact.proofs.PatternsBack.{comes-field}
 
 module _ (T : Tables) (facts : Facts T) (engine : Engine) (address t : ℕ) (key' : Value) (folded : List ℕ) (texts : Each (λ (k : Constraint). IsText (node_at T k.node)) T.constraints) (below : t < length T.types) where
@@ -34,9 +34,9 @@ module _ (T : Tables) (facts : Facts T) (engine : Engine) (address t : ℕ) (key
   ty = type_at T t
 
   pub record ComesKey (w w' : Walk) (m : Option (List Binding)) : Type 0 where
-    pub back : OfType T key' ty → zero_free key' ≡ true → Ready engine ty key' (built T w) (stored ty key') → Given T engine address ty key' folded w w' → Some m
+    pub back : OfType T key' ty → zero_free key' ≡ true → Ready engine ty key' (built T w) (stored ty key') → Given T engine address ty key' folded w w' → Something m
 
-  comes-scalar : (n : ℕ) (w : Walk) → record_ty ty ≡ none → ComesKey w (field (walk_ops T) T address n t (field_path 0) w) (field_matches T engine address ty key' folded n t key' (field_path 0) w.lists.bindings)
+  comes-scalar : (n : ℕ) (w : Walk) → record_ty ty ≡ None → ComesKey w (field (walk_ops T) T address n t (field_path 0) w) (field_matches T engine address ty key' folded n t key' (field_path 0) w.lists.bindings)
   comes-scalar n w e =
       record {
         back = λ of z rd gv.
@@ -44,7 +44,7 @@ module _ (T : Tables) (facts : Facts T) (engine : Engine) (address t : ℕ) (key
             (subst (Ready engine ty key' (built T w)) (stored-scalar ty key' e ∙ sym (append-nil (encode key'))) rd) gv;
       }
 
-  comes-fields : (fields : List FieldPattern) (fs : List FieldTy) (w : Walk) → record_ty ty ≡ some fs
+  comes-fields : (fields : List FieldPattern) (fs : List FieldTy) (w : Walk) → record_ty ty ≡ Some fs
       → ComesKey w (each_field (field (walk_ops T) T address) (λ u. emit Event.skip u) field_path fields 0 fs w)
       (fields_of key' when_some λ vs. each_matches (field_matches T engine address ty key' folded) field_path fields 0 fs vs w.lists.bindings)
   unfolding ◌when_some◌ zero_free
@@ -60,11 +60,11 @@ module _ (T : Tables) (facts : Facts T) (engine : Engine) (address t : ℕ) (key
             (s.0, ap (λ (x : Option Values). x when_some λ vs. each_matches (field_matches T engine address ty key' folded) field_path fields 0 fs vs w.lists.bindings) (fields-is key' o.0 o.1) ∙ s.1);
       }
 
-  comes-always : (w w' : Walk) (m : Option (List Binding)) → Some m → ComesKey w w' m
+  comes-always : (w w' : Walk) (m : Option (List Binding)) → Something m → ComesKey w w' m
   comes-always w w' m s = record { back = λ of z rd gv. s }
 
   -- a record key, by the level's own node
-  comes-whole : (node : Node) (n : ℕ) (fs : List FieldTy) (w : Walk) → node_at T n ≡ node → record_ty ty ≡ some fs → is_own node ty w.lists.bindings ≡ true
+  comes-whole : (node : Node) (n : ℕ) (fs : List FieldTy) (w : Walk) → node_at T n ≡ node → record_ty ty ≡ Some fs → is_own node ty w.lists.bindings ≡ true
       → ComesKey w (record_key (walk_ops T) T address (record_fields node) n t fs w) (whole_matches T engine address ty key' folded node t fs w.lists.bindings)
   unfolding record_key record_fields whole_matches is_own
   comes-whole (Node.Record fields) n fs w q e h = comes-fields fields fs w e
@@ -72,7 +72,7 @@ module _ (T : Tables) (facts : Facts T) (engine : Engine) (address t : ℕ) (key
   comes-whole (Node.Var x) n fs w q e h =
       comes-always w _ _ (
         w.lists.bindings ++ (record { name = x; slot = Slot.Key address t } ∷ []),
-        ap (λ (o : Option Slot). elim o as (λ _. Option (List Binding)) [ none ↦ some (w.lists.bindings ++ (record { name = x; slot = Slot.Key address t } ∷ [])) | some slot ↦ some w.lists.bindings ])
+        ap (λ (o : Option Slot). elim o as (λ _. Option (List Binding)) [ None ↦ Some (w.lists.bindings ++ (record { name = x; slot = Slot.Key address t } ∷ [])) | Some slot ↦ Some w.lists.bindings ])
             (is-new T engine address t key' folded texts x fs w.lists.bindings h e),
       )
   comes-whole (Node.Int bytes) n fs w q e h = absurd (true≢false (sym h))
@@ -95,7 +95,7 @@ module _ (T : Tables) (facts : Facts T) (engine : Engine) (address t : ℕ) (key
   comes-key n w h = go (record_ty (type_at T t)) refl
     where
       go : (o : Option (List FieldTy)) → record_ty (type_at T t) ≡ o
-          → ComesKey w (elim o [ some fs ↦ record_key (walk_ops T) T address (record_fields (node_at T n)) n t fs w | none ↦ field (walk_ops T) T address n t (field_path 0) w ])
-          (elim o [ some fs ↦ whole_matches T engine address ty key' folded (node_at T n) t fs w.lists.bindings | none ↦ field_matches T engine address ty key' folded n t key' (field_path 0) w.lists.bindings ])
-      go none e = comes-scalar n w e
-      go (some fs) e = comes-whole (node_at T n) n fs w refl e h
+          → ComesKey w (elim o [ Some fs ↦ record_key (walk_ops T) T address (record_fields (node_at T n)) n t fs w | None ↦ field (walk_ops T) T address n t (field_path 0) w ])
+          (elim o [ Some fs ↦ whole_matches T engine address ty key' folded (node_at T n) t fs w.lists.bindings | None ↦ field_matches T engine address ty key' folded n t key' (field_path 0) w.lists.bindings ])
+      go None e = comes-scalar n w e
+      go (Some fs) e = comes-whole (node_at T n) n fs w refl e h

@@ -1,7 +1,7 @@
 -- A name met for the first time: its constraints, its folded comparisons.
 use mathlib.Core.Bool.{Bool, true, false}
 use mathlib.Core.List.{List, [], ◌∷◌, ◌++◌}
-use mathlib.Core.Option.{Option, none, some}
+use Rattle.std.specs.Prelude.{Option, None, Some}
 use mathlib.Core.Path.{◌≡◌, refl, sym, ap, ◌∙◌, subst}
 use Prim.Native.Nat.{ℕ}
 use lib.Dec.{eqb}
@@ -69,8 +69,8 @@ module _ (T : Tables) (engine : Engine) (address : ℕ) (ty : Ty) (key : Value) 
   Text k = IsText (node_at T k.node)
 
   -- a Prefix or a Fuzzy that holds of the value: whatever is ahead afterwards, since building falls
-  pub ready-text : (node : Node) (n made t : ℕ) (path : FieldPath) (c : Const) (v : Value) (b : SeekBuilder) (r y : List ℕ) → node_at T n ≡ node → IsText node → constant T n t ≡ some c
-      → text_matches T engine node v ≡ true → value_at ty key path ≡ some v → Ready engine ty key b (encode v ++ r) → Ready engine ty key (placement T (Event.narrow made path (narrowing c)) b) y
+  pub ready-text : (node : Node) (n made t : ℕ) (path : FieldPath) (c : Const) (v : Value) (b : SeekBuilder) (r y : List ℕ) → node_at T n ≡ node → IsText node → constant T n t ≡ Some c
+      → text_matches T engine node v ≡ true → value_at ty key path ≡ Some v → Ready engine ty key b (encode v ++ r) → Ready engine ty key (placement T (Event.narrow made path (narrowing c)) b) y
   unfolding text_matches narrowing says near encode
   ready-text (Node.Prefix x) n made t path c v b r y q i e h at rd =
       let s = is-text (begins (name_at T x)) v h in
@@ -99,32 +99,32 @@ module _ (T : Tables) (engine : Engine) (address : ℕ) (ty : Ty) (key : Value) 
 
   -- one constraint
   unfoldable pub one : Option Const → Constraint → FieldPath → Walk → Walk
-  one none k path w = report k.node Code.RejectTypeMismatch (emit Event.skip w)
-  one (some c) k path w = emit (Event.narrow k.node path (narrowing c)) w
+  one None k path w = report k.node Code.RejectTypeMismatch (emit Event.skip w)
+  one (Some c) k path w = emit (Event.narrow k.node path (narrowing c)) w
 
   one-is : (o : Option Const) (k : Constraint) (path : FieldPath) (w : Walk)
-      → one o k path w ≡ elim o as (λ _. Walk) [ none ↦ report k.node Code.RejectTypeMismatch (emit Event.skip w) | some c ↦ narrow_by (walk_ops T) T k.node c path w ]
+      → one o k path w ≡ elim o as (λ _. Walk) [ None ↦ report k.node Code.RejectTypeMismatch (emit Event.skip w) | Some c ↦ narrow_by (walk_ops T) T k.node c path w ]
   unfolding one narrow_by
-  one-is none k path w = refl
-  one-is (some c) k path w = refl
+  one-is None k path w = refl
+  one-is (Some c) k path w = refl
 
   pub one_grows : (o : Option Const) (k : Constraint) (path : FieldPath) (w : Walk) → Grows T engine ty key w (one o k path w)
   unfolding one
-  one_grows none k path w = grows-next T engine ty key w _ _ (grows-skip T engine ty key w) (grows-report T engine ty key k.node Code.RejectTypeMismatch (emit Event.skip w))
-  one_grows (some c) k path w = grows-narrow T engine ty key k.node path (narrowing c) w
+  one_grows None k path w = grows-next T engine ty key w _ _ (grows-skip T engine ty key w) (grows-report T engine ty key k.node Code.RejectTypeMismatch (emit Event.skip w))
+  one_grows (Some c) k path w = grows-narrow T engine ty key k.node path (narrowing c) w
 
-  pub one-live : (o : Option Const) (k : Constraint) (t : ℕ) (path : FieldPath) (w : Walk) (v : Value) (r y : List ℕ) → constant T k.node t ≡ o → Text k → Holds v k → value_at ty key path ≡ some v
+  pub one-live : (o : Option Const) (k : Constraint) (t : ℕ) (path : FieldPath) (w : Walk) (v : Value) (r y : List ℕ) → constant T k.node t ≡ o → Text k → Holds v k → value_at ty key path ≡ Some v
       → Clean (one o k path w) → Ready engine ty key (built T w) (encode v ++ r) → Ready engine ty key (built T (one o k path w)) y
   unfolding one
-  one-live none k t path w v r y e i h at c rd = absurd (dirty _ _ _ c)
-  one-live (some c) k t path w v r y e i h at cl rd =
+  one-live None k t path w v r y e i h at c rd = absurd (dirty _ _ _ c)
+  one-live (Some c) k t path w v r y e i h at cl rd =
       subst (λ b. Ready engine ty key b y) (sym (built-emit T (Event.narrow k.node path (narrowing c)) w))
       (ready-text (node_at T k.node) k.node k.node t path c v (built T w) r y refl i e h at rd)
 
   one-bound : (o : Option Const) (k : Constraint) (path : FieldPath) (w : Walk) → (one o k path w).lists.bindings ≡ w.lists.bindings
   unfolding one emit report
-  one-bound none k path w = refl
-  one-bound (some c) k path w = refl
+  one-bound None k path w = refl
+  one-bound (Some c) k path w = refl
 
   -- the walk after one constraint
   unfoldable pub next : Constraint → ℕ → FieldPath → Walk → Walk
@@ -148,7 +148,7 @@ module _ (T : Tables) (engine : Engine) (address : ℕ) (ty : Ty) (key : Value) 
       ap (λ (u : Walk). u.lists.bindings) (each-is k ks t path w) ∙ constraints-bound ks t path (next k t path w) ∙ one-bound (constant T k.node t) k path w
 
   -- the constraints of a name, of which there is one
-  pub constraints-live : (k : Constraint) (ks : List Constraint) (t : ℕ) (path : FieldPath) (w : Walk) (v : Value) (r y : List ℕ) → Each Text (k ∷ ks) → Each (Holds v) (k ∷ ks) → value_at ty key path ≡ some v
+  pub constraints-live : (k : Constraint) (ks : List Constraint) (t : ℕ) (path : FieldPath) (w : Walk) (v : Value) (r y : List ℕ) → Each Text (k ∷ ks) → Each (Holds v) (k ∷ ks) → value_at ty key path ≡ Some v
       → Clean (constrain_each (walk_ops T) T (k ∷ ks) t path w) → Ready engine ty key (built T w) (encode v ++ r) → Ready engine ty key (built T (constrain_each (walk_ops T) T (k ∷ ks) t path w)) y
   unfolding next
   constraints-live k [] t path w v r y (more i is) (more h hs) at c rd =
@@ -174,7 +174,7 @@ module _ (T : Tables) (engine : Engine) (address : ℕ) (ty : Ty) (key : Value) 
       (ready-bound engine ty key T folded x t v (built T w) r y wh a h (λ on. subst (λ (b : SeekBuilder). b.building ≡ false → b.edges.folded ≡ folded) e f (skip-falls T (placement T (Event.bound x t) (built T w)))) rd)
 
   -- all that is asked of a name: `ks` are its constraints by rank
-  pub by-grows : (ks : List Constraint) (x t : ℕ) (path : FieldPath) (w : Walk) (slot : Slot) → lookup w.lists.bindings x ≡ some slot → Grows T engine ty key w (constrain_by (walk_ops T) T ks x t path w)
+  pub by-grows : (ks : List Constraint) (x t : ℕ) (path : FieldPath) (w : Walk) (slot : Slot) → lookup w.lists.bindings x ≡ Some slot → Grows T engine ty key w (constrain_by (walk_ops T) T ks x t path w)
   unfolding constrain_by
   by-grows [] x t path w slot e = grows-bound T engine ty key x t w slot e
   by-grows (k ∷ ks) x t path w slot e = grows-next T engine ty key w (constrained x w) _ (grows-constrained T engine ty key x w) (constraints-grow (k ∷ ks) t path (constrained x w))
@@ -184,7 +184,7 @@ module _ (T : Tables) (engine : Engine) (address : ℕ) (ty : Ty) (key : Value) 
   by-bound [] x t path w = refl
   by-bound (k ∷ ks) x t path w = constraints-bound (k ∷ ks) t path (constrained x w)
 
-  by-live : (ks : List Constraint) (x t : ℕ) (path : FieldPath) (w : Walk) (v : Value) (r : List ℕ) → Whole v → Apart r → value_at ty key path ≡ some v → Each Text ks → Each (Holds v) ks → folded_hold T folded x t v ≡ true
+  by-live : (ks : List Constraint) (x t : ℕ) (path : FieldPath) (w : Walk) (v : Value) (r : List ℕ) → Whole v → Apart r → value_at ty key path ≡ Some v → Each Text ks → Each (Holds v) ks → folded_hold T folded x t v ≡ true
       → Clean (constrain_by (walk_ops T) T ks x t path w) → Final T engine address ty key folded (constrain_by (walk_ops T) T ks x t path w)
       → Ready engine ty key (built T w) (encode v ++ r) → Ready engine ty key (built T (constrain_by (walk_ops T) T ks x t path w)) r
   unfolding constrain_by constrained
@@ -193,7 +193,7 @@ module _ (T : Tables) (engine : Engine) (address : ℕ) (ty : Ty) (key : Value) 
 
   module _ (texts : Each Text T.constraints) where
     -- a new name is bound, then constrained
-    pub goes-new : (x t : ℕ) (path : FieldPath) (w : Walk) → lookup w.lists.bindings x ≡ none
+    pub goes-new : (x t : ℕ) (path : FieldPath) (w : Walk) → lookup w.lists.bindings x ≡ None
         → Goes T engine address ty key folded w (constrain (walk_ops T) T x t path (bind x (Slot.Field address path t) w)) path (λ v. new_name T engine address ty key folded x t v path w.lists.bindings)
     unfolding constrain new_name constraints_hold bind const_node
     goes-new x t path w e =

@@ -1,7 +1,7 @@
 -- What passes matches: texts, and a name met for the first time.
 use mathlib.Core.Bool.{Bool, true, false}
 use mathlib.Core.List.{List, [], ◌∷◌, ◌++◌, append-nil}
-use mathlib.Core.Option.{Option, none, some}
+use Rattle.std.specs.Prelude.{Option, None, Some}
 use mathlib.Core.Path.{◌≡◌, refl, sym, ap, ◌∙◌, subst}
 use Prim.Native.Nat.{ℕ}
 use native.Mathlib.Omega.{arith}
@@ -110,7 +110,7 @@ str-begins : (x : List ℕ) (v : Value) (s : List ℕ) → v ≡ Value.Str s →
 unfolding text_passes text_of
 str-begins x v s e h = ap (text_passes (begins x)) e ∙ h
 
-prefix-typed : (T : Tables) (engine : Engine) (address : ℕ) (ty : Ty) (key : Value) (folded : List ℕ) (n t x : ℕ) (c : Const) → node_at T n ≡ Node.Prefix x → constant T n t ≡ some c → type_at T t ≡ Ty.Str
+prefix-typed : (T : Tables) (engine : Engine) (address : ℕ) (ty : Ty) (key : Value) (folded : List ℕ) (n t x : ℕ) (c : Const) → node_at T n ≡ Node.Prefix x → constant T n t ≡ Some c → type_at T t ≡ Ty.Str
 unfolding var_name constant_node
 prefix-typed T engine address ty key folded n t x c q e =
     let l = constant-of T engine address ty key folded n t c e (ap var_name q) in
@@ -118,8 +118,8 @@ prefix-typed T engine address ty key folded n t x c q e =
 
 module _ (T : Tables) (engine : Engine) (address : ℕ) (ty : Ty) (key : Value) (folded : List ℕ) where
   -- a Prefix or a Fuzzy that a key passes holds of the value
-  pub text-back : (node : Node) (n made t : ℕ) (path : FieldPath) (c : Const) (v : Value) (b : SeekBuilder) (r : List ℕ) → node_at T n ≡ node → IsText node → constant T n t ≡ some c
-      → OfType T v (type_at T t) → zero_free v ≡ true → Apart r → value_at ty key path ≡ some v → Ready engine ty key b (encode v ++ r) → Passing engine ty key (placement T (Event.narrow made path (narrowing c)) b) → text_matches T engine node v ≡ true
+  pub text-back : (node : Node) (n made t : ℕ) (path : FieldPath) (c : Const) (v : Value) (b : SeekBuilder) (r : List ℕ) → node_at T n ≡ node → IsText node → constant T n t ≡ Some c
+      → OfType T v (type_at T t) → zero_free v ≡ true → Apart r → value_at ty key path ≡ Some v → Ready engine ty key b (encode v ++ r) → Passing engine ty key (placement T (Event.narrow made path (narrowing c)) b) → text_matches T engine node v ≡ true
   unfolding text_matches narrowing says near encode encode_str encode_prefix zero_free
   text-back (Node.Prefix x) n made t path c v b r q i e of z a at rd p =
       let o = of-str T v (type_at T t) of (text-type tt) in
@@ -156,15 +156,15 @@ module _ (T : Tables) (engine : Engine) (address : ℕ) (ty : Ty) (key : Value) 
   text-back Node.Error n made t path c v b r q i e of z a at rd p = absurd i
 
   -- one constraint
-  one-back : (o : Option Const) (k : Constraint) (t : ℕ) (path : FieldPath) (w : Walk) (v : Value) (r : List ℕ) → constant T k.node t ≡ o → Text T engine address ty key folded k → OfType T v (type_at T t) → zero_free v ≡ true → Apart r → value_at ty key path ≡ some v
+  one-back : (o : Option Const) (k : Constraint) (t : ℕ) (path : FieldPath) (w : Walk) (v : Value) (r : List ℕ) → constant T k.node t ≡ o → Text T engine address ty key folded k → OfType T v (type_at T t) → zero_free v ≡ true → Apart r → value_at ty key path ≡ Some v
       → Ready engine ty key (built T w) (encode v ++ r) → Clean (one T engine address ty key folded o k path w) → Passing engine ty key (built T (one T engine address ty key folded o k path w)) → Holds T engine address ty key folded v k
   unfolding one
-  one-back none k t path w v r e i of z a at rd c p = absurd (dirty _ _ _ c)
-  one-back (some c) k t path w v r e i of z a at rd cl p =
+  one-back None k t path w v r e i of z a at rd c p = absurd (dirty _ _ _ c)
+  one-back (Some c) k t path w v r e i of z a at rd cl p =
       text-back (node_at T k.node) k.node k.node t path c v (built T w) r refl i e of z a at rd
       (subst (Passing engine ty key) (built-emit T (Event.narrow k.node path (narrowing c)) w) p)
 
-  constraints-back : {ks : List Constraint} (t : ℕ) (path : FieldPath) (w : Walk) (v : Value) (r : List ℕ) → Each (Text T engine address ty key folded) ks → OfType T v (type_at T t) → zero_free v ≡ true → Apart r → value_at ty key path ≡ some v
+  constraints-back : {ks : List Constraint} (t : ℕ) (path : FieldPath) (w : Walk) (v : Value) (r : List ℕ) → Each (Text T engine address ty key folded) ks → OfType T v (type_at T t) → zero_free v ≡ true → Apart r → value_at ty key path ≡ Some v
       → Ready engine ty key (built T w) (encode v ++ r) → Clean (constrain_each (walk_ops T) T ks t path w) → Passing engine ty key (built T (constrain_each (walk_ops T) T ks t path w)) → Each (Holds T engine address ty key folded v) ks
   unfolding next
   constraints-back t path w v r done of z a at rd c p = done
@@ -182,8 +182,8 @@ module _ (T : Tables) (engine : Engine) (address : ℕ) (ty : Ty) (key : Value) 
   -- constraints set no edge
   one-edges : (o : Option Const) (k : Constraint) (path : FieldPath) (w : Walk) → (built T (one T engine address ty key folded o k path w)).edges ≡ (built T w).edges
   unfolding one report
-  one-edges none k path w = ap (λ (b : SeekBuilder). b.edges) (built-emit T Event.skip w) ∙ edges-skip T (built T w)
-  one-edges (some c) k path w = ap (λ (b : SeekBuilder). b.edges) (built-emit T (Event.narrow k.node path (narrowing c)) w) ∙ edges-narrowing T k.node path (narrowing c) (built T w)
+  one-edges None k path w = ap (λ (b : SeekBuilder). b.edges) (built-emit T Event.skip w) ∙ edges-skip T (built T w)
+  one-edges (Some c) k path w = ap (λ (b : SeekBuilder). b.edges) (built-emit T (Event.narrow k.node path (narrowing c)) w) ∙ edges-narrowing T k.node path (narrowing c) (built T w)
 
   each-edges : (ks : List Constraint) (t : ℕ) (path : FieldPath) (w : Walk) → (built T (constrain_each (walk_ops T) T ks t path w)).edges ≡ (built T w).edges
   unfolding next
@@ -202,7 +202,7 @@ module _ (T : Tables) (engine : Engine) (address : ℕ) (ty : Ty) (key : Value) 
 
   module _ (texts : Each (Text T engine address ty key folded) T.constraints) where
     -- no folded comparison is of a new name, where the level folds nothing for it
-    not-folded : (x t : ℕ) (w : Walk) (v : Value) → lookup w.lists.bindings x ≡ none → Consts T engine address ty key folded w.lists.bindings → Known T w → (built T w).edges.folded ≡ folded → folded_hold T folded x t v ≡ true
+    not-folded : (x t : ℕ) (w : Walk) (v : Value) → lookup w.lists.bindings x ≡ None → Consts T engine address ty key folded w.lists.bindings → Known T w → (built T w).edges.folded ≡ folded → folded_hold T folded x t v ≡ true
     not-folded x t w v fresh consts known e =
         silent T folded x t v
         (λ j h.
@@ -234,7 +234,7 @@ module _ (T : Tables) (engine : Engine) (address : ℕ) (ty : Ty) (key : Value) 
         (λ off. quiet (ap (λ (e : Edges). e.folded) (sym (bound-none x t b off)) ∙ f))
 
     -- all that is asked of a name
-    by-back : (ks : List Constraint) (x t : ℕ) (path : FieldPath) (u : Walk) (v : Value) (r : List ℕ) → Each (Text T engine address ty key folded) ks → OfType T v (type_at T t) → zero_free v ≡ true → Apart r → value_at ty key path ≡ some v
+    by-back : (ks : List Constraint) (x t : ℕ) (path : FieldPath) (u : Walk) (v : Value) (r : List ℕ) → Each (Text T engine address ty key folded) ks → OfType T v (type_at T t) → zero_free v ≡ true → Apart r → value_at ty key path ≡ Some v
         → ((built T u).edges.folded ≡ folded → folded_hold T folded x t v ≡ true) → Ready engine ty key (built T u) (encode v ++ r)
         → Clean (constrain_by (walk_ops T) T ks x t path u) → Final T engine address ty key folded (constrain_by (walk_ops T) T ks x t path u) → Passing engine ty key (built T (constrain_by (walk_ops T) T ks x t path u))
         → Each (Holds T engine address ty key folded v) ks × (folded_hold T folded x t v ≡ true)
@@ -254,7 +254,7 @@ module _ (T : Tables) (engine : Engine) (address : ℕ) (ty : Ty) (key : Value) 
         let same : (built T w').edges.folded ≡ (built T u).edges.folded = ap (λ (e : Edges). e.folded) (each-edges (k ∷ ks) t path u') in
         (hs, quiet (sym same ∙ f fell))
 
-    pub comes-new : (x t : ℕ) (path : FieldPath) (w : Walk) → lookup w.lists.bindings x ≡ none
+    pub comes-new : (x t : ℕ) (path : FieldPath) (w : Walk) → lookup w.lists.bindings x ≡ None
         → Comes T engine address ty key folded w (constrain (walk_ops T) T x t path (bind x (Slot.Field address path t) w)) path t (λ v. new_name T engine address ty key folded x t v path w.lists.bindings)
     unfolding constrain new_name constraints_hold bind
     comes-new x t path w e =

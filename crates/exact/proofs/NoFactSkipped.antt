@@ -1,7 +1,7 @@
 -- "No fact is skipped", of every level of an accepted file that meets the conditions.
 use mathlib.Core.Bool.{true, false}
 use mathlib.Core.List.{List, [], ◌∷◌}
-use mathlib.Core.Option.{some}
+use Rattle.std.specs.Prelude.{Some}
 use mathlib.Core.Path.{◌≡◌, refl, sym, ◌∙◌, subst}
 use Prim.Native.Nat.{ℕ, zero, suc, ◌<◌}
 use native.Mathlib.Nat.{not-suc-le-zero, le_of_suc-le-suc}
@@ -89,7 +89,7 @@ module _ (T : Tables) (texts : Each (λ (k : Constraint). IsText (node_at T k.no
   clean-walk l start c m = record { diagnostics = c.diagnostics; typed = m }
 
   pub one-level : (l : LevelEntry) (start : Lists) → is_own (node_at T l.node) (key_type T l) start.bindings ≡ true → SameBound start.bindings → CleanLists (level T l start).left → (level T l start).mistyped ≡ false
-      → (engine : Engine) (key' : Value) → OfType T key' (key_type T l) → (after : List Binding) → matches T engine l (plan_level (level_by placement T (level T l start))).folded start.bindings key' ≡ some after
+      → (engine : Engine) (key' : Value) → OfType T key' (key_type T l) → (after : List Binding) → matches T engine l (plan_level (level_by placement T (level T l start))).folded start.bindings key' ≡ Some after
       → (passes engine (key_type T l) (plan_level (level_by placement T (level T l start))) key' ≡ true) × ((level T l start).left.bindings ≡ after)
   unfolding key_type plan_level level level_of level_by placed_by
   one-level l start own same clean typed engine key' of after m =
@@ -132,7 +132,7 @@ module _ (T : Tables) (texts : Each (λ (k : Constraint). IsText (node_at T k.no
 
   abbrev Claim : LevelEntry → Lists → Level → Type 0
   Claim l start lv =
-      (engine : Engine) (key' : Value) → OfType T key' (key_type T l) → (after : List Binding) → matches T engine l (plan_level (level_by placement T lv)).folded start.bindings key' ≡ some after
+      (engine : Engine) (key' : Value) → OfType T key' (key_type T l) → (after : List Binding) → matches T engine l (plan_level (level_by placement T lv)).folded start.bindings key' ≡ Some after
       → (passes engine (key_type T l) (plan_level (level_by placement T lv)) key' ≡ true) × (lv.left.bindings ≡ after)
 
   every-level : (start : Lists) (entries : List LevelEntry) → SameBound start.bindings → own_nodes T start entries ≡ true → Each (λ (l : Level). l.mistyped ≡ false) (levels_from T start entries)

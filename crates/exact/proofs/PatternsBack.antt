@@ -1,7 +1,7 @@
 -- What passes matches: reads, names and the pattern by its kind; and so every pattern of a level.
 use mathlib.Core.Bool.{true, false}
 use mathlib.Core.List.{List}
-use mathlib.Core.Option.{Option, none, some}
+use Rattle.std.specs.Prelude.{Option, None, Some}
 use mathlib.Core.Path.{◌≡◌, refl, sym, ap, ◌∙◌, subst}
 use Prim.Native.Nat.{ℕ, zero, suc, ◌<◌}
 use native.Mathlib.Nat.{not-suc-le-zero}
@@ -29,7 +29,7 @@ use Rattle.exact.proofs.NamesBack.{text-back, comes-new}
 use Rattle.exact.proofs.Pieces.{record-node, union-type}
 use Rattle.exact.proofs.PiecesBack.{comes-partial, comes-matched, comes-inject}
 use Rattle.exact.proofs.Patterns.{Agrees, goes-answer, agrees-written, agrees-read, agrees-none, goes-below}
-use Rattle.exact.proofs.Backward.{Some, Comes, WalksBack, comes-some, comes-report, comes-agree, comes-from, comes-narrow}
+use Rattle.exact.proofs.Backward.{Something, Comes, WalksBack, comes-some, comes-report, comes-agree, comes-from, comes-narrow}
 
 module _ (T : Tables) (facts : Facts T) (engine : Engine) (address : ℕ) (ty : Ty) (key : Value) (folded : List ℕ) (texts : Each (λ (k : Constraint). IsText (node_at T k.node)) T.constraints) where
   module _ (limit : ℕ) (goes : Walks T engine address ty key folded (field_below (walk_ops T) T address limit) (below T engine address ty key folded limit))
@@ -44,7 +44,7 @@ module _ (T : Tables) (facts : Facts T) (engine : Engine) (address : ℕ) (ty : 
     Agree = Agrees T engine address ty key folded texts limit goes
 
     -- a read that gave no slot, of no record: where nothing was reported before, a diagnostic would have been made now
-    comes-unresolved : (n t : ℕ) (before w : Walk) (path : FieldPath) (m : Value → Option (List Binding)) → length w.lists.diagnostics ≡ length before.lists.diagnostics → (deferred (node_at T n) ≡ true → (v : Value) → Some (m v))
+    comes-unresolved : (n t : ℕ) (before w : Walk) (path : FieldPath) (m : Value → Option (List Binding)) → length w.lists.diagnostics ≡ length before.lists.diagnostics → (deferred (node_at T n) ≡ true → (v : Value) → Something (m v))
         → Comes T engine address ty key folded w (unresolved (walk_ops T) T n before w) path t m
     unfolding unresolved
     comes-unresolved n t before w path m e h =
@@ -54,22 +54,22 @@ module _ (T : Tables) (facts : Facts T) (engine : Engine) (address : ℕ) (ty : 
         (λ p. comes-report T engine address ty key folded n Code.RejectUnresolvedAccess w (emit Event.skip w) path t m)
         (λ p. absurd (true≢false (sym (eq-eqb _ _ e) ∙ p))))
 
-    comes-answer : (n t : ℕ) (path : FieldPath) (w u : Walk) (m : Value → Option (List Binding)) → t < suc limit → length u.lists.diagnostics ≡ length w.lists.diagnostics → Agree n t path u.lists.bindings m → (deferred (node_at T n) ≡ true → (v : Value) → Some (m v))
+    comes-answer : (n t : ℕ) (path : FieldPath) (w u : Walk) (m : Value → Option (List Binding)) → t < suc limit → length u.lists.diagnostics ≡ length w.lists.diagnostics → Agree n t path u.lists.bindings m → (deferred (node_at T n) ≡ true → (v : Value) → Something (m v))
         → (o : Option Slot) → slot_of T n u.lists.bindings ≡ o → Comes T engine address ty key folded u (read_answer (walk_ops T) T address walk_below n o t path w u) path t m
     unfolding read_answer
-    comes-answer n t path w u m l d a h (some slot) e =
+    comes-answer n t path w u m l d a h (Some slot) e =
         comes-agree T engine address ty key folded u _ path t m _ (a.found slot e)
-        (comes-matched T facts engine address ty key folded texts limit goes comes n slot t path u l (λ cs c q. slot-constant T facts u.lists.bindings cs n c (e ∙ ap some q)))
-    comes-answer n t path w u m l d a h none e = go (record_fields (node_at T n)) refl
+        (comes-matched T facts engine address ty key folded texts limit goes comes n slot t path u l (λ cs c q. slot-constant T facts u.lists.bindings cs n c (e ∙ ap Some q)))
+    comes-answer n t path w u m l d a h None e = go (record_fields (node_at T n)) refl
       where
         go : (o : Option (List FieldPattern)) → record_fields (node_at T n) ≡ o
-            → Comes T engine address ty key folded u (elim o [ some fields ↦ partial (walk_ops T) T address walk_below n t path u | none ↦ unresolved (walk_ops T) T n w u ]) path t m
-        go none q = comes-unresolved n t w u path m d h
-        go (some fields) q =
+            → Comes T engine address ty key folded u (elim o [ Some fields ↦ partial (walk_ops T) T address walk_below n t path u | None ↦ unresolved (walk_ops T) T n w u ]) path t m
+        go None q = comes-unresolved n t w u path m d h
+        go (Some fields) q =
             let k = a.opened e fields q in
             comes-agree T engine address ty key folded u _ path t m _ k.1 (comes-partial T facts engine address ty key folded texts limit goes comes n t path u fields (record-node (node_at T n) fields q) k.0 l)
 
-    comes-read : (n t : ℕ) (path : FieldPath) (w : Walk) (m : Value → Option (List Binding)) → t < suc limit → Agree n t path w.lists.bindings m → (deferred (node_at T n) ≡ true → (v : Value) → Some (m v))
+    comes-read : (n t : ℕ) (path : FieldPath) (w : Walk) (m : Value → Option (List Binding)) → t < suc limit → Agree n t path w.lists.bindings m → (deferred (node_at T n) ≡ true → (v : Value) → Something (m v))
         → Comes T engine address ty key folded w (read (walk_ops T) T address walk_below n t path w) path t m
     unfolding read
     comes-read n t path w m l a h =
@@ -91,57 +91,57 @@ module _ (T : Tables) (facts : Facts T) (engine : Engine) (address : ℕ) (ty : 
     comes-ranged node n t path w q i = go (constant T n t) refl
       where
         go : (o : Option Const) → constant T n t ≡ o
-            → Comes T engine address ty key folded w (elim o [ some c ↦ emit (Event.narrow n path (narrowing c)) w | none ↦ report n Code.RejectTypeMismatch w ]) path t (λ v. accept (text_matches T engine node v) w.lists.bindings)
-        go none e = comes-report T engine address ty key folded n Code.RejectTypeMismatch w w path t _
-        go (some c) e =
+            → Comes T engine address ty key folded w (elim o [ Some c ↦ emit (Event.narrow n path (narrowing c)) w | None ↦ report n Code.RejectTypeMismatch w ]) path t (λ v. accept (text_matches T engine node v) w.lists.bindings)
+        go None e = comes-report T engine address ty key folded n Code.RejectTypeMismatch w w path t _
+        go (Some c) e =
             comes-narrow T engine address ty key folded n path (narrowing c) w t _
             (λ v r of z a at rd cs hd p. (w.lists.bindings, accept-true _ w.lists.bindings (text-back T engine address ty key folded node n n t path c v (built T w) r q i e of z a at rd p)))
 
-    comes-literal : (node : Node) (n t : ℕ) (path : FieldPath) (w : Walk) → t < suc limit → node_at T n ≡ node → ((f : ℕ → Resolver (List Binding)) → (resolve_node quiet T f n node w.lists.bindings).slot ≡ none) → record_fields node ≡ none → deferred node ≡ false
-        → ((v : Value) (after : List Binding) → written_matches T engine address ty key folded match_below node t v path w.lists.bindings ≡ some after → after ≡ w.lists.bindings)
+    comes-literal : (node : Node) (n t : ℕ) (path : FieldPath) (w : Walk) → t < suc limit → node_at T n ≡ node → ((f : ℕ → Resolver (List Binding)) → (resolve_node quiet T f n node w.lists.bindings).slot ≡ None) → record_fields node ≡ None → deferred node ≡ false
+        → ((v : Value) (after : List Binding) → written_matches T engine address ty key folded match_below node t v path w.lists.bindings ≡ Some after → after ≡ w.lists.bindings)
         → Comes T engine address ty key folded w (read (walk_ops T) T address walk_below n t path w) path t (λ v. written_matches T engine address ty key folded match_below node t v path w.lists.bindings)
     comes-literal node n t path w l q h o d k =
         comes-read n t path w _ l (agrees-written T engine address ty key folded texts limit goes node n t path w.lists.bindings q h (λ fields r. absurd (some≢none fields (sym r ∙ o))) (λ r. k))
         (λ e. absurd (true≢false (sym e ∙ ap deferred q ∙ d)))
 
     -- a pattern that is read through its slot, and none was found
-    read_some : (n t : ℕ) (path : FieldPath) (w : Walk) → deferred (node_at T n) ≡ false → deferred (node_at T n) ≡ true → (v : Value) → Some (read_matches T engine address ty key folded match_below n t v path w.lists.bindings)
+    read_some : (n t : ℕ) (path : FieldPath) (w : Walk) → deferred (node_at T n) ≡ false → deferred (node_at T n) ≡ true → (v : Value) → Something (read_matches T engine address ty key folded match_below n t v path w.lists.bindings)
     read_some n t path w d e v = absurd (true≢false (sym e ∙ d))
 
-    comes-variable : (x n t : ℕ) (path : FieldPath) (w : Walk) → t < suc limit → record_fields (node_at T n) ≡ none → deferred (node_at T n) ≡ false
+    comes-variable : (x n t : ℕ) (path : FieldPath) (w : Walk) → t < suc limit → record_fields (node_at T n) ≡ None → deferred (node_at T n) ≡ false
         → Comes T engine address ty key folded w (variable (walk_ops T) T address walk_below x n t path w) path t (λ v. node_matches T engine address ty key folded match_below (Node.Var x) n t v path w.lists.bindings)
     unfolding variable node_matches
     comes-variable x n t path w l o d = go (lookup w.lists.bindings x) refl
       where
         go : (s : Option Slot) → lookup w.lists.bindings x ≡ s
-            → Comes T engine address ty key folded w (elim s [ none ↦ constrain (walk_ops T) T x t path (bind x (Slot.Field address path t) w) | some slot ↦ read (walk_ops T) T address walk_below n t path w ]) path t
-            (λ v. elim s [ none ↦ new_name T engine address ty key folded x t v path w.lists.bindings | some slot ↦ read_matches T engine address ty key folded match_below n t v path w.lists.bindings ])
-        go none e = comes-new T engine address ty key folded texts x t path w e
-        go (some slot) e = comes-read n t path w _ l (agrees-read T engine address ty key folded texts limit goes n t path w.lists.bindings o) (read_some n t path w d)
+            → Comes T engine address ty key folded w (elim s [ None ↦ constrain (walk_ops T) T x t path (bind x (Slot.Field address path t) w) | Some slot ↦ read (walk_ops T) T address walk_below n t path w ]) path t
+            (λ v. elim s [ None ↦ new_name T engine address ty key folded x t v path w.lists.bindings | Some slot ↦ read_matches T engine address ty key folded match_below n t v path w.lists.bindings ])
+        go None e = comes-new T engine address ty key folded texts x t path w e
+        go (Some slot) e = comes-read n t path w _ l (agrees-read T engine address ty key folded texts limit goes n t path w.lists.bindings o) (read_some n t path w d)
 
     comes-record : (fs : List FieldPattern) (n t : ℕ) (path : FieldPath) (w : Walk) → t < suc limit → node_at T n ≡ Node.Record fs
         → Comes T engine address ty key folded w (field_node (walk_ops T) T address walk_below (Node.Record fs) n t path w) path t (λ v. written_matches T engine address ty key folded match_below (Node.Record fs) t v path w.lists.bindings)
     unfolding field_node
     comes-record fs n t path w l q = go (union_ty (type_at T t)) refl
       where
-        same : (v : Value) (fields : List FieldPattern) → record_fields (Node.Record fs) ≡ some fields → written_matches T engine address ty key folded match_below (Node.Record fs) t v path w.lists.bindings ≡ record_at T engine address ty key folded match_below fields (type_at T t) v path w.lists.bindings
+        same : (v : Value) (fields : List FieldPattern) → record_fields (Node.Record fs) ≡ Some fields → written_matches T engine address ty key folded match_below (Node.Record fs) t v path w.lists.bindings ≡ record_at T engine address ty key folded match_below fields (type_at T t) v path w.lists.bindings
         same v fields r = unfold written_matches record_fields in ap (λ (gs : List FieldPattern). record_at T engine address ty key folded match_below gs (type_at T t) v path w.lists.bindings) (some-injective fs fields r)
 
-        is_none : (f : ℕ → Resolver (List Binding)) → (resolve_node quiet T f n (Node.Record fs) w.lists.bindings).slot ≡ none
+        is_none : (f : ℕ → Resolver (List Binding)) → (resolve_node quiet T f n (Node.Record fs) w.lists.bindings).slot ≡ None
         is_none f = unfold resolve_node give in refl
 
-        has-fields : record_fields (Node.Record fs) ≡ none → ⊥
+        has-fields : record_fields (Node.Record fs) ≡ None → ⊥
         has-fields r = unfold record_fields in some≢none fs r
 
         not-deferred : deferred (node_at T n) ≡ true → ⊥
         not-deferred e = true≢false (sym e ∙ unfold deferred in ap deferred q)
 
         go : (o : Option (List Alternative)) → union_ty (type_at T t) ≡ o
-            → Comes T engine address ty key folded w (elim o [ some alts ↦ inject (walk_ops T) T address walk_below fs alts n t path w | none ↦ read (walk_ops T) T address walk_below n t path w ]) path t (λ v. written_matches T engine address ty key folded match_below (Node.Record fs) t v path w.lists.bindings)
-        go none e =
+            → Comes T engine address ty key folded w (elim o [ Some alts ↦ inject (walk_ops T) T address walk_below fs alts n t path w | None ↦ read (walk_ops T) T address walk_below n t path w ]) path t (λ v. written_matches T engine address ty key folded match_below (Node.Record fs) t v path w.lists.bindings)
+        go None e =
             comes-read n t path w _ l (agrees-written T engine address ty key folded texts limit goes (Node.Record fs) n t path w.lists.bindings q is_none (λ fields r. (e, λ v. same v fields r)) (λ r. absurd (has-fields r)))
             (λ d. absurd (not-deferred d))
-        go (some alts) e = comes-inject T facts engine address ty key folded texts limit goes comes fs alts n t path w q (union-type (type_at T t) alts e) l
+        go (Some alts) e = comes-inject T facts engine address ty key folded texts limit goes comes fs alts n t path w q (union-type (type_at T t) alts e) l
 
     -- the pattern by its kind
     comes-node : (node : Node) (n t : ℕ) (path : FieldPath) (w : Walk) → t < suc limit → node_at T n ≡ node

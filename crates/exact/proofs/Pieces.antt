@@ -1,7 +1,7 @@
 -- The pieces of a level's walk beside the matcher's: records, unions, slots, reads, and the pattern by its kind.
 use mathlib.Core.Bool.{Bool, true, false}
 use mathlib.Core.List.{List, ◌++◌}
-use mathlib.Core.Option.{Option, none, some}
+use Rattle.std.specs.Prelude.{Option, None, Some}
 use mathlib.Core.Path.{◌≡◌, refl, sym, ap, ◌∙◌, subst}
 use Prim.Native.Nat.{ℕ}
 use native.Mathlib.Omega.{arith}
@@ -27,7 +27,7 @@ use Rattle.exact.proofs.Values.{value-field, holds_at}
 use Rattle.exact.proofs.Forward.{Goes, Walks, goes-report, reached-skip, goes-skip, goes-narrow, goes-written, Missing, goes-each}
 
 -- forms by their views
-pub record-node : (node : Node) (fields : List FieldPattern) → record_fields node ≡ some fields → node ≡ Node.Record fields
+pub record-node : (node : Node) (fields : List FieldPattern) → record_fields node ≡ Some fields → node ≡ Node.Record fields
 unfolding record_fields
 record-node (Node.Int bytes) fields e = absurd (some≢none fields (sym e))
 record-node (Node.Str x) fields e = absurd (some≢none fields (sym e))
@@ -47,7 +47,7 @@ record-node (Node.Fact p n) fields e = absurd (some≢none fields (sym e))
 record-node Node.Arith fields e = absurd (some≢none fields (sym e))
 record-node Node.Error fields e = absurd (some≢none fields (sym e))
 
-pub record-type : (u : Ty) (fs : List FieldTy) → record_ty u ≡ some fs → u ≡ Ty.Record fs
+pub record-type : (u : Ty) (fs : List FieldTy) → record_ty u ≡ Some fs → u ≡ Ty.Record fs
 unfolding record_ty
 record-type Ty.Int fs e = absurd (some≢none fs (sym e))
 record-type Ty.Str fs e = absurd (some≢none fs (sym e))
@@ -56,7 +56,7 @@ record-type (Ty.Fact p) fs e = absurd (some≢none fs (sym e))
 record-type (Ty.Record gs) fs e = ap Ty.Record (some-injective gs fs e)
 record-type (Ty.Union alts) fs e = absurd (some≢none fs (sym e))
 
-pub union-type : (u : Ty) (alts : List Alternative) → union_ty u ≡ some alts → u ≡ Ty.Union alts
+pub union-type : (u : Ty) (alts : List Alternative) → union_ty u ≡ Some alts → u ≡ Ty.Union alts
 unfolding union_ty
 union-type Ty.Int alts e = absurd (some≢none alts (sym e))
 union-type Ty.Str alts e = absurd (some≢none alts (sym e))
@@ -66,11 +66,11 @@ union-type (Ty.Record fs) alts e = absurd (some≢none alts (sym e))
 union-type (Ty.Union as') alts e = ap Ty.Union (some-injective as' alts e)
 
 -- a constant that is not noted is a record at a record type
-pub both-records : (fields : Option (List FieldPattern)) (fs : Option (List FieldTy)) → unless_records fields fs ≡ false → (gs : List FieldPattern) × (hs : List FieldTy) × (fields ≡ some gs) × (fs ≡ some hs)
+pub both-records : (fields : Option (List FieldPattern)) (fs : Option (List FieldTy)) → unless_records fields fs ≡ false → (gs : List FieldPattern) × (hs : List FieldTy) × (fields ≡ Some gs) × (fs ≡ Some hs)
 unfolding unless_records
-both-records none fs e = absurd (true≢false e)
-both-records (some gs) none e = absurd (true≢false e)
-both-records (some gs) (some hs) e = (gs, hs, refl, refl)
+both-records None fs e = absurd (true≢false e)
+both-records (Some gs) None e = absurd (true≢false e)
+both-records (Some gs) (Some hs) e = (gs, hs, refl, refl)
 
 module _ (T : Tables) (engine : Engine) (address : ℕ) (ty : Ty) (key : Value) (folded : List ℕ) where
   -- once building fell, a field that the pattern does not name asks nothing
@@ -109,23 +109,23 @@ module _ (T : Tables) (engine : Engine) (address : ℕ) (ty : Ty) (key : Value) 
               let inner = bind-some (fields_of v) (λ vs. each_matches match_below (then path) fields 0 fs vs w.lists.bindings) after q in
               let is = is-record v inner.0 inner.1 in
               each.live inner.0 r (subst Whole is wh) a
-              (λ l. ap (λ i. value_at ty key (then path i)) (omega arith) ∙ value-field ty key path l inner.0 (at ∙ ap some is)) (fell-skip w) c f k
+              (λ l. ap (λ i. value_at ty key (then path i)) (omega arith) ∙ value-field ty key path l inner.0 (at ∙ ap Some is)) (fell-skip w) c f k
               (reached-skip T engine address ty key folded w (encode v ++ r) (encode_all inner.0 ++ r) w.lists.bindings rd refl).ready after inner.2;
         }
 
     partial-fields-grow : (fields : Option (List FieldPattern)) (fs : Option (List FieldTy)) (path : FieldPath) (w : Walk) → Grows T engine ty key w (partial_fields (walk_ops T) T address walk_below fields fs path w)
     unfolding partial_fields
-    partial-fields-grow none fs path w = grows_same T engine ty key w
-    partial-fields-grow (some fields) none path w = grows_same T engine ty key w
-    partial-fields-grow (some fields) (some fs) path w = (goes-each T engine address ty key folded Fell walk_below match_below (λ x. x) (then path) fields ih miss-none 0 fs w).grows
+    partial-fields-grow None fs path w = grows_same T engine ty key w
+    partial-fields-grow (Some fields) None path w = grows_same T engine ty key w
+    partial-fields-grow (Some fields) (Some fs) path w = (goes-each T engine address ty key folded Fell walk_below match_below (λ x. x) (then path) fields ih miss-none 0 fs w).grows
 
     pub partial-grows : (n t : ℕ) (path : FieldPath) (w : Walk) → Grows T engine ty key w (partial (walk_ops T) T address walk_below n t path w)
     unfolding partial
     partial-grows n t path w = grows-next T engine ty key w (emit Event.skip w) _ (grows-skip T engine ty key w) (partial-fields-grow (record_fields (node_at T n)) (record_ty (type_at T t)) path (emit Event.skip w))
 
     -- a record that is opened, at any type but a union
-    goes-opened : (fields : List FieldPattern) (u : Ty) (path : FieldPath) (w : Walk) → union_ty u ≡ none
-        → Goes T engine address ty key folded w (partial_fields (walk_ops T) T address walk_below (some fields) (record_ty u) path (emit Event.skip w)) path (λ v. record_at T engine address ty key folded match_below fields u v path w.lists.bindings)
+    goes-opened : (fields : List FieldPattern) (u : Ty) (path : FieldPath) (w : Walk) → union_ty u ≡ None
+        → Goes T engine address ty key folded w (partial_fields (walk_ops T) T address walk_below (Some fields) (record_ty u) path (emit Event.skip w)) path (λ v. record_at T engine address ty key folded match_below fields u v path w.lists.bindings)
     unfolding partial_fields record_ty union_ty record_at
     goes-opened fields Ty.Int path w e = goes-skip T engine address ty key folded w path _ (λ v after q. sym (some-injective _ after q))
     goes-opened fields Ty.Str path w e = goes-skip T engine address ty key folded w path _ (λ v after q. sym (some-injective _ after q))
@@ -134,7 +134,7 @@ module _ (T : Tables) (engine : Engine) (address : ℕ) (ty : Ty) (key : Value) 
     goes-opened fields (Ty.Record fs) path w e = goes-fields fields fs path w
     goes-opened fields (Ty.Union alts) path w e = absurd (some≢none alts e)
 
-    pub goes-partial : (n t : ℕ) (path : FieldPath) (w : Walk) (fields : List FieldPattern) → node_at T n ≡ Node.Record fields → union_ty (type_at T t) ≡ none
+    pub goes-partial : (n t : ℕ) (path : FieldPath) (w : Walk) (fields : List FieldPattern) → node_at T n ≡ Node.Record fields → union_ty (type_at T t) ≡ None
         → Goes T engine address ty key folded w (partial (walk_ops T) T address walk_below n t path w) path (λ v. record_at T engine address ty key folded match_below fields (type_at T t) v path w.lists.bindings)
     unfolding partial record_fields
     goes-partial n t path w fields q e =
@@ -143,24 +143,24 @@ module _ (T : Tables) (engine : Engine) (address : ℕ) (ty : Ty) (key : Value) 
 
     -- a Const slot
     unfoldable pub const-choice : ℕ → ℕ → ℕ → FieldPath → Walk → Option Const → Walk
-    const-choice n c t path w none = partial (walk_ops T) T address walk_below c t path (brings T (Slot.Const c) (type_at T t) w)
-    const-choice n c t path w (some k) = emit (Event.narrow n path (narrowing k)) w
+    const-choice n c t path w None = partial (walk_ops T) T address walk_below c t path (brings T (Slot.Const c) (type_at T t) w)
+    const-choice n c t path w (Some k) = emit (Event.narrow n path (narrowing k)) w
 
     pub const-choice-is : (n c t : ℕ) (path : FieldPath) (w : Walk) (o : Option Const)
-        → const-choice n c t path w o ≡ elim o as (λ _. Walk) [ some k ↦ narrow_by (walk_ops T) T n k path w | none ↦ partial (walk_ops T) T address walk_below c t path (brings T (Slot.Const c) (type_at T t) w) ]
+        → const-choice n c t path w o ≡ elim o as (λ _. Walk) [ Some k ↦ narrow_by (walk_ops T) T n k path w | None ↦ partial (walk_ops T) T address walk_below c t path (brings T (Slot.Const c) (type_at T t) w) ]
     unfolding const-choice narrow_by
-    const-choice-is n c t path w none = refl
-    const-choice-is n c t path w (some k) = refl
+    const-choice-is n c t path w None = refl
+    const-choice-is n c t path w (Some k) = refl
 
     -- where the walk noted nothing, both are records
     pub noted : (c t : ℕ) (path : FieldPath) (w : Walk) → Clean (partial (walk_ops T) T address walk_below c t path (brings T (Slot.Const c) (type_at T t) w))
-        → (gs : List FieldPattern) × (hs : List FieldTy) × (record_fields (node_at T c) ≡ some gs) × (record_ty (type_at T t) ≡ some hs)
+        → (gs : List FieldPattern) × (hs : List FieldTy) × (record_fields (node_at T c) ≡ Some gs) × (record_ty (type_at T t) ≡ Some hs)
     unfolding brings is_mistyped
     noted c t path w cl =
         both-records (record_fields (node_at T c)) (record_ty (type_at T t))
         (either-right w.mistyped (unless_records (record_fields (node_at T c)) (record_ty (type_at T t))) ((partial-grows c t path (brings T (Slot.Const c) (type_at T t) w)).clean cl).typed)
 
-    pub no-union : (u : Ty) (fs : List FieldTy) → record_ty u ≡ some fs → union_ty u ≡ none
+    pub no-union : (u : Ty) (fs : List FieldTy) → record_ty u ≡ Some fs → union_ty u ≡ None
     unfolding record_ty union_ty
     no-union Ty.Int fs e = refl
     no-union Ty.Str fs e = refl
@@ -172,7 +172,7 @@ module _ (T : Tables) (engine : Engine) (address : ℕ) (ty : Ty) (key : Value) 
     goes_const : (n c t : ℕ) (path : FieldPath) (w : Walk) (o : Option Const) → constant T c t ≡ o
         → Goes T engine address ty key folded w (const-choice n c t path w o) path (λ v. written_matches T engine address ty key folded match_below (node_at T c) t v path w.lists.bindings)
     unfolding const-choice written_matches
-    goes_const n c t path w none e =
+    goes_const n c t path w None e =
         let u : Walk = brings T (Slot.Const c) (type_at T t) w in
         record {
           grows = grows-next T engine ty key w u _ (grows-brings T engine ty key (Slot.Const c) (type_at T t) w) (partial-grows c t path u);
@@ -192,7 +192,7 @@ module _ (T : Tables) (engine : Engine) (address : ℕ) (ty : Ty) (key : Value) 
 
         same-bound : (u : Walk) → (brings T (Slot.Const c) (type_at T t) w).lists.bindings ≡ w.lists.bindings
         same-bound u = unfold brings in refl
-    goes_const n c t path w (some k) e =
+    goes_const n c t path w (Some k) e =
         goes-written T engine address ty key folded n path k w _ (λ v after cs q. written-constant T engine address ty key folded (node_at T c) limit c t k v path w.lists.bindings after refl e cs q)
 
     -- one of two narrowings by a test

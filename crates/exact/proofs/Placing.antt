@@ -1,7 +1,7 @@
 -- What a level that is being built asks of a key, and what the claims' placement does to it: where the event that is placed holds, the key still passes.
 use mathlib.Core.Bool.{true, false}
 use mathlib.Core.List.{List, [], ◌∷◌, ◌++◌, append-nil, append_assoc}
-use mathlib.Core.Option.{Option, none, some}
+use Rattle.std.specs.Prelude.{Option, None, Some}
 use mathlib.Core.Path.{◌≡◌, refl, sym, ap, ◌∙◌, subst}
 use Prim.Native.Nat.{ℕ}
 use lib.ListN.{length, drop}
@@ -27,22 +27,22 @@ pub data Becomes : Narrowing → SeekKeyPart → Type 0 where
 
 -- what stands while building holds: nothing but parts
 pub record Open (range : Option Range) (guide : Option Guide) (e : Edges) : Type 0 where
-  pub no-range : range ≡ none
-  pub no-guide : guide ≡ none
-  pub no-lo : e.lo ≡ none
-  pub no-hi : e.hi ≡ none
+  pub no-range : range ≡ None
+  pub no-guide : guide ≡ None
+  pub no-lo : e.lo ≡ None
+  pub no-hi : e.hi ≡ None
   pub no-folded : e.folded ≡ []
 
 -- the edges, where there is one
 abbrev pub Edged : Option RangeEdge → Option RangeEdge → Option (List ℕ) → Type 0
-Edged none none value = Unit {0}
-Edged none (some hi) value = within none (some hi) value ≡ true
-Edged (some lo) hi value = within (some lo) hi value ≡ true
+Edged None None value = Unit {0}
+Edged None (Some hi) value = within None (Some hi) value ≡ true
+Edged (Some lo) hi value = within (Some lo) hi value ≡ true
 
-pub edged-none : (lo hi : Option RangeEdge) (value : Option (List ℕ)) → lo ≡ none → hi ≡ none → Edged lo hi value
-edged-none none none value e f = tt
-edged-none none (some hi) value e f = absurd (some≢none hi f)
-edged-none (some lo) hi value e f = absurd (some≢none lo e)
+pub edged-none : (lo hi : Option RangeEdge) (value : Option (List ℕ)) → lo ≡ None → hi ≡ None → Edged lo hi value
+edged-none None None value e f = tt
+edged-none None (Some hi) value e f = absurd (some≢none hi f)
+edged-none (Some lo) hi value e f = absurd (some≢none lo e)
 
 pub parts-snoc : (engine : Engine) (parts : List Part) (p : Part) → parts_bytes engine (parts ++ (p ∷ [])) ≡ parts_bytes engine parts ++ part_bytes engine p.key
 unfolding parts_bytes concat_map
@@ -54,9 +54,9 @@ module _ (engine : Engine) (ty : Ty) (key : Value) where
   -- what the level asks of the key so far
   pub record Passing (b : SeekBuilder) : Type 0 where
     pub starts : Starts (parts_bytes engine b.parts) (stored ty key)
-    pub range : (r : Range) → b.range ≡ some r → Starts (parts_bytes engine b.parts ++ r.prefix) (stored ty key)
+    pub range : (r : Range) → b.range ≡ Some r → Starts (parts_bytes engine b.parts ++ r.prefix) (stored ty key)
     pub edges : Edged b.edges.lo b.edges.hi (first_value (drop (length (parts_bytes engine b.parts)) (stored ty key)))
-    pub guide : (g : Guide) → b.guide ≡ some g → holds engine ty key g.path (Narrowing.Fuzzy g.term g.distance g.anchor) ≡ true
+    pub guide : (g : Guide) → b.guide ≡ Some g → holds engine ty key g.path (Narrowing.Fuzzy g.term g.distance g.anchor) ≡ true
     pub residuals : Each (λ r. holds engine ty key r.path r.op ≡ true) b.residuals
 
   -- the key passes so far, and while building holds the bytes that the parts have not reached yet are `rest`
@@ -181,10 +181,10 @@ module _ (engine : Engine) (ty : Ty) (key : Value) where
       }
 
   -- while building holds a guide can be set
-  pub attaches : (b : SeekBuilder) (path : FieldPath) → attachable b path ≡ false → (b.building ≡ true → b.guide ≡ none) → b.building ≡ false
+  pub attaches : (b : SeekBuilder) (path : FieldPath) → attachable b path ≡ false → (b.building ≡ true → b.guide ≡ None) → b.building ≡ false
   unfolding attachable
   attaches b path =
-      by-option (λ r. r ≡ false → (b.building ≡ true → b.guide ≡ none) → b.building ≡ false) b.guide
+      by-option (λ r. r ≡ false → (b.building ≡ true → b.guide ≡ None) → b.building ≡ false) b.guide
       (λ e q h. by-test (λ r. r ≡ false → b.building ≡ false) b.building (λ t r. absurd (true≢false r)) (λ f r. f) q)
       (λ g e q h. ways b.building (b.building ≡ false) (λ t. absurd (some≢none g (sym e ∙ h t))) (λ f. f))
 

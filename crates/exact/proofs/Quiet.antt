@@ -1,7 +1,7 @@
 -- A read's slot hangs on the bindings alone, and a read adds selects and diagnostics and nothing else.
 use mathlib.Core.Bool.{false}
 use mathlib.Core.List.{List, [], ◌∷◌}
-use mathlib.Core.Option.{Option, none, some}
+use Rattle.std.specs.Prelude.{Option, None, Some}
 use mathlib.Core.Path.{◌≡◌, refl, sym, ◌∙◌, subst}
 use Prim.Native.Nat.{ℕ, zero, suc}
 use lib.ListN.{length}
@@ -62,9 +62,9 @@ reads-next r r' g g' h k w =
     let a : Answer Walk = r w in
     let c : Answer (List Binding) = r' w.lists.bindings in
     beside-next w a _ c _ p
-    (subst (λ (o : Option Slot). Beside a.walk (elim a.slot [ none ↦ record { slot = none; walk = a.walk } | some s ↦ g s a.walk ]) (elim o [ none ↦ record { slot = none; walk = c.walk } | some s ↦ g' s c.walk ])) (sym p.slot)
-    (subst (λ (B : List Binding). Beside a.walk (elim a.slot [ none ↦ record { slot = none; walk = a.walk } | some s ↦ g s a.walk ]) (elim a.slot [ none ↦ record { slot = none; walk = B } | some s ↦ g' s B ])) (sym (p.kept ∙ sym p.bindings))
-    (by-option₂ (Beside a.walk) a.slot (λ e. reads-give none a.walk) (λ s e. k s a.walk))))
+    (subst (λ (o : Option Slot). Beside a.walk (elim a.slot [ None ↦ record { slot = None; walk = a.walk } | Some s ↦ g s a.walk ]) (elim o [ None ↦ record { slot = None; walk = c.walk } | Some s ↦ g' s c.walk ])) (sym p.slot)
+    (subst (λ (B : List Binding). Beside a.walk (elim a.slot [ None ↦ record { slot = None; walk = a.walk } | Some s ↦ g s a.walk ]) (elim a.slot [ None ↦ record { slot = None; walk = B } | Some s ↦ g' s B ])) (sym (p.kept ∙ sym p.bindings))
+    (by-option₂ (Beside a.walk) a.slot (λ e. reads-give None a.walk) (λ s e. k s a.walk))))
 
 module _ (T : Tables) where
   reads-declined : (n : ℕ) (code : Code) → Reads (declined (walk_ops T) T n code) (declined quiet T n code)
@@ -74,8 +74,8 @@ module _ (T : Tables) where
 
   reads_fetched : (n p : ℕ) (register : Option ℕ) → Reads (fetched_row (walk_ops T) T n p register) (fetched_row quiet T n p register)
   unfolding fetched_row
-  reads_fetched n p none = reads-declined n Code.NyiFactField
-  reads_fetched n p (some r) = reads-give _
+  reads_fetched n p None = reads-declined n Code.NyiFactField
+  reads_fetched n p (Some r) = reads-give _
 
   reads-dereference : (n : ℕ) (s : Slot) → Reads (dereference (walk_ops T) T n s) (dereference quiet T n s)
   unfolding dereference
@@ -117,8 +117,8 @@ module _ (T : Tables) where
 
   reads-selected : (n : ℕ) (path : FieldPath) (alt : Option Alternative) → Reads (selected (walk_ops T) T n path alt) (selected quiet T n path alt)
   unfolding selected select
-  reads-selected n path none = reads-give none
-  reads-selected n path (some alt) = λ w.
+  reads-selected n path None = reads-give None
+  reads-selected n path (Some alt) = λ w.
       record { slot = refl; kept = refl; bindings = refl; events = refl; mistyped = refl; diagnostics = onwards-same w.lists.diagnostics }
 
   reads-select : (n : ℕ) (s : Slot) (x : ℕ) → Reads (select_slot (walk_ops T) T n s x) (select_slot quiet T n s x)
@@ -138,27 +138,27 @@ module _ (T : Tables) where
 
   reads-node : (below : ℕ → Resolver Walk) (below' : ℕ → Resolver (List Binding)) → ((m : ℕ) → Reads (below m) (below' m)) → (n : ℕ) (node : Node) → Reads (resolve_node (walk_ops T) T below n node) (resolve_node quiet T below' n node)
   unfolding resolve_node
-  reads-node below below' h n (Node.Int bytes) = reads-give none
-  reads-node below below' h n (Node.Str x) = reads-give none
-  reads-node below below' h n (Node.Bytes bytes) = reads-give none
+  reads-node below below' h n (Node.Int bytes) = reads-give None
+  reads-node below below' h n (Node.Str x) = reads-give None
+  reads-node below below' h n (Node.Bytes bytes) = reads-give None
   reads-node below below' h n (Node.Var x) = λ w. record { slot = refl; kept = refl; bindings = refl; events = refl; mistyped = refl; diagnostics = onwards-same w.lists.diagnostics }
-  reads-node below below' h n Node.Wildcard = reads-give none
-  reads-node below below' h n Node.Never = reads-give none
-  reads-node below below' h n (Node.Prefix x) = reads-give none
-  reads-node below below' h n (Node.Fuzzy x d k) = reads-give none
-  reads-node below below' h n (Node.Record fs) = reads-give none
+  reads-node below below' h n Node.Wildcard = reads-give None
+  reads-node below below' h n Node.Never = reads-give None
+  reads-node below below' h n (Node.Prefix x) = reads-give None
+  reads-node below below' h n (Node.Fuzzy x d k) = reads-give None
+  reads-node below below' h n (Node.Record fs) = reads-give None
   reads-node below below' h n (Node.Access x base) = reads-base below below' h n base (λ place. field_slot (walk_ops T) T n place x) (λ place. field_slot quiet T n place x) (λ s. reads-field n s x)
   reads-node below below' h n (Node.Value base) = reads-base below below' h n base (value_slot (walk_ops T) T) (value_slot quiet T) reads-value
   reads-node below below' h n (Node.Select x base) = reads-base below below' h n base (λ place. select_slot (walk_ops T) T n place x) (λ place. select_slot quiet T n place x) (λ s. reads-select n s x)
-  reads-node below below' h n Node.Disjunction = reads-give none
-  reads-node below below' h n Node.Subquery = reads-give none
+  reads-node below below' h n Node.Disjunction = reads-give None
+  reads-node below below' h n Node.Subquery = reads-give None
   reads-node below below' h n (Node.Fact p key') = λ w. record { slot = refl; kept = refl; bindings = refl; events = refl; mistyped = refl; diagnostics = onwards-same w.lists.diagnostics }
-  reads-node below below' h n Node.Arith = reads-give none
-  reads-node below below' h n Node.Error = reads-give none
+  reads-node below below' h n Node.Arith = reads-give None
+  reads-node below below' h n Node.Error = reads-give None
 
   reads-below : (limit n : ℕ) → Reads (resolve_below (walk_ops T) T limit n) (resolve_below quiet T limit n)
   unfolding resolve_below
-  reads-below zero n = reads-give none
+  reads-below zero n = reads-give None
   reads-below (suc limit) n =
       by-test₂ Reads (is_constant T n) (λ e. reads-give _) (λ e. reads-node (resolve_below (walk_ops T) T limit) (resolve_below quiet T limit) (reads-below limit) n (node_at T n))
 

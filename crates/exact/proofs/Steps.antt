@@ -2,7 +2,7 @@
 -- before it.
 use mathlib.Core.Bool.{true, false}
 use mathlib.Core.List.{List, [], ◌∷◌, ◌++◌}
-use mathlib.Core.Option.{none, some}
+use Rattle.std.specs.Prelude.{None, Some}
 use mathlib.Core.Path.{◌≡◌, refl, sym, ◌∙◌, subst}
 use Prim.Native.Nat.{ℕ}
 use Rattle.rules.specs.Base.{Each, done, more}
@@ -24,7 +24,7 @@ Alone b = b.building ≡ true → Open b.range b.guide b.edges
 
 -- a range excludes edges
 abbrev pub Excludes : SeekBuilder → Type 0
-Excludes b = (r : Range) → b.range ≡ some r → (b.edges.lo ≡ none) × (b.edges.hi ≡ none)
+Excludes b = (r : Range) → b.range ≡ Some r → (b.edges.lo ≡ None) × (b.edges.hi ≡ None)
 
 each-init : {A : Type 0} {P : A → Type 0} (xs : List A) (x : A) → Each P (xs ++ (x ∷ [])) → Each P xs
 each-init [] x h = done
@@ -125,9 +125,9 @@ module _ (engine : Engine) (ty : Ty) (key : Value) where
       (λ off. steps-residual b (record { path = path; op = Narrowing.Prefix prefix; node = n }))
 
   -- a guide is set once
-  attach-none : (b : SeekBuilder) (path : FieldPath) → attachable b path ≡ true → b.guide ≡ none
+  attach-none : (b : SeekBuilder) (path : FieldPath) → attachable b path ≡ true → b.guide ≡ None
   unfolding attachable
-  attach-none b path = by-option (λ r. r ≡ true → b.guide ≡ none) b.guide (λ e r. e) (λ g e r. absurd (true≢false (sym r)))
+  attach-none b path = by-option (λ r. r ≡ true → b.guide ≡ None) b.guide (λ e r. e) (λ g e r. absurd (true≢false (sym r)))
 
   steps-fuzzy : (n : ℕ) (path : FieldPath) (x distance : ℕ) (anchor : Anchor) (b : SeekBuilder) → Steps b (place_fuzzy n path x distance anchor b)
   unfolding place_fuzzy fall with_guide

@@ -1,6 +1,6 @@
 -- Values by their type, and Ints by their bytes.
 use mathlib.Core.List.{List, [], ◌∷◌, reverse, reverse-cons, reverse-reverse}
-use mathlib.Core.Option.{some}
+use Rattle.std.specs.Prelude.{Some}
 use mathlib.Core.Path.{◌≡◌, refl, sym, ap, ◌∙◌, subst}
 use Prim.Native.Nat.{ℕ, ◌+◌, ◌%◌}
 use native.Mathlib.Omega.{arith}
@@ -25,7 +25,7 @@ kind (Ty.Record fs) = 4
 kind (Ty.Union alts) = 5
 
 -- a constant fits its own type
-pub int-type : (ty : Ty) (c d : Const) → at_int ty c ≡ some d → ty ≡ Ty.Int
+pub int-type : (ty : Ty) (c d : Const) → at_int ty c ≡ Some d → ty ≡ Ty.Int
 unfolding at_int
 int-type Ty.Int c d e = refl
 int-type Ty.Str c d e = absurd (some≢none d (sym e))
@@ -34,7 +34,7 @@ int-type (Ty.Fact p) c d e = absurd (some≢none d (sym e))
 int-type (Ty.Record fs) c d e = absurd (some≢none d (sym e))
 int-type (Ty.Union alts) c d e = absurd (some≢none d (sym e))
 
-pub str-type : (ty : Ty) (c d : Const) → at_str ty c ≡ some d → ty ≡ Ty.Str
+pub str-type : (ty : Ty) (c d : Const) → at_str ty c ≡ Some d → ty ≡ Ty.Str
 unfolding at_str
 str-type Ty.Int c d e = absurd (some≢none d (sym e))
 str-type Ty.Str c d e = refl
@@ -43,7 +43,7 @@ str-type (Ty.Fact p) c d e = absurd (some≢none d (sym e))
 str-type (Ty.Record fs) c d e = absurd (some≢none d (sym e))
 str-type (Ty.Union alts) c d e = absurd (some≢none d (sym e))
 
-pub bytes-type : (ty : Ty) (c d : Const) → at_bytes ty c ≡ some d → ty ≡ Ty.Bytes
+pub bytes-type : (ty : Ty) (c d : Const) → at_bytes ty c ≡ Some d → ty ≡ Ty.Bytes
 unfolding at_bytes
 bytes-type Ty.Int c d e = absurd (some≢none d (sym e))
 bytes-type Ty.Str c d e = absurd (some≢none d (sym e))
@@ -115,7 +115,7 @@ module _ (T : Tables) where
   of-record (Value.Uni disc v) ty fs h e = absurd (omega (arith, ap kind (sym h.2 ∙ e)))
 
   pub of-union : (v : Value) (ty : Ty) (alts : List Alternative) → OfType T v ty → ty ≡ Ty.Union alts
-      → (disc : ℕ) × (w : Value) × (alt : Alternative) × (v ≡ Value.Uni disc w) × (first (λ a. eqb a.disc disc) alts ≡ some alt) × OfType T w (type_at T alt.type)
+      → (disc : ℕ) × (w : Value) × (alt : Alternative) × (v ≡ Value.Uni disc w) × (first (λ a. eqb a.disc disc) alts ≡ Some alt) × OfType T w (type_at T alt.type)
   unfolding kind alts_in
   of-union (Value.Int bytes) ty alts h e = absurd (omega (arith, ap kind (sym h.0 ∙ e)))
   of-union (Value.Str text) ty alts h e = absurd (omega (arith, ap kind (sym h.0 ∙ e)))

@@ -1,7 +1,7 @@
 -- What a level that a key passes after an event says of the event.
 use mathlib.Core.Bool.{Bool, true, false}
 use mathlib.Core.List.{List, [], ◌∷◌, ◌++◌, append_assoc}
-use mathlib.Core.Option.{Option, none, some}
+use Rattle.std.specs.Prelude.{Option, None, Some}
 use mathlib.Core.Path.{◌≡◌, refl, sym, ap, ◌∙◌, subst}
 use Prim.Native.Nat.{ℕ}
 use lib.ListN.{length, drop}
@@ -78,15 +78,15 @@ module _ (engine : Engine) (ty : Ty) (key : Value) where
   unfolding open_placings place_own with_residual fall
   own_back T n path at b p = each-end b.residuals (record { path = path; op = Narrowing.OwnField at; node = n }) p.residuals
 
-  pub held-says : (path : FieldPath) (op : Narrowing) (v : Value) → value_at ty key path ≡ some v → holds engine ty key path op ≡ true → says engine ty key op v ≡ true
+  pub held-says : (path : FieldPath) (op : Narrowing) (v : Value) → value_at ty key path ≡ Some v → holds engine ty key path op ≡ true → says engine ty key op v ≡ true
   unfolding holds
-  held-says path op v e h = ap (λ (o : Option Value). elim o as (λ _. Bool) [ some w ↦ says engine ty key op w | none ↦ false ]) (sym e) ∙ h
+  held-says path op v e h = ap (λ (o : Option Value). elim o as (λ _. Bool) [ Some w ↦ says engine ty key op w | None ↦ false ]) (sym e) ∙ h
 
-  within-edged : (lo hi : Option RangeEdge) (w : List ℕ) → Edged lo hi (some w) → (above lo w ≡ true) × (under hi w ≡ true)
+  within-edged : (lo hi : Option RangeEdge) (w : List ℕ) → Edged lo hi (Some w) → (above lo w ≡ true) × (under hi w ≡ true)
   unfolding within above under
-  within-edged none none w h = (refl, refl)
-  within-edged none (some hi) w h = (refl, h)
-  within-edged (some lo) hi w h = (both_left (above (some lo) w) (under hi w) h, both_right (above (some lo) w) (under hi w) h)
+  within-edged None None w h = (refl, refl)
+  within-edged None (Some hi) w h = (refl, h)
+  within-edged (Some lo) hi w h = (both_left (above (Some lo) w) (under hi w) h, both_right (above (Some lo) w) (under hi w) h)
 
   -- the edges of a bound
   pub bound-back : (T : Tables) (x t : ℕ) (b : SeekBuilder) (v : Value) (r : List ℕ) → Whole v → Apart r → b.building ≡ true → Ready engine ty key b (encode v ++ r) → Passing engine ty key (placement T Event.skip (placement T (Event.bound x t) b))

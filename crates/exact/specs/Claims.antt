@@ -1,6 +1,5 @@
 -- Request [10]: what is claimed of every accepted file.
-use Rattle.std.specs.Prelude.{true, List, ◌≡◌, ℕ}
-use Rattle.std.proofs.Math.Option.{some}
+use Rattle.std.specs.Prelude.{true, List, ◌≡◌, ℕ, Some}
 use Rattle.rules.specs.File.{Tables, Ty, Binding, LevelEntry}
 use Rattle.rules.specs.Levels.{levels}
 use Rattle.rules.specs.Plan.{PlanLevel, plan_level}
@@ -26,7 +25,7 @@ bound_before T k = (start_of T (levels T) k).bindings
 -- and a key: the matcher is asked with the comparisons that the level folded.
 module _ (T : Tables) (entry : LevelEntry) (bound : List Binding) (l : PlanLevel) (engine : Engine) (key : Value) where
   abbrev pub Matches : List Binding → Type 0
-  Matches after = matches T engine entry l.folded bound key ≡ some after
+  Matches after = matches T engine entry l.folded bound key ≡ Some after
 
   abbrev pub Passes : Type 0
   Passes = passes engine (key_type T entry) l key ≡ true

@@ -1,6 +1,5 @@
 -- Request [10]'s conditions on a file, on a key and on what the engine holds.
-use Rattle.std.specs.Prelude.{Bool, true, false, List, [], ◌∷◌, ◌≡◌, ℕ, get_or}
-use Rattle.std.proofs.Math.Option.{Option, none, some}
+use Rattle.std.specs.Prelude.{Bool, true, false, List, [], ◌∷◌, ◌≡◌, ℕ, get_or, Option, None, Some}
 use Rattle.rules.specs.Base.{Each, both, all}
 use Rattle.rules.specs.File.{Tables, FieldTy, Ty, Node, Binding, LevelEntry, node_at, record_ty}
 use Rattle.rules.specs.Checks.{checks, fault}
@@ -39,8 +38,8 @@ constraints_are_texts T = all (λ k. is_text (node_at T k.node)) T.constraints
 
 -- "whose levels' own nodes are records, wildcards or names (new ones where the key is a record)"
 unfoldable pub is_new : Option (List FieldTy) → List Binding → ℕ → Bool
-is_new none bound x = true
-is_new (some fs) bound x = elim (lookup bound x) [ none ↦ true | some slot ↦ false ]
+is_new None bound x = true
+is_new (Some fs) bound x = elim (lookup bound x) [ None ↦ true | Some slot ↦ false ]
 
 unfoldable pub is_own : Node → Ty → List Binding → Bool
 is_own (Node.Int bytes) ty bound = false
@@ -69,7 +68,7 @@ own_nodes T start (l ∷ ls) = both (is_own (node_at T l.node) (key_type T l) st
 -- "an accepted file without diagnostics": it passed the checks 8 to 14, and no level's walk brings a constant to a type that gives it no
 -- bytes, which is refusal 19. 02 asks for no selects too; nothing here needs that.
 pub record Plain (T : Tables) : Type 0 where
-  pub accepted : fault checks T ≡ none
+  pub accepted : fault checks T ≡ None
   pub typed : any_mistyped (levels T) ≡ false
   pub no-diagnostics : (plan T).diagnostics ≡ []
   pub texts : constraints_are_texts T ≡ true
@@ -86,7 +85,7 @@ pub record PlainPlan (bytes out : List ℕ) (d : Demand3 bytes out) : Type 0 whe
 unfoldable pub plan_level_at : Plan → ℕ → PlanLevel
 plan_level_at p k =
     get_or p.levels k
-    (record { narrowings = 0; closers = 0; parts = 0; seek = SeekKey.Prefix [] []; guide = none; residuals = []; folded = [] })
+    (record { narrowings = 0; closers = 0; parts = 0; seek = SeekKey.Prefix [] []; guide = None; residuals = []; folded = [] })
 
 -- "for registers that hold an encoded value at every path read": of the parts that are read from registers, the encoding of a value of some
 -- type. Registers that residuals read may hold anything.

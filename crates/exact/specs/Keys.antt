@@ -1,6 +1,5 @@
 -- A stored key, the value at a path of it, and what a narrowing says of it.
-use Rattle.std.specs.Prelude.{Bool, true, false, List, [], ◌∷◌, ℕ, zero, suc, eqb, ltb}
-use Rattle.std.proofs.Math.Option.{Option, none, some}
+use Rattle.std.specs.Prelude.{Bool, true, false, List, [], ◌∷◌, ℕ, zero, suc, eqb, ltb, Option, None, Some}
 use Rattle.rules.specs.Base.{both, either, ◌when_some◌ as ◌>>=◌}
 use Rattle.rules.specs.File.{Anchor, CompareOp, Ty, FieldPath, record_ty}
 use Rattle.rules.specs.Lookup.{same_steps}
@@ -21,23 +20,23 @@ stored ty (Value.Int bytes) = encode (Value.Int bytes)
 stored ty (Value.Str text) = encode (Value.Str text)
 stored ty (Value.Bytes bytes) = encode (Value.Bytes bytes)
 stored ty (Value.Fact id) = encode (Value.Fact id)
-stored ty (Value.Rec fields) = elim (record_ty ty) [ some fs ↦ encode_all fields | none ↦ encode (Value.Rec fields) ]
+stored ty (Value.Rec fields) = elim (record_ty ty) [ Some fs ↦ encode_all fields | None ↦ encode (Value.Rec fields) ]
 stored ty (Value.Uni disc v) = encode (Value.Uni disc v)
 
 -- field number i
 unfoldable pub nth : Values → ℕ → Option Value
-nth Values.no_more i = none
-nth (v and vs) zero = some v
+nth Values.no_more i = None
+nth (v and vs) zero = Some v
 nth (v and vs) (suc i) = nth vs i
 
 -- one step of a path: a record's field, or what a union holds if it has that disc
 unfoldable pub step : ℕ → Value → Option Value
-step i (Value.Int bytes) = none
-step i (Value.Str text) = none
-step i (Value.Bytes bytes) = none
-step i (Value.Fact id) = none
+step i (Value.Int bytes) = None
+step i (Value.Str text) = None
+step i (Value.Bytes bytes) = None
+step i (Value.Fact id) = None
 step i (Value.Rec fields) = nth fields i
-step i (Value.Uni disc v) = elim (eqb disc i) [ true ↦ some v | false ↦ none ]
+step i (Value.Uni disc v) = elim (eqb disc i) [ true ↦ Some v | false ↦ None ]
 
 unfoldable pub follow : List ℕ → Option Value → Option Value
 follow [] found = found
@@ -45,7 +44,7 @@ follow (i ∷ steps) found = follow steps (found >>= step i)
 
 -- where a path of a key starts: "at the field's index, or at 0 for a scalar or union key"
 unfoldable pub start : Ty → Value → ℕ → Option Value
-start ty key i = elim (record_ty ty) [ some fs ↦ step i key | none ↦ elim (eqb i 0) [ true ↦ some key | false ↦ none ] ]
+start ty key i = elim (record_ty ty) [ Some fs ↦ step i key | None ↦ elim (eqb i 0) [ true ↦ Some key | false ↦ None ] ]
 
 -- the value at a path of a key of that type, if the key has the path
 unfoldable pub value_at : Ty → Value → FieldPath → Option Value
@@ -70,16 +69,16 @@ has_disc disc (Value.Uni d v) = eqb d disc
 
 -- the text of a Str
 unfoldable pub text_of : Value → Option (List ℕ)
-text_of (Value.Int bytes) = none
-text_of (Value.Str text) = some text
-text_of (Value.Bytes bytes) = none
-text_of (Value.Fact id) = none
-text_of (Value.Rec fields) = none
-text_of (Value.Uni disc v) = none
+text_of (Value.Int bytes) = None
+text_of (Value.Str text) = Some text
+text_of (Value.Bytes bytes) = None
+text_of (Value.Fact id) = None
+text_of (Value.Rec fields) = None
+text_of (Value.Uni disc v) = None
 
 -- a Str whose text passes
 unfoldable pub text_passes : (List ℕ → Bool) → Value → Bool
-text_passes p v = elim (text_of v) [ some text ↦ p text | none ↦ false ]
+text_passes p v = elim (text_of v) [ Some text ↦ p text | None ↦ false ]
 
 -- the fuzzy rule
 unfoldable pub near : Engine → ℕ → ℕ → Anchor → Value → Bool
@@ -91,7 +90,7 @@ has_bytes bytes v = same_bytes (encode v) bytes
 
 -- the same bytes at another path of the key; "A residual at a path that the key lacks fails."
 unfoldable pub same_as : Ty → Value → FieldPath → Value → Bool
-same_as ty key path v = elim (value_at ty key path) [ some w ↦ has_bytes (encode w) v | none ↦ false ]
+same_as ty key path v = elim (value_at ty key path) [ Some w ↦ has_bytes (encode w) v | None ↦ false ]
 
 -- what a narrowing says of the value at its path, in a key of that type
 unfoldable pub says : Engine → Ty → Value → Narrowing → Value → Bool
@@ -104,7 +103,7 @@ says engine ty key (Narrowing.Fuzzy x distance anchor) v = near engine x distanc
 says engine ty key (Narrowing.OwnField at) v = same_as ty key at v
 
 unfoldable pub holds : Engine → Ty → Value → FieldPath → Narrowing → Bool
-holds engine ty key path op = elim (value_at ty key path) [ some v ↦ says engine ty key op v | none ↦ false ]
+holds engine ty key path op = elim (value_at ty key path) [ Some v ↦ says engine ty key op v | None ↦ false ]
 
 -- byte strings in order: the first comes before the second
 unfoldable pub less : List ℕ → List ℕ → Bool

@@ -1,7 +1,6 @@
 -- "a plain matcher that reads a key of the level's type field by field against the pattern". It speaks of pattern, type and value, and
 -- gives the bindings as they stand behind the pattern, or none where the pattern does not match.
-use Rattle.std.specs.Prelude.{Bool, true, false, List, [], ◌∷◌, ◌++◌, ℕ, zero, suc, length, eqb}
-use Rattle.std.proofs.Math.Option.{Option, none, some}
+use Rattle.std.specs.Prelude.{Bool, true, false, List, [], ◌∷◌, ◌++◌, ℕ, zero, suc, length, eqb, Option, None, Some}
 use Rattle.rules.specs.Base.{both, ◌when_some◌ as ◌>>=◌, all, all_from, filter, first}
 use Rattle.rules.specs.File.{Tables, FieldTy, Alternative, Ty, FieldPattern, Node, FieldPath, Slot, Binding, Comparison, LevelEntry}
 use Rattle.rules.specs.File.{name_at, type_at, predicate_at, node_at, record_ty, field_path, then, payload}
@@ -17,7 +16,7 @@ abbrev pub quiet : Ops (List Binding)
 quiet =
     record {
       lookup = λ bound x. lookup bound x;
-      constant = λ bound n t. none;
+      constant = λ bound n t. None;
       reported = λ bound. 0;
       bind = λ x slot bound. bound;
       constrained = λ x bound. bound;
@@ -35,7 +34,7 @@ slot_of T n bound = (resolve quiet T n bound).slot
 
 -- the bindings, if a test is passed
 unfoldable pub accept : Bool → List Binding → Option (List Binding)
-accept test bound = elim test [ true ↦ some bound | false ↦ none ]
+accept test bound = elim test [ true ↦ Some bound | false ↦ None ]
 
 -- a pattern's node, its type, the value at its path, the path, and the bindings before it
 abbrev pub Matching : Type 0
@@ -44,30 +43,30 @@ Matching = ℕ → ℕ → Value → FieldPath → List Binding → Option (List
 -- a record's fields in type order, each with the first pattern of its name; a field that the pattern does not name accepts
 unfoldable pub each_matches : Matching → (ℕ → FieldPath) → List FieldPattern → ℕ → List FieldTy → Values → List Binding
     → Option (List Binding)
-each_matches match place fields i [] Values.no_more bound = some bound
-each_matches match place fields i [] (v and vs) bound = none
-each_matches match place fields i (f ∷ fs) Values.no_more bound = none
+each_matches match place fields i [] Values.no_more bound = Some bound
+each_matches match place fields i [] (v and vs) bound = None
+each_matches match place fields i (f ∷ fs) Values.no_more bound = None
 each_matches match place fields i (f ∷ fs) (v and vs) bound = do
-  onward ← elim (field_pattern fields f.name) [ none ↦ some bound | some n ↦ match n f.type v (place i) bound ]
+  onward ← elim (field_pattern fields f.name) [ None ↦ Some bound | Some n ↦ match n f.type v (place i) bound ]
   each_matches match place fields (suc i) fs vs onward
 
 -- the fields of a record value
 unfoldable pub fields_of : Value → Option Values
-fields_of (Value.Int bytes) = none
-fields_of (Value.Str text) = none
-fields_of (Value.Bytes bytes) = none
-fields_of (Value.Fact id) = none
-fields_of (Value.Rec fields) = some fields
-fields_of (Value.Uni disc v) = none
+fields_of (Value.Int bytes) = None
+fields_of (Value.Str text) = None
+fields_of (Value.Bytes bytes) = None
+fields_of (Value.Fact id) = None
+fields_of (Value.Rec fields) = Some fields
+fields_of (Value.Uni disc v) = None
 
 -- what a union value of that disc holds
 unfoldable pub held : ℕ → Value → Option Value
-held disc (Value.Int bytes) = none
-held disc (Value.Str text) = none
-held disc (Value.Bytes bytes) = none
-held disc (Value.Fact id) = none
-held disc (Value.Rec fields) = none
-held disc (Value.Uni d v) = elim (eqb d disc) [ true ↦ some v | false ↦ none ]
+held disc (Value.Int bytes) = None
+held disc (Value.Str text) = None
+held disc (Value.Bytes bytes) = None
+held disc (Value.Fact id) = None
+held disc (Value.Rec fields) = None
+held disc (Value.Uni d v) = elim (eqb d disc) [ true ↦ Some v | false ↦ None ]
 
 unfoldable pub is_int : List ℕ → Value → Bool
 is_int bytes (Value.Int own) = same_bytes own bytes
@@ -111,12 +110,12 @@ constraints_hold T engine x v = all (λ k. text_matches T engine (node_at T k.no
 
 -- a comparison with the name on one side and a constant on the other: the order of their bytes
 unfoldable pub comparison_holds : Tables → ℕ → ℕ → Value → Comparison → Bool
-comparison_holds T x t v c = elim (sided T x t c) [ none ↦ true | some s ↦ ordered s.op (encode v) s.value ]
+comparison_holds T x t v c = elim (sided T x t c) [ None ↦ true | Some s ↦ ordered s.op (encode v) s.value ]
 
 -- "Folded comparisons hold; others are left to the engine."
 unfoldable pub folded_hold : Tables → List ℕ → ℕ → ℕ → Value → Bool
 folded_hold T folded x t v =
-    all_from 0 (λ i c. elim (first (eqb i) folded) [ none ↦ true | some j ↦ comparison_holds T x t v c ]) T.comparisons
+    all_from 0 (λ i c. elim (first (eqb i) folded) [ None ↦ true | Some j ↦ comparison_holds T x t v c ]) T.comparisons
 
 -- The tables, what the engine holds, the level's own address, its key type and the key, and the comparisons that the level folded.
 module _ (T : Tables) (engine : Engine) (address : ℕ) (ty : Ty) (key : Value) (folded : List ℕ) where
@@ -135,21 +134,21 @@ module _ (T : Tables) (engine : Engine) (address : ℕ) (ty : Ty) (key : Value) 
 
     -- a union pattern names one alternative
     unfoldable pub alternative_matches : FieldPattern → Option Alternative → Value → FieldPath → List Binding → Option (List Binding)
-    alternative_matches f none v path bound = some bound
-    alternative_matches f (some alt) v path bound = do
+    alternative_matches f None v path bound = Some bound
+    alternative_matches f (Some alt) v path bound = do
       w ← held alt.disc v
       match f.node alt.type w (payload path alt.disc) bound
 
     unfoldable pub union_matches : Option FieldPattern → List Alternative → Value → FieldPath → List Binding → Option (List Binding)
-    union_matches none alts v path bound = some bound
-    union_matches (some f) alts v path bound = alternative_matches f (alternative_of alts f.name) v path bound
+    union_matches None alts v path bound = Some bound
+    union_matches (Some f) alts v path bound = alternative_matches f (alternative_of alts f.name) v path bound
 
     -- a record pattern by the type; at any other type it is not read
     unfoldable pub record_at : List FieldPattern → Ty → Value → FieldPath → List Binding → Option (List Binding)
-    record_at fields Ty.Int v path bound = some bound
-    record_at fields Ty.Str v path bound = some bound
-    record_at fields Ty.Bytes v path bound = some bound
-    record_at fields (Ty.Fact p) v path bound = some bound
+    record_at fields Ty.Int v path bound = Some bound
+    record_at fields Ty.Str v path bound = Some bound
+    record_at fields Ty.Bytes v path bound = Some bound
+    record_at fields (Ty.Fact p) v path bound = Some bound
     record_at fields (Ty.Record fs) v path bound = record_matches fields fs v path bound
     record_at fields (Ty.Union alts) v path bound = union_matches (only_field fields) alts v path bound
 
@@ -158,33 +157,33 @@ module _ (T : Tables) (engine : Engine) (address : ℕ) (ty : Ty) (key : Value) 
     written_matches (Node.Int bytes) t v path bound = accept (is_int bytes v) bound
     written_matches (Node.Str x) t v path bound = accept (text_passes (same_bytes (name_at T x)) v) bound
     written_matches (Node.Bytes bytes) t v path bound = accept (is_bytes bytes v) bound
-    written_matches (Node.Var x) t v path bound = none
-    written_matches Node.Wildcard t v path bound = none
-    written_matches Node.Never t v path bound = none
-    written_matches (Node.Prefix x) t v path bound = none
-    written_matches (Node.Fuzzy x d a) t v path bound = none
+    written_matches (Node.Var x) t v path bound = None
+    written_matches Node.Wildcard t v path bound = None
+    written_matches Node.Never t v path bound = None
+    written_matches (Node.Prefix x) t v path bound = None
+    written_matches (Node.Fuzzy x d a) t v path bound = None
     written_matches (Node.Record fs) t v path bound = record_at fs (type_at T t) v path bound
-    written_matches (Node.Access x n) t v path bound = none
-    written_matches (Node.Value n) t v path bound = none
-    written_matches (Node.Select x n) t v path bound = none
-    written_matches Node.Disjunction t v path bound = none
-    written_matches Node.Subquery t v path bound = none
-    written_matches (Node.Fact p n) t v path bound = none
-    written_matches Node.Arith t v path bound = none
-    written_matches Node.Error t v path bound = none
+    written_matches (Node.Access x n) t v path bound = None
+    written_matches (Node.Value n) t v path bound = None
+    written_matches (Node.Select x n) t v path bound = None
+    written_matches Node.Disjunction t v path bound = None
+    written_matches Node.Subquery t v path bound = None
+    written_matches (Node.Fact p n) t v path bound = None
+    written_matches Node.Arith t v path bound = None
+    written_matches Node.Error t v path bound = None
 
     -- a pattern that stands for a slot: the value that the slot holds
     unfoldable pub slot_matches : Slot → ℕ → Value → FieldPath → List Binding → Option (List Binding)
     slot_matches (Slot.Row from p) t v path bound = accept (has_bytes (encode_fact (engine.row from)) v) bound
-    slot_matches (Slot.Key from u) t v path bound = some bound
-    slot_matches (Slot.Derived from) t v path bound = some bound
+    slot_matches (Slot.Key from u) t v path bound = Some bound
+    slot_matches (Slot.Derived from) t v path bound = Some bound
     slot_matches (Slot.Field from at u) t v path bound =
         accept (elim (eqb from address) [ true ↦ same_as ty key at v | false ↦ has_bytes (engine.fields from at) v ]) bound
-    slot_matches (Slot.Value from u) t v path bound = some bound
+    slot_matches (Slot.Value from u) t v path bound = Some bound
     slot_matches (Slot.Const n) t v path bound = written_matches (node_at T n) t v path bound
 
     unfoldable pub read_matches : Matching
-    read_matches n t v path bound = elim (slot_of T n bound) [ none ↦ some bound | some slot ↦ slot_matches slot t v path bound ]
+    read_matches n t v path bound = elim (slot_of T n bound) [ None ↦ Some bound | Some slot ↦ slot_matches slot t v path bound ]
 
     -- the pattern by its kind; Wildcard, Subquery and Error accept everything, and so do the kinds that leave a diagnostic
     unfoldable pub node_matches : Node → Matching
@@ -192,24 +191,24 @@ module _ (T : Tables) (engine : Engine) (address : ℕ) (ty : Ty) (key : Value) 
     node_matches (Node.Str x) n t v path bound = written_matches (Node.Str x) t v path bound
     node_matches (Node.Bytes bytes) n t v path bound = written_matches (Node.Bytes bytes) t v path bound
     node_matches (Node.Var x) n t v path bound =
-        elim (lookup bound x) [ none ↦ new_name x t v path bound | some slot ↦ read_matches n t v path bound ]
-    node_matches Node.Wildcard n t v path bound = some bound
-    node_matches Node.Never n t v path bound = some bound
+        elim (lookup bound x) [ None ↦ new_name x t v path bound | Some slot ↦ read_matches n t v path bound ]
+    node_matches Node.Wildcard n t v path bound = Some bound
+    node_matches Node.Never n t v path bound = Some bound
     node_matches (Node.Prefix x) n t v path bound = accept (text_matches T engine (Node.Prefix x) v) bound
     node_matches (Node.Fuzzy x d a) n t v path bound = accept (text_matches T engine (Node.Fuzzy x d a) v) bound
     node_matches (Node.Record fs) n t v path bound = written_matches (Node.Record fs) t v path bound
     node_matches (Node.Access x base) n t v path bound = read_matches n t v path bound
     node_matches (Node.Value base) n t v path bound = read_matches n t v path bound
     node_matches (Node.Select x base) n t v path bound = read_matches n t v path bound
-    node_matches Node.Disjunction n t v path bound = some bound
-    node_matches Node.Subquery n t v path bound = some bound
+    node_matches Node.Disjunction n t v path bound = Some bound
+    node_matches Node.Subquery n t v path bound = Some bound
     node_matches (Node.Fact p base) n t v path bound = read_matches n t v path bound
-    node_matches Node.Arith n t v path bound = some bound
-    node_matches Node.Error n t v path bound = some bound
+    node_matches Node.Arith n t v path bound = Some bound
+    node_matches Node.Error n t v path bound = Some bound
 
   -- the matcher at the types below a number: a field's type is lower than its record's (refusal 9)
   unfoldable pub matches_below : ℕ → Matching
-  matches_below zero n t v path bound = none
+  matches_below zero n t v path bound = None
   matches_below (suc limit) n t v path bound = node_matches (matches_below limit) (node_at T n) n t v path bound
 
   unfoldable pub field_matches : Matching
@@ -217,31 +216,34 @@ module _ (T : Tables) (engine : Engine) (address : ℕ) (ty : Ty) (key : Value) 
 
   -- a whole record key: a record pattern is read field by field, a new name is bound to it, every other pattern accepts
   unfoldable pub whole_matches : Node → ℕ → List FieldTy → List Binding → Option (List Binding)
-  whole_matches (Node.Int bytes) t fs bound = some bound
-  whole_matches (Node.Str x) t fs bound = some bound
-  whole_matches (Node.Bytes bytes) t fs bound = some bound
+  whole_matches (Node.Int bytes) t fs bound = Some bound
+  whole_matches (Node.Str x) t fs bound = Some bound
+  whole_matches (Node.Bytes bytes) t fs bound = Some bound
   whole_matches (Node.Var x) t fs bound =
-      elim (lookup bound x) [ none ↦ some (bound ++ (record { name = x; slot = Slot.Key address t } ∷ [])) | some slot ↦ some bound ]
-  whole_matches Node.Wildcard t fs bound = some bound
-  whole_matches Node.Never t fs bound = some bound
-  whole_matches (Node.Prefix x) t fs bound = some bound
-  whole_matches (Node.Fuzzy x d a) t fs bound = some bound
+      elim (lookup bound x) [ None ↦ Some (bound ++ (record { name = x; slot = Slot.Key address t } ∷ [])) | Some slot ↦ Some bound ]
+  whole_matches Node.Wildcard t fs bound = Some bound
+  whole_matches Node.Never t fs bound = Some bound
+  whole_matches (Node.Prefix x) t fs bound = Some bound
+  whole_matches (Node.Fuzzy x d a) t fs bound = Some bound
   whole_matches (Node.Record fields) t fs bound = do
     vs ← fields_of key
     each_matches field_matches field_path fields 0 fs vs bound
-  whole_matches (Node.Access x n) t fs bound = some bound
-  whole_matches (Node.Value n) t fs bound = some bound
-  whole_matches (Node.Select x n) t fs bound = some bound
-  whole_matches Node.Disjunction t fs bound = some bound
-  whole_matches Node.Subquery t fs bound = some bound
-  whole_matches (Node.Fact p n) t fs bound = some bound
-  whole_matches Node.Arith t fs bound = some bound
-  whole_matches Node.Error t fs bound = some bound
+  whole_matches (Node.Access x n) t fs bound = Some bound
+  whole_matches (Node.Value n) t fs bound = Some bound
+  whole_matches (Node.Select x n) t fs bound = Some bound
+  whole_matches Node.Disjunction t fs bound = Some bound
+  whole_matches Node.Subquery t fs bound = Some bound
+  whole_matches (Node.Fact p n) t fs bound = Some bound
+  whole_matches Node.Arith t fs bound = Some bound
+  whole_matches Node.Error t fs bound = Some bound
 
   -- "Paths start at the field's index, or at 0 for a scalar or union key."
   unfoldable pub key_matches : ℕ → ℕ → List Binding → Option (List Binding)
   key_matches n t bound =
-      elim (record_ty (type_at T t)) [ some fs ↦ whole_matches (node_at T n) t fs bound | none ↦ field_matches n t key (field_path 0) bound ]
+      elim (record_ty (type_at T t)) [
+        | Some fs ↦ whole_matches (node_at T n) t fs bound
+        | None ↦ field_matches n t key (field_path 0) bound
+      ]
 
 -- the type of a level's keys
 unfoldable pub key_type : Tables → LevelEntry → Ty

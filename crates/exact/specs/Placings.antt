@@ -1,8 +1,7 @@
 -- How a level's events are placed. The claims speak of `placement`, which is the rules' own (proofs/Contract.antt, `planned-is`). Beside it
 -- stand placements with a mistake, each of which makes a level keep too much or too little: the edits in must-fail/ put them in its place,
 -- and specs/Mistakes.antt has keys that show them.
-use Rattle.std.specs.Prelude.{true, false, List, [], ◌∷◌, ◌++◌, ℕ, suc}
-use Rattle.std.proofs.Math.Option.{none, some}
+use Rattle.std.specs.Prelude.{true, false, List, [], ◌∷◌, ◌++◌, ℕ, suc, None, Some}
 use Rattle.rules.specs.File.{Tables, FieldPath, CompareOp, Comparison}
 use Rattle.rules.specs.Constant.{union_tag}
 use Rattle.rules.specs.Events.{Narrowing, Event}
@@ -55,14 +54,14 @@ skip_keeps_building T (Event.bound x t) level = place T (Event.bound x t) level
 
 -- the last comparison taken for an edge, though the first is the one folded
 unfoldable pub take_last : ℕ → CompareOp → List ℕ → Edges → Edges
-take_last i CompareOp.Lt value e = record { lo = e.lo; hi = some (edge value false); folded = e.folded ++ (i ∷ []) }
-take_last i CompareOp.Le value e = record { lo = e.lo; hi = some (edge value true); folded = e.folded ++ (i ∷ []) }
-take_last i CompareOp.Gt value e = record { lo = some (edge value false); hi = e.hi; folded = e.folded ++ (i ∷ []) }
-take_last i CompareOp.Ge value e = record { lo = some (edge value true); hi = e.hi; folded = e.folded ++ (i ∷ []) }
+take_last i CompareOp.Lt value e = record { lo = e.lo; hi = Some (edge value false); folded = e.folded ++ (i ∷ []) }
+take_last i CompareOp.Le value e = record { lo = e.lo; hi = Some (edge value true); folded = e.folded ++ (i ∷ []) }
+take_last i CompareOp.Gt value e = record { lo = Some (edge value false); hi = e.hi; folded = e.folded ++ (i ∷ []) }
+take_last i CompareOp.Ge value e = record { lo = Some (edge value true); hi = e.hi; folded = e.folded ++ (i ∷ []) }
 
 unfoldable pub fold_last : Tables → ℕ → ℕ → ℕ → List Comparison → Edges → Edges
 fold_last T x t i [] e = e
-fold_last T x t i (c ∷ cs) e = fold_last T x t (suc i) cs (elim (sided T x t c) [ none ↦ e | some s ↦ take_last i s.op s.value e ])
+fold_last T x t i (c ∷ cs) e = fold_last T x t (suc i) cs (elim (sided T x t c) [ None ↦ e | Some s ↦ take_last i s.op s.value e ])
 
 unfoldable pub last_comparison : Placing
 last_comparison T (Event.narrow n path x) level = place T (Event.narrow n path x) level

@@ -1,7 +1,6 @@
 -- Worked keys: for each kind of part, range, edge, guide and residual a key that passes and one that just misses; and the key with a zero
 -- byte that passes and does not match.
-use Rattle.std.specs.Prelude.{Bool, true, false, List, [], ◌∷◌, ℕ}
-use Rattle.std.proofs.Math.Option.{Option, none, some}
+use Rattle.std.specs.Prelude.{Bool, true, false, List, [], ◌∷◌, ℕ, Option, None, Some}
 use Rattle.rules.specs.Base.{both, open_base}
 use Rattle.rules.specs.File.{Tables, Ty, Node, Anchor, Slot, Binding, Constraint, Comparison, CompareOp, FieldPattern, open_file}
 use Rattle.rules.specs.Checks.{checks, fault, open_checks}
@@ -49,7 +48,7 @@ types =
 -- names 0 to 3 are a, b, ab and the empty text; names 4 and 5 are bound to field 0 of register 1 and to the row in register 1
 abbrev pub bound : List Binding
 bound =
-    record { name = 4; slot = Slot.Field 1 (record { field = 0; steps = [] }) 1 } ∷ record { name = 5; slot = Slot.Row 1 (some 0) } ∷ []
+    record { name = 4; slot = Slot.Field 1 (record { field = 0; steps = [] }) 1 } ∷ record { name = 5; slot = Slot.Row 1 (Some 0) } ∷ []
 
 -- a file of one level at address 2: its key type, its nodes, of which the last is its own, its constraints and comparisons
 abbrev pub one : ℕ → List Node → ℕ → List Constraint → List Comparison → Tables
@@ -57,7 +56,7 @@ one key nodes own constraints comparisons =
     record {
       names = a ∷ b ∷ ab ∷ [] ∷ (99 ∷ []) ∷ (100 ∷ []) ∷ (101 ∷ []) ∷ [];
       types = types;
-      predicates = record { key = key; value = none } ∷ [];
+      predicates = record { key = key; value = None } ∷ [];
       nodes = nodes;
       bindings = bound;
       hoisted = [];
@@ -89,8 +88,8 @@ pub record Row : Type 0 where
   pub matched : Bool
 
 unfoldable pub is_some : {A : Type 0} → Option A → Bool
-is_some none = false
-is_some (some x) = true
+is_some None = false
+is_some (Some x) = true
 
 unfoldable pub keeps : Row → Bool
 keeps r = passes engine (key_type_of r.file 0) (planned r.file 0) r.key

@@ -1,6 +1,5 @@
 -- The values of keys, and their bytes.
-use Rattle.std.specs.Prelude.{Bool, true, false, List, [], ◌∷◌, ◌++◌, ◌≡◌, ℕ, ◌/◌, ◌%◌, ◌<◌, length, eqb}
-use Rattle.std.proofs.Math.Option.{some}
+use Rattle.std.specs.Prelude.{Bool, true, false, List, [], ◌∷◌, ◌++◌, ◌≡◌, ℕ, ◌/◌, ◌%◌, ◌<◌, length, eqb, Some}
 use Rattle.rules.specs.Base.{Each, both, all, first}
 use Rattle.rules.specs.File.{Tables, FieldTy, Alternative, Ty, type_at}
 use Rattle.rules.specs.Constant.{encode_int, encode_str, encode_bytes, encode_record, encode_union}
@@ -73,7 +72,7 @@ abbrev mutual
   OfType T (Value.Fact id) ty = (p : ℕ) × (ty ≡ Ty.Fact p) × (id < 18446744073709551616)
   OfType T (Value.Rec fields) ty = (fs : List FieldTy) × (ty ≡ Ty.Record fs) × OfTypes T fields fs
   OfType T (Value.Uni disc v) ty =
-      (alts : List Alternative) × (alt : Alternative) × (ty ≡ Ty.Union alts) × (first (λ a. eqb a.disc disc) alts ≡ some alt) ×
+      (alts : List Alternative) × (alt : Alternative) × (ty ≡ Ty.Union alts) × (first (λ a. eqb a.disc disc) alts ≡ Some alt) ×
       OfType T v (type_at T alt.type)
 
   pub OfTypes : Tables → Values → List FieldTy → Type 0

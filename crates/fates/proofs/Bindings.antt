@@ -2,7 +2,7 @@
 use Prim.Native.Nat.{ℕ, suc, ◌+◌, ◌≤◌, ◌<◌}
 use mathlib.Core.Bool.{Bool, true, false}
 use mathlib.Core.List.{List, [], ◌∷◌}
-use mathlib.Core.Option.{Option, none, some}
+use Rattle.std.specs.Prelude.{Option, None, Some}
 use mathlib.Core.Path.{◌≡◌, refl, sym, ap, ◌∙◌, subst}
 use types.Run.{OneOf}
 use denote.Enum.Declared.{tag_of}
@@ -18,9 +18,6 @@ use Rattle.views.specs.declared.BindingView.{BindingView}
 use Rattle.views.specs.declared.SlotView.TheVariants as Sv
 use Rattle.views.specs.contracts.SlotView as SlotViews
 use Rattle.tables.specs.Tables.{SeenRun, SeenSlot}
-use Rattle.tables.specs.declared.Run.{Run}
-use Rattle.tables.specs.declared.Run.TheVariants as Ru
-use Rattle.tables.specs.declared.MaybeSlotView.TheVariants as Ms
 use Rattle.tables.proofs.Searches.{last-slot, const-is, const-not}
 use Rattle.accepted_file.specs.Fates.{long_length}
 use Rattle.fates.specs.Rows.{const_record, Kept, kept, with_part, with_binding, with_bindings, any_record}
@@ -28,29 +25,29 @@ use Rattle.fates.proofs.Parts.{index_size, part_length}
 
 -- a Const's Record, as the code sees it
 module _ (f : List ℕ) (T : Tables) (b : Binding) (v : BindingView) (s : SeenBinding f b v) where
-  seen : SeenSlot f (some b.slot) (Ms.Just v.slot)
-  seen = last-slot f (some b.slot) b v s refl
+  seen : SeenSlot f (Some b.slot) (Some v.slot)
+  seen = last-slot f (Some b.slot) b v s refl
 
-  const-of : (n : ℕ) → v.slot ≡ Sv.Const n → some n ≡ const_node b.slot
+  const-of : (n : ℕ) → v.slot ≡ Sv.Const n → Some n ≡ const_node b.slot
   unfolding ◌when_some◌
-  const-of n e = const-is f (some b.slot) (Ms.Just v.slot) seen v.slot refl n e
+  const-of n e = const-is f (Some b.slot) (Some v.slot) seen v.slot refl n e
 
   abbrev by-record : ℕ → Option (List FieldPattern) → Option ℕ
-  by-record n o = elim o [ none ↦ none | some fields ↦ some n ]
+  by-record n o = elim o [ None ↦ None | Some fields ↦ Some n ]
 
   abbrev by-const : Option ℕ → Option ℕ
-  by-const o = elim o [ none ↦ none | some n ↦ by-record n (record_fields (node_at T n)) ]
+  by-const o = elim o [ None ↦ None | Some n ↦ by-record n (record_fields (node_at T n)) ]
 
-  pub no_const : OneOf (0 ∷ 1 ∷ 2 ∷ 3 ∷ 4 ∷ []) (tag_of SlotViews.the_type v.slot) → none ≡ const_record T b
+  pub no_const : OneOf (0 ∷ 1 ∷ 2 ∷ 3 ∷ 4 ∷ []) (tag_of SlotViews.the_type v.slot) → None ≡ const_record T b
   unfolding const_record ◌when_some◌
-  no_const w = ap by-const (const-not f (some b.slot) (Ms.Just v.slot) seen v.slot refl w)
+  no_const w = ap by-const (const-not f (Some b.slot) (Some v.slot) seen v.slot refl w)
 
-  module _ (n : ℕ) (e : v.slot ≡ Sv.Const n) (r : Run) (p : SeenRun f (pattern_at f) 4 (record_fields (node_at T n)) r) where
-    pub a-record : (k at : ℕ) → r ≡ Ru.Just k at → some n ≡ const_record T b
+  module _ (n : ℕ) (e : v.slot ≡ Sv.Const n) (r : Option (ℕ × ℕ)) (p : SeenRun f (pattern_at f) 4 (record_fields (node_at T n)) r) where
+    pub a-record : (k at : ℕ) → r ≡ Some (k, at) → Some n ≡ const_record T b
     unfolding const_record
     a-record k at q = ap (by-record n) (subst (SeenRun f (pattern_at f) 4 (record_fields (node_at T n))) q p).is ∙ ap by-const (const-of n e)
 
-    pub no_record_lem : r ≡ Ru.Nothing → none ≡ const_record T b
+    pub no_record_lem : r ≡ None → None ≡ const_record T b
     unfolding const_record
     no_record_lem q = ap (by-record n) (subst (SeenRun f (pattern_at f) 4 (record_fields (node_at T n))) q p).is ∙ ap by-const (const-of n e)
 
@@ -69,7 +66,7 @@ module _ (T : Tables) where
 
   module _ (k : ℕ) (s : Searched T k) where
     abbrev turn : Option ℕ → Bool
-    turn o = elim o [ none ↦ any_record T (drop (k + 1) T.bindings) | some n ↦ true ]
+    turn o = elim o [ None ↦ any_record T (drop (k + 1) T.bindings) | Some n ↦ true ]
 
     next : k < length T.bindings → any_record T T.bindings ≡ turn (const_record T (binding_at T k))
     unfolding any_record binding_at
@@ -78,12 +75,12 @@ module _ (T : Tables) where
         ∙ ap (λ (i : ℕ). ◌when_none◌ (const_record T (binding_at T k)) (any_record T (drop i T.bindings))) (sym (add-one k))
       where
         ◌when_none◌ : Option ℕ → Bool → Bool
-        ◌when_none◌ o r = elim o [ none ↦ r | some n ↦ true ]
+        ◌when_none◌ o r = elim o [ None ↦ r | Some n ↦ true ]
 
-    pub searched-more : k < length T.bindings → none ≡ const_record T (binding_at T k) → Searched T (k + 1)
+    pub searched-more : k < length T.bindings → None ≡ const_record T (binding_at T k) → Searched T (k + 1)
     searched-more h e = record { low = omega arith; is = next h ∙ ap turn (sym e) }
 
-    pub searched-found : k < length T.bindings → (n : ℕ) → some n ≡ const_record T (binding_at T k) → true ≡ any_record T T.bindings
+    pub searched-found : k < length T.bindings → (n : ℕ) → Some n ≡ const_record T (binding_at T k) → true ≡ any_record T T.bindings
     searched-found h n e = sym (next h ∙ ap turn (sym e))
 
     pub searched-all : length T.bindings ≤ k → false ≡ any_record T T.bindings
@@ -92,21 +89,21 @@ module _ (T : Tables) where
 
 -- one binding
 module _ (T : Tables) (b : Binding) (s : Kept) where
-  pub binding-none : none ≡ const_record T b → s ≡ with_binding T b s
+  pub binding-none : None ≡ const_record T b → s ≡ with_binding T b s
   unfolding with_binding
-  binding-none e = ap (λ (o : Option ℕ). elim o [ none ↦ s | some n ↦ with_part T n s ]) e
+  binding-none e = ap (λ (o : Option ℕ). elim o [ None ↦ s | Some n ↦ with_part T n s ]) e
 
-  pub binding-part : (n : ℕ) → some n ≡ const_record T b → with_part T n s ≡ with_binding T b s
+  pub binding-part : (n : ℕ) → Some n ≡ const_record T b → with_part T n s ≡ with_binding T b s
   unfolding with_binding
-  binding-part n e = ap (λ (o : Option ℕ). elim o [ none ↦ s | some m ↦ with_part T m s ]) e
+  binding-part n e = ap (λ (o : Option ℕ). elim o [ None ↦ s | Some m ↦ with_part T m s ]) e
 
 binding-length : (T : Tables) (b : Binding) (s : Kept) → length (with_binding T b s).index ≡ length s.index
 unfolding with_binding
 binding-length T b s = go (const_record T b)
   where
-    go : (o : Option ℕ) → index_size (elim o [ none ↦ s | some n ↦ with_part T n s ]) ≡ length s.index
-    go none = refl
-    go (some n) = part_length T n s
+    go : (o : Option ℕ) → index_size (elim o [ None ↦ s | Some n ↦ with_part T n s ]) ≡ length s.index
+    go None = refl
+    go (Some n) = part_length T n s
 
 bindings-length : (T : Tables) (bs : List Binding) (s : Kept) → length (with_bindings T bs s).index ≡ length s.index
 unfolding with_bindings

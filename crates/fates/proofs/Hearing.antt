@@ -2,7 +2,7 @@
 use Prim.Native.Nat.{ℕ, zero, suc, ◌≤◌, ◌<◌}
 use mathlib.Core.Bool.{Bool, true, false}
 use mathlib.Core.List.{List, [], ◌∷◌}
-use mathlib.Core.Option.{Option, none, some, get_or}
+use Rattle.std.specs.Prelude.{Option, None, Some, unwrap_or}
 use mathlib.Core.Path.{◌≡◌, refl, sym, ap, ◌∙◌}
 use native.Mathlib.Omega.{arith}
 use lib.ListN.{length}
@@ -20,10 +20,10 @@ use Rattle.fates.specs.Rows.{Heard, fate_or}
 -- nothing to open
 none-opened : (below : ℕ → ℕ → Bool) (ps : Option (List FieldPattern)) (fs : Option (List FieldTy)) → length (open_fields ps fs) ≡ 0 → true ≡ heard_by below ps fs
 unfolding heard_by open_fields
-none-opened below none fs h = refl
-none-opened below (some ps) none h = refl
-none-opened below (some ps) (some []) h = refl
-none-opened below (some ps) (some (f ∷ fs)) h = absurd (omega arith)
+none-opened below None fs h = refl
+none-opened below (Some ps) None h = refl
+none-opened below (Some ps) (Some []) h = refl
+none-opened below (Some ps) (Some (f ∷ fs)) h = absurd (omega arith)
 
 pub heard-none : (T : Tables) (n t : ℕ) → length (fields_for T n t) ≡ 0 → Heard T n t true
 unfolding heard_below fields_for
@@ -34,12 +34,12 @@ heard-none T n t h = record { is = go }
     go (suc m) l = none-opened (heard_below T m) (record_fields (node_at T n)) (record_ty (type_at T t)) h
 
 -- the pieces of what is opened
-pieces-opened : (below : ℕ → ℕ → Bool) (ps : Option (List FieldPattern)) (fs : Option (List FieldTy)) → (length (open_fields ps fs) ≡ 0 → ⊥) → any_field below (get_or ps []) (open_fields ps fs) ≡ heard_by below ps fs
+pieces-opened : (below : ℕ → ℕ → Bool) (ps : Option (List FieldPattern)) (fs : Option (List FieldTy)) → (length (open_fields ps fs) ≡ 0 → ⊥) → any_field below (unwrap_or ps []) (open_fields ps fs) ≡ heard_by below ps fs
 unfolding heard_by open_fields
-pieces-opened below none fs h = absurd (h refl)
-pieces-opened below (some ps) none h = absurd (h refl)
-pieces-opened below (some ps) (some []) h = absurd (h refl)
-pieces-opened below (some ps) (some (f ∷ fs)) h = refl
+pieces-opened below None fs h = absurd (h refl)
+pieces-opened below (Some ps) None h = absurd (h refl)
+pieces-opened below (Some ps) (Some []) h = absurd (h refl)
+pieces-opened below (Some ps) (Some (f ∷ fs)) h = refl
 
 pub heard-pieces : (T : Tables) (n t : ℕ) (r : Bool) → (length (fields_for T n t) ≡ 0 → ⊥) → ((limit : ℕ) → t ≤ limit → r ≡ any_field (heard_below T limit) (patterns_of T n) (fields_for T n t)) → Heard T n t r
 unfolding heard_below fields_for patterns_of

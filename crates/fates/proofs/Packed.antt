@@ -4,8 +4,8 @@ use mathlib.Core.List.{List}
 use mathlib.Core.Path.{◌≡◌, refl, sym, ap, ◌∙◌}
 use native.Mathlib.Omega.{arith}
 use native.Mathlib.Numerals.{add-one}
-use lib.ListN.{length, get_or, set, drop, drop_of_length-le}
-use lib.Seq.{sets, drop-cons}
+use lib.ListN.{length, get_or, set}
+use lib.Seq.{sets}
 use Rattle.accepted_file.specs.Fates.{digit}
 use Rattle.fates.specs.Rows.{packed, words}
 
@@ -120,15 +120,3 @@ module _ (word : ℕ → ℕ) (ix : List ℕ) (at : ℕ) where
   pub row-all : (jx : List ℕ) (q : ℕ) → 64 ≤ q → sets ix at (words word 0 64) ≡ sets jx (at + q) (words word q (64 - q)) → jx ≡ sets ix at (words word 0 64)
   unfolding words sets
   row-all jx q h s = let a : 64 - q ≡ 0 = omega arith in sym (s ∙ ap (λ (n : ℕ). sets jx (at + q) (words word q n)) a)
-
--- the loop that copies a list to the front of another
-module _ (ix zx : List ℕ) where
-  pub front-more : (jx : List ℕ) (i : ℕ) → i < length ix → sets zx 0 ix ≡ sets jx i (drop i ix) → sets zx 0 ix ≡ sets (set jx i (get_or ix i 0)) (i + 1) (drop (i + 1) ix)
-  unfolding sets
-  front-more jx i h s =
-      s ∙ ap (sets jx i) (drop-cons ix i 0 h)
-      ∙ ap (λ (k : ℕ). sets (set jx i (get_or ix i 0)) k (drop k ix)) (sym (add-one i))
-
-  pub front-all : (jx : List ℕ) (i : ℕ) → length ix ≤ i → sets zx 0 ix ≡ sets jx i (drop i ix) → jx ≡ sets zx 0 ix
-  unfolding sets
-  front-all jx i h s = sym (s ∙ ap (sets jx i) (drop_of_length-le ix h))

@@ -2,8 +2,7 @@
 use Prim.Native.Nat.{ℕ, suc, ◌+◌, ◌-◌, ◌*◌, ◌≤◌, ◌<◌}
 use mathlib.Core.Bool.{Bool, true, false}
 use mathlib.Core.List.{List, [], ◌∷◌}
-use mathlib.Core.Option
-use mathlib.Core.Option.{Option, none, some}
+use Rattle.std.specs.Prelude.{Option, None, Some, unwrap_or}
 use mathlib.Core.Path.{◌≡◌, refl, sym, ap, ap₂, ◌∙◌, subst}
 use native.Mathlib.Omega.{arith}
 use native.Mathlib.Numerals.{add-one}
@@ -18,8 +17,6 @@ use Rattle.views.specs.Views.{pattern_at, pattern_of, run}
 use Rattle.views.specs.declared.FieldPattern.{FieldPattern as FieldPatternView}
 use Rattle.views.proofs.Runs.{run_at, length_run}
 use Rattle.tables.specs.Tables.{SeenRun}
-use Rattle.tables.specs.declared.Run.{Run}
-use Rattle.tables.specs.declared.Run.TheVariants as Ru
 use Rattle.accepted_file.specs.Fates.{rows_base, fates_base, row_words, long_length}
 use Rattle.field_cases.specs.Pieces.{patterns_of}
 use Rattle.fates.specs.Rows.{row_limit, row_of, with_row, with_bindings, Kept, kept, is_parent, rowless, with_part, with_parts, with_held, with_nodes, remembering}
@@ -31,23 +28,23 @@ none_left (x ∷ l) h = absurd (omega arith)
 -- what is a parent
 module _ (T : Tables) (n : ℕ) where
   abbrev by-fields : Bool → Option (List FieldPattern) → Bool
-  by-fields c o = elim o [ none ↦ false | some fields ↦ both c (ltb 0 (length fields)) ]
+  by-fields c o = elim o [ None ↦ false | Some fields ↦ both c (ltb 0 (length fields)) ]
 
   parent_by : (o : Option (List FieldPattern)) → by-fields (is_constant T n) o ≡ true → is_constant T n ≡ true
-  parent_by none e = absurd (true≢false (sym e))
-  parent_by (some fields) e = both_left (is_constant T n) _ e
+  parent_by None e = absurd (true≢false (sym e))
+  parent_by (Some fields) e = both_left (is_constant T n) _ e
 
   pub parent-constant : is_parent T n ≡ true → is_constant T n ≡ true
   unfolding is_parent
   parent-constant e = parent_by (record_fields (node_at T n)) e
 
-  module _ (f : List ℕ) (r : Run) (p : SeenRun f (pattern_at f) 4 (record_fields (node_at T n)) r) where
-    pub no-parent : r ≡ Ru.Nothing → false ≡ is_parent T n
+  module _ (f : List ℕ) (r : Option (ℕ × ℕ)) (p : SeenRun f (pattern_at f) 4 (record_fields (node_at T n)) r) where
+    pub no-parent : r ≡ None → false ≡ is_parent T n
     unfolding is_parent
     no-parent q = ap (by-fields (is_constant T n)) (subst (SeenRun f (pattern_at f) 4 (record_fields (node_at T n))) q p).is
 
-    module _ (k at : ℕ) (q : r ≡ Ru.Just k at) where
-      pub fields-are : some (run (pattern_at f) 4 k at) ≡ record_fields (node_at T n)
+    module _ (k at : ℕ) (q : r ≡ Some (k, at)) where
+      pub fields-are : Some (run (pattern_at f) 4 k at) ≡ record_fields (node_at T n)
       fields-are = (subst (SeenRun f (pattern_at f) 4 (record_fields (node_at T n))) q p).is
 
       pub parent-if : length (run (pattern_at f) 4 k at) ≡ k → (b : Bool) → b ≡ ltb 0 k → is_constant T n ≡ true → b ≡ is_parent T n
@@ -61,7 +58,7 @@ module _ (T : Tables) (n : ℕ) where
 
       pub patterns-are : patterns_of T n ≡ run (pattern_at f) 4 k at
       unfolding patterns_of
-      patterns-are = ap (λ (o : Option (List FieldPattern)). Option.get_or o []) (sym fields-are)
+      patterns-are = ap (λ (o : Option (List FieldPattern)). unwrap_or o []) (sym fields-are)
 
       pub patterns-count : length (patterns_of T n) ≡ k
       patterns-count = ap length patterns-are ∙ length_run (pattern_at f) 4 k at
@@ -71,9 +68,9 @@ module _ (T : Tables) (n : ℕ) where
       pattern-node i d v h e =
           ap (λ (x : FieldPattern). x.node) (e ∙ sym (run_at (pattern_at f) 4 k at i d h) ∙ ap (λ (l : List FieldPattern). get_or l i d) (sym patterns-are))
 
-    pub no-patterns : r ≡ Ru.Nothing → patterns_of T n ≡ []
+    pub no-patterns : r ≡ None → patterns_of T n ≡ []
     unfolding patterns_of
-    no-patterns q = ap (λ (o : Option (List FieldPattern)). Option.get_or o []) (sym (subst (SeenRun f (pattern_at f) 4 (record_fields (node_at T n))) q p).is)
+    no-patterns q = ap (λ (o : Option (List FieldPattern)). unwrap_or o []) (sym (subst (SeenRun f (pattern_at f) 4 (record_fields (node_at T n))) q p).is)
 
 -- one part
 module _ (T : Tables) (n k : ℕ) (lx : List ℕ) where

@@ -2,7 +2,7 @@
 use Prim.Native.Nat.{ℕ, zero, suc, ◌+◌, ◌*◌, ◌/◌, ◌%◌, ◌≤◌, ◌<◌}
 use mathlib.Core.Bool.{Bool, true, false}
 use mathlib.Core.List.{List, [], ◌∷◌}
-use mathlib.Core.Option.{Option, none, some}
+use Rattle.std.specs.Prelude.{Option, None, Some}
 use mathlib.Core.Path.{◌≡◌, refl, sym, ap, ◌∙◌, subst}
 use native.Mathlib.Omega.{arith}
 use native.Mathlib.Nat.{zero-add}
@@ -60,7 +60,7 @@ pub record Right (T : Tables) (ix lx : List ℕ) (k : ℕ) : Type 0 where
   pub long : length lx ≡ long_length
   pub front : (i : ℕ) → i < index_length → get_or lx i 0 ≡ get_or ix i 0
   pub rows : (n : ℕ) → n < node_limit → get_or lx (rows_base + n) 0 ≤ k
-  pub right : (n t d : ℕ) → n < length T.nodes → t < length T.types → recalled lx n t ≡ some d → d ≡ fate T n t
+  pub right : (n t d : ℕ) → n < length T.nodes → t < length T.types → recalled lx n t ≡ Some d → d ≡ fate T n t
 
 module _ (T : Tables) (ix : List ℕ) (few-t : length T.types ≤ type_limit) (few-n : length T.nodes ≤ node_limit) where
   -- at first it remembers nothing
@@ -120,19 +120,19 @@ module _ (T : Tables) (ix : List ℕ) (few-t : length T.types ≤ type_limit) (f
       low_same : (j : ℕ) → j < base → (j ≡ rows_base + m → ⊥) → get_or jx j 0 ≡ get_or lx j 0
       low_same j h ne = jx-other j ne ∙ sets_below (row_of T m) lx base j 0 h
 
-      own-right : (t d : ℕ) → t < length T.types → recalled jx m t ≡ some d → d ≡ fate T m t
+      own-right : (t d : ℕ) → t < length T.types → recalled jx m t ≡ Some d → d ≡ fate T m t
       unfolding recalled in_row
       own-right t d u e =
           let w = jx-other (base + t / 8) (λ q. omega arith) ∙ own-word t u in
-          let r : in_row jx (get_or jx (rows_base + m) 0) t ≡ some (digit (t % 8) (get_or jx (base + t / 8) 0)) = ap (λ (i : ℕ). in_row jx i t) (jx-own ∙ add-one k) in
+          let r : in_row jx (get_or jx (rows_base + m) 0) t ≡ Some (digit (t % 8) (get_or jx (base + t / 8) 0)) = ap (λ (i : ℕ). in_row jx i t) (jx-own ∙ add-one k) in
           some-injective d _ (sym e ∙ r) ∙ ap (digit (t % 8)) w ∙ own-fate t u
 
       other_row : (i t : ℕ) → i ≤ k → t < length T.types → in_row jx i t ≡ in_row lx i t
       unfolding in_row
       other_row zero t h u = refl
-      other_row (suc i) t h u = ap (λ (w : ℕ). some (digit (t % 8) w)) (low_same (fates_base + row_words * i + t / 8) (omega arith) (λ q. omega arith))
+      other_row (suc i) t h u = ap (λ (w : ℕ). Some (digit (t % 8) w)) (low_same (fates_base + row_words * i + t / 8) (omega arith) (λ q. omega arith))
 
-      other-right : (n t d : ℕ) → (n ≡ m → ⊥) → n < length T.nodes → t < length T.types → recalled jx n t ≡ some d → d ≡ fate T n t
+      other-right : (n t d : ℕ) → (n ≡ m → ⊥) → n < length T.nodes → t < length T.types → recalled jx n t ≡ Some d → d ≡ fate T n t
       unfolding recalled
       other-right n t d ne h u e =
           let number = low_same (rows_base + n) (omega arith) (λ q. ne (omega arith)) in
@@ -146,7 +146,7 @@ module _ (T : Tables) (ix : List ℕ) (few-t : length T.types ≤ type_limit) (f
           let r = R.rows n h in
           omega arith
 
-      by-node : (n t d : ℕ) (b : Bool) → eqb n m ≡ b → n < length T.nodes → t < length T.types → recalled jx n t ≡ some d → d ≡ fate T n t
+      by-node : (n t d : ℕ) (b : Bool) → eqb n m ≡ b → n < length T.nodes → t < length T.types → recalled jx n t ≡ Some d → d ≡ fate T n t
       by-node n t d true q h u e =
           let s = eqb-true n m q in
           own-right t d u (ap (λ (i : ℕ). recalled jx i t) (sym s) ∙ e) ∙ ap (λ (i : ℕ). fate T i t) (sym s)
@@ -197,9 +197,9 @@ module _ (T : Tables) (ix : List ℕ) (few-t : length T.types ≤ type_limit) (f
   unfolding with_binding
   right_binding b s R = go (const_record T b)
     where
-      go : (o : Option ℕ) → RightKept T ix (elim o [ none ↦ s | some n ↦ with_part T n s ])
-      go none = R
-      go (some n) = right-part n s R
+      go : (o : Option ℕ) → RightKept T ix (elim o [ None ↦ s | Some n ↦ with_part T n s ])
+      go None = R
+      go (Some n) = right-part n s R
 
   right-bindings : (bs : List Binding) (s : Kept) → RightKept T ix s → RightKept T ix (with_bindings T bs s)
   unfolding with_bindings
@@ -276,7 +276,7 @@ module _ (f ix zeros : List ℕ) (a : AcceptedFile f ix) (short : length ix ≡ 
       }
 
 -- an index that is no longer than its own areas remembers nothing
-pub short-recalls : (T : Tables) (ix : List ℕ) → length ix ≡ index_length → (n t d : ℕ) → recalled ix n t ≡ some d → d ≡ fate T n t
+pub short-recalls : (T : Tables) (ix : List ℕ) → length ix ≡ index_length → (n t d : ℕ) → recalled ix n t ≡ Some d → d ≡ fate T n t
 unfolding recalled in_row
 short-recalls T ix l n t d e = absurd (some≢none d (sym e ∙ ap (λ (r : ℕ). in_row ix r t) (get_or-eq_default ix 0 {n = rows_base + n} (omega arith))))
 

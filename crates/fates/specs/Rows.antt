@@ -1,6 +1,5 @@
 -- An index that remembers: a row for each binding that is a Record's Const, and for the Records in it, with its fates at all types.
-use Rattle.std.specs.Prelude.{Bool, true, false, List, [], ◌∷◌, ◌≡◌, ℕ, zero, suc, ◌+◌, ◌*◌, ◌<◌, ltb, eqb, length, get_or, set}
-use Rattle.std.proofs.Math.Option.{Option, none, some}
+use Rattle.std.specs.Prelude.{Bool, true, false, List, [], ◌∷◌, ◌≡◌, ℕ, zero, suc, ◌+◌, ◌*◌, ◌<◌, ltb, eqb, length, get_or, set, Option, None, Some}
 use Rattle.std.proofs.lemmas.List.Edits.{sets}
 use Rattle.rules.specs.Base.{both}
 use Rattle.rules.specs.File.{Tables, Binding, FieldPattern, node_at, is_constant, record_fields}
@@ -44,7 +43,7 @@ with_row T n k ix = set (sets ix (fates_base + row_words * k) (row_of T n)) (row
 -- the node of a Const that is a Record
 unfoldable pub const_record : Tables → Binding → Option ℕ
 const_record T b =
-    elim (const_node b.slot) [ none ↦ none | some n ↦ elim (record_fields (node_at T n)) [ none ↦ none | some fields ↦ some n ] ]
+    elim (const_node b.slot) [ None ↦ None | Some n ↦ elim (record_fields (node_at T n)) [ None ↦ None | Some fields ↦ Some n ] ]
 
 -- the index, and the number of its next row
 pub record Kept : Type 0 where
@@ -56,7 +55,7 @@ kept next index = record { next = next; index = index }
 
 -- a constant that is a Record with a pair
 unfoldable pub is_parent : Tables → ℕ → Bool
-is_parent T n = elim (record_fields (node_at T n)) [ none ↦ false | some fields ↦ both (is_constant T n) (ltb 0 (length fields)) ]
+is_parent T n = elim (record_fields (node_at T n)) [ None ↦ false | Some fields ↦ both (is_constant T n) (ltb 0 (length fields)) ]
 
 -- whether a node has no row yet
 unfoldable pub rowless : ℕ → Kept → Bool
@@ -72,7 +71,7 @@ with_part T n s =
 
 -- with the row of a binding's Record
 unfoldable pub with_binding : Tables → Binding → Kept → Kept
-with_binding T b s = elim (const_record T b) [ none ↦ s | some n ↦ with_part T n s ]
+with_binding T b s = elim (const_record T b) [ None ↦ s | Some n ↦ with_part T n s ]
 
 unfoldable pub with_bindings : Tables → List Binding → Kept → Kept
 with_bindings T [] s = s
@@ -99,4 +98,4 @@ remembering T ix long =
 -- whether any of these bindings is a Const that is a Record
 unfoldable pub any_record : Tables → List Binding → Bool
 any_record T [] = false
-any_record T (b ∷ bs) = elim (const_record T b) [ none ↦ any_record T bs | some n ↦ true ]
+any_record T (b ∷ bs) = elim (const_record T b) [ None ↦ any_record T bs | Some n ↦ true ]

@@ -2,16 +2,15 @@
 // it is asked for again and again, and never changes.
 #![tactic(auto)]
 
-ghost use Rattle.std.specs.Prelude.{◌≡◌, true, ℕ, ◌+◌, ◌*◌, ◌≤◌, ◌<◌, length, set};
+ghost use Rattle.std.specs.Prelude.{◌≡◌, true, ℕ, ◌+◌, ◌*◌, ◌≤◌, ◌<◌, length};
 ghost use Rattle.std.proofs.lemmas.List.Edits.{sets};
-ghost use Rattle.rules.specs.Limits.{type_limit, binding_limit};
+ghost use Rattle.rules.specs.Limits.{binding_limit};
 ghost use Rattle.rules.specs.File.{is_constant};
 ghost use Rattle.file.specs.Steps.{index_length};
-ghost use Rattle.file.specs.Tables.{Indexed, tables_of};
+ghost use Rattle.file.specs.Tables.{tables_of};
 ghost use Rattle.views.specs.Views.{binding_at};
 ghost use Rattle.accepted_file.specs.AcceptedFile.{AcceptedFile};
 ghost use Rattle.accepted_file.specs.Fates.{fate, fates_base, row_words, long_length};
-ghost use Rattle.tables.specs.Tables.{found_option};
 ghost use Rattle.field_cases.specs.Pieces.{patterns_of};
 ghost use Rattle.fates.specs.Rows.{Heard, fate_or, word_of, row_of, const_record, with_binding, with_bindings, kept, is_parent};
 ghost use Rattle.fates.specs.Rows.{with_part, with_parts, with_held, remembering, any_record};
@@ -20,7 +19,7 @@ use field_cases::{pairs_of, piece_at, pieces};
 use file::{BINDINGS, NODES, TYPES, wide16};
 use literals::{brought_meets, lacks_bytes};
 use resolve::constant_node;
-use tables::{BYTES, FATES, Found, HEARD, MET, QUIET, ROW_WORDS, ROWS, Run};
+use tables::{BYTES, FATES, HEARD, MET, QUIET, ROW_WORDS, ROWS};
 use views::{SlotView, binding_at, count_of, field_pattern_at};
 
 // How many words an index has that remembers.
@@ -39,13 +38,11 @@ fn heard(file: &[u8], index: &[u16], node: usize, ty: usize) -> bool
     if opened.count == 0 {
         return true;
     }
-    let mut i: usize = 0;
-    while i < opened.count {
+    for i in 0..opened.count {
         let p = piece_at(file, index, node, ty, opened, i);
         let pattern = p.pattern;
         let t = p.ty;
-        i += 1;
-        if let Found::Just(n) = pattern {
+        if let Some(n) = pattern {
             if heard(file, index, n, t) {
                 return true;
             }
@@ -95,9 +92,7 @@ fn word(file: &[u8], index: &[u16], node: usize, q: usize) -> usize
     ensures { (result ≡ word_of (tables_of file.now) node q) × (result < 65536) }
 {
     let mut w: usize = 0;
-    let mut j: usize = 8;
-    while j > 0 {
-        j -= 1;
+    for j in (0..8).rev() {
         w = 4 * w + fate_or(file, index, node, 8 * q + j);
     }
     w
@@ -112,30 +107,28 @@ fn put_row(file: &[u8], index: &[u16], long: &mut [u16], node: usize, k: usize)
         long.new ≡ sets long.old (fates_base + row_words * k) (row_of T node) }
 {
     let at = FATES + ROW_WORDS * k;
-    let mut q: usize = 0;
-    while q < ROW_WORDS {
+    for q in 0..ROW_WORDS {
         let w = word(file, index, node, q);
         long[at + q] = w as u16;
-        q += 1;
     }
 }
 
 // The node of binding k, if it is a Const that is a Record.
-fn const_record(file: &[u8], index: &[u16], k: usize) -> Found
+fn const_record(file: &[u8], index: &[u16], k: usize) -> Option<usize>
     requires accepted_file { AcceptedFile file.now index.now }
     requires k_in_bounds { k < length (tables_of file.now).bindings }
     ensures { let T = tables_of file.now in
-        found_option result ≡ const_record T (binding_at T k) }
+        result ≡ const_record T (binding_at T k) }
 {
     let b = binding_at(file, index, k);
     let s = b.slot;
     let SlotView::Const(n) = s else {
-        return Found::Nothing;
+        return None;
     };
-    if let Run::Just(_, _) = pairs_of(file, index, n) {
-        Found::Just(n)
+    if let Some((_, _)) = pairs_of(file, index, n) {
+        Some(n)
     } else {
-        Found::Nothing
+        None
     }
 }
 
@@ -144,11 +137,7 @@ fn put_index(index: &[u16], long: &mut [u16])
     requires { (length index.now ≡ index_length) × (length long.old ≡ long_length) }
     ensures { long.new ≡ sets long.old 0 index.now }
 {
-    let mut i: usize = 0;
-    while i < index.len() {
-        long[i] = index[i];
-        i += 1;
-    }
+    long[..index.len()].copy_from_slice(index);
 }
 
 // Whether a node is a constant Record with a pair.
@@ -156,14 +145,10 @@ fn is_parent(file: &[u8], index: &[u16], node: usize) -> bool
     requires { AcceptedFile file.now index.now }
     ensures { result ≡ is_parent (tables_of file.now) node }
 {
-    let Run::Just(n, _) = pairs_of(file, index, node) else {
+    let Some((n, _)) = pairs_of(file, index, node) else {
         return false;
     };
-    if constant_node(file, index, node) {
-        0 < n
-    } else {
-        false
-    }
+    constant_node(file, index, node) && 0 < n
 }
 
 // The row of a Record that is constant, as row k, if it has none yet and while there are rows left; the number of the next row.
@@ -194,15 +179,13 @@ fn remember_parts(file: &[u8], index: &[u16], long: &mut [u16], node: usize, k: 
     ensures { let T = tables_of file.now in
         kept result long.new ≡ with_parts T (patterns_of T node) (kept k long.old) }
 {
-    let Run::Just(n, at) = pairs_of(file, index, node) else {
+    let Some((n, at)) = pairs_of(file, index, node) else {
         return k;
     };
     let mut next = k;
-    let mut i: usize = 0;
-    while i < n {
+    for i in 0..n {
         let p = field_pattern_at(file, at, i);
         next = remember_part(file, index, long, p.node, next);
-        i += 1;
     }
     next
 }
@@ -227,7 +210,7 @@ fn remember_binding(file: &[u8], index: &[u16], long: &mut [u16], b: usize, k: u
     ensures { let T = tables_of file.now in
         kept result long.new ≡ with_binding T (binding_at T b) (kept k long.old) }
 {
-    if let Found::Just(n) = const_record(file, index, b) {
+    if let Some(n) = const_record(file, index, b) {
         remember_part(file, index, long, n, k)
     } else {
         k
@@ -243,10 +226,8 @@ fn remember_bindings(file: &[u8], index: &[u16], long: &mut [u16]) -> usize
 {
     let n = count_of(file, index, BINDINGS);
     let mut k: usize = 0;
-    let mut b: usize = 0;
-    while b < n {
+    for b in 0..n {
         k = remember_binding(file, index, long, b, k);
-        b += 1;
     }
     k
 }
@@ -261,9 +242,7 @@ pub fn remember(file: &[u8], index: &[u16], long: &mut [u16])
 {
     put_index(index, long);
     let mut k = remember_bindings(file, index, long);
-    let mut n = count_of(file, index, NODES);
-    while n > 0 {
-        n -= 1;
+    for n in (0..count_of(file, index, NODES)).rev() {
         k = remember_held(file, index, long, n, k);
     }
 }
@@ -275,12 +254,10 @@ pub fn any_record(file: &[u8], index: &[u16]) -> bool
         result ≡ any_record T T.bindings }
 {
     let n = count_of(file, index, BINDINGS);
-    let mut k: usize = 0;
-    while k < n {
-        if let Found::Just(_) = const_record(file, index, k) {
+    for k in 0..n {
+        if let Some(_) = const_record(file, index, k) {
             return true;
         }
-        k += 1;
     }
     false
 }

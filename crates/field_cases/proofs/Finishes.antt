@@ -3,7 +3,7 @@ use Prim.Native.Nat.{ℕ, zero, suc, ◌+◌, ◌≤◌, ◌<◌}
 use mathlib.Core.Path.{◌≡◌, refl, sym, ap, ◌∙◌, subst}
 use mathlib.Core.Bool.{Bool, true, false}
 use mathlib.Core.List.{List, []}
-use mathlib.Core.Option.{Option, none, some}
+use Rattle.std.specs.Prelude.{Option, None, Some}
 use mathlib.Core.Logic.{⊎_elim}
 use native.Mathlib.Omega.{arith}
 use native.Mathlib.Nat.{zero-add}
@@ -43,7 +43,7 @@ module _ (T : Tables) (n x : ℕ) (v : node_at T n ≡ Node.Var x) where
   var-inconstant = rw (zero-add n) at (at_place constant_of [] T.nodes n false Node.Error var-inside) ∙ ap (constant_of (take n (constants T))) v
 
   abbrev step_of : ℕ → Bool → Resolver State
-  step_of l b = elim b [ true ↦ give (some (File.Slot.Const n)) | false ↦ resolve_node (ops T) T (resolve_below (ops T) T l) n (node_at T n) ]
+  step_of l b = elim b [ true ↦ give (Some (File.Slot.Const n)) | false ↦ resolve_node (ops T) T (resolve_below (ops T) T l) n (node_at T n) ]
 
   var-below : (l : ℕ) → n < l → (s : State) → resolve_below (ops T) T l n s ≡ record { slot = (ops T).lookup s x; walk = s }
   unfolding resolve_below resolve_node
@@ -58,12 +58,12 @@ module _ (T : Tables) (n x : ℕ) (v : node_at T n ≡ Node.Var x) where
 
 -- the node of a constant
 abbrev pub const_node : File.Slot → Option ℕ
-const_node (File.Slot.Row from p) = none
-const_node (File.Slot.Key from u) = none
-const_node (File.Slot.Derived from) = none
-const_node (File.Slot.Field from at u) = none
-const_node (File.Slot.Value from u) = none
-const_node (File.Slot.Const folded) = some folded
+const_node (File.Slot.Row from p) = None
+const_node (File.Slot.Key from u) = None
+const_node (File.Slot.Derived from) = None
+const_node (File.Slot.Field from at u) = None
+const_node (File.Slot.Value from u) = None
+const_node (File.Slot.Const folded) = Some folded
 
 module _ (T : Tables) (a : ℕ) (below : FieldWalk State) where
   -- `field` by its way
@@ -75,8 +75,8 @@ module _ (T : Tables) (a : ℕ) (below : FieldWalk State) where
   by_way Wy.Constant n t path s = matched (ops T) T a below n (File.Slot.Const n) t path s
   by_way (Wy.Variable x) n t path s =
       elim ((ops T).lookup s x) [
-        | none ↦ constrain (ops T) T x t path (bind x (File.Slot.Field a path t) s)
-        | some slot ↦ matched (ops T) T a below n slot t path s
+        | None ↦ constrain (ops T) T x t path (bind x (File.Slot.Field a path t) s)
+        | Some slot ↦ matched (ops T) T a below n slot t path s
       ]
   by_way Wy.Read n t path s = read (ops T) T a below n t path s
 
@@ -97,26 +97,26 @@ module _ (T : Tables) (a : ℕ) (below : FieldWalk State) where
     unfolding by_way variable read read_answer
     variable-finished x v = go ((ops T).lookup s x) refl
       where
-        go : (o : Option File.Slot) → (ops T).lookup s x ≡ o → ◌≡◌ {A = State} (elim o [ none ↦ constrain (ops T) T x t path (bind x (File.Slot.Field a path t) s) | some slot ↦ matched (ops T) T a below n slot t path s ]) (elim o [ none ↦ constrain (ops T) T x t path (bind x (File.Slot.Field a path t) s) | some slot ↦ read (ops T) T a below n t path s ])
-        go none e = refl
-        go (some slot) e =
+        go : (o : Option File.Slot) → (ops T).lookup s x ≡ o → ◌≡◌ {A = State} (elim o [ None ↦ constrain (ops T) T x t path (bind x (File.Slot.Field a path t) s) | Some slot ↦ matched (ops T) T a below n slot t path s ]) (elim o [ None ↦ constrain (ops T) T x t path (bind x (File.Slot.Field a path t) s) | Some slot ↦ read (ops T) T a below n t path s ])
+        go None e = refl
+        go (Some slot) e =
             ap (λ (o : Option File.Slot). read_answer (ops T) T a below n o t path s s) (sym e) ∙ ap answered (sym (var-resolved T n x v s))
 
     -- `inject_at` is `inject` of a record against a union
-    module _ (fs : List FieldPattern) (e : record_fields (node_at T n) ≡ some fs) where
-      inject-is : (alts : List Alternative) → union_ty (type_at T t) ≡ some alts → inject_at T a below n t path s ≡ inject (ops T) T a below fs alts n t path s
+    module _ (fs : List FieldPattern) (e : record_fields (node_at T n) ≡ Some fs) where
+      inject-is : (alts : List Alternative) → union_ty (type_at T t) ≡ Some alts → inject_at T a below n t path s ≡ inject (ops T) T a below fs alts n t path s
       unfolding inject_at inject_fields inject
       inject-is alts g =
-          ap (λ (x : State). elim (constant T n t) [ some c ↦ narrow_by (ops T) T n c path s | none ↦ x ])
-          (ap (λ (o : Option (List FieldPattern)). inject_fields T a below o (union_ty (type_at T t)) n path s) e ∙ ap (λ (o : Option (List Alternative)). inject_fields T a below (some fs) o n path s) g)
+          ap (λ (x : State). elim (constant T n t) [ Some c ↦ narrow_by (ops T) T n c path s | None ↦ x ])
+          (ap (λ (o : Option (List FieldPattern)). inject_fields T a below o (union_ty (type_at T t)) n path s) e ∙ ap (λ (o : Option (List Alternative)). inject_fields T a below (Some fs) o n path s) g)
 
       abbrev opens_as : Option (List Alternative) → State
-      opens_as o = elim o [ some alts ↦ inject (ops T) T a below fs alts n t path s | none ↦ read (ops T) T a below n t path s ]
+      opens_as o = elim o [ Some alts ↦ inject (ops T) T a below fs alts n t path s | None ↦ read (ops T) T a below n t path s ]
 
-      record-finished : (o : Option (List Alternative)) → union_ty (type_at T t) ≡ o → done (elim (is_injection (some fs) o) [ true ↦ Wy.Union | false ↦ literal_way (is_constant T n) ]) ≡ opens_as o
+      record-finished : (o : Option (List Alternative)) → union_ty (type_at T t) ≡ o → done (elim (is_injection (Some fs) o) [ true ↦ Wy.Union | false ↦ literal_way (is_constant T n) ]) ≡ opens_as o
       unfolding is_injection by_way
-      record-finished none g = literal-finished (is_constant T n) refl
-      record-finished (some alts) g = inject-is alts g
+      record-finished None g = literal-finished (is_constant T n) refl
+      record-finished (Some alts) g = inject-is alts g
 
     node-finished : (node : Node) → node_at T n ≡ node → done (elim (is_injection (record_fields node) (union_ty (type_at T t))) [ true ↦ Wy.Union | false ↦ node_way (is_constant T n) node ]) ≡ field_node (ops T) T a below node n t path s
     unfolding node_way field_node by_way record_fields is_injection
@@ -143,7 +143,7 @@ module _ (T : Tables) (a : ℕ) (below : FieldWalk State) where
     way-finished = node-finished (node_at T n) refl
 
   -- `matched` of a slot that is no constant
-  pub meeting-finished : (n : ℕ) (slot : File.Slot) (t : ℕ) (path : File.FieldPath) (s : State) → const_node slot ≡ none → meeting T a n slot t path s ≡ matched (ops T) T a below n slot t path s
+  pub meeting-finished : (n : ℕ) (slot : File.Slot) (t : ℕ) (path : File.FieldPath) (s : State) → const_node slot ≡ None → meeting T a n slot t path s ≡ matched (ops T) T a below n slot t path s
   unfolding meeting matched
   meeting-finished n (File.Slot.Row from p) t path s e = refl
   meeting-finished n (File.Slot.Key from u) t path s e = refl
@@ -156,63 +156,63 @@ module _ (T : Tables) (a : ℕ) (below : FieldWalk State) where
   unfoldable pub injected : ℕ → Choosing → File.FieldPath → State
   injected n c path =
       elim c.payload [
-        | none ↦ c.state
-        | some p ↦ closer n (below p.node p.type (File.payload path p.disc) (narrow n path (Narrowing.Tag p.disc) c.state))
+        | None ↦ c.state
+        | Some p ↦ closer n (below p.node p.type (File.payload path p.disc) (narrow n path (Narrowing.Tag p.disc) c.state))
       ]
 
   module _ (n : ℕ) (path : File.FieldPath) (s : State) where
     named-finished : (f : FieldPattern) (o : Option Alternative) → injected n (named_choice f o n s) path ≡ inject_alternative (ops T) T a below n f o path s
     unfolding injected named_choice inject_alternative
-    named-finished f none = refl
-    named-finished f (some alt) = refl
+    named-finished f None = refl
+    named-finished f (Some alt) = refl
 
     only-finished : (o : Option FieldPattern) (alts : List Alternative) → injected n (only_choice o alts n s) path ≡ inject_only (ops T) T a below n o alts path s
     unfolding only_choice inject_only injected
-    only-finished none alts = refl
-    only-finished (some f) alts = named-finished f (alternative_of alts f.name)
+    only-finished None alts = refl
+    only-finished (Some f) alts = named-finished f (alternative_of alts f.name)
 
     alternative-finished : (o : Option (List FieldPattern)) (u : Option (List Alternative)) → injected n (alternative_choice o u n s) path ≡ inject_fields T a below o u n path s
     unfolding alternative_choice inject_fields injected
-    alternative-finished none u = refl
-    alternative-finished (some fields) none = refl
-    alternative-finished (some fields) (some alts) = only-finished (only_field fields) alts
+    alternative-finished None u = refl
+    alternative-finished (Some fields) None = refl
+    alternative-finished (Some fields) (Some alts) = only-finished (only_field fields) alts
 
     pub choosing-finished : (t : ℕ) → injected n (choosing T n t path s) path ≡ inject_at T a below n t path s
     unfolding choosing inject_at injected
     choosing-finished t = go (constant T n t)
       where
-        go : (o : Option Const) → injected n (elim o [ some c ↦ Begin.unchosen (narrow_by (ops T) T n c path s) | none ↦ alternative_choice (record_fields (node_at T n)) (union_ty (type_at T t)) n s ]) path ≡ elim o [ some c ↦ narrow_by (ops T) T n c path s | none ↦ inject_fields T a below (record_fields (node_at T n)) (union_ty (type_at T t)) n path s ]
-        go none = alternative-finished (record_fields (node_at T n)) (union_ty (type_at T t))
-        go (some c) = refl
+        go : (o : Option Const) → injected n (elim o [ Some c ↦ Begin.unchosen (narrow_by (ops T) T n c path s) | None ↦ alternative_choice (record_fields (node_at T n)) (union_ty (type_at T t)) n s ]) path ≡ elim o [ Some c ↦ narrow_by (ops T) T n c path s | None ↦ inject_fields T a below (record_fields (node_at T n)) (union_ty (type_at T t)) n path s ]
+        go None = alternative-finished (record_fields (node_at T n)) (union_ty (type_at T t))
+        go (Some c) = refl
 
 -- the payload's type is below the union's
 module _ (T : Tables) (t n : ℕ) (s : State) (p : Payload) where
-  named-lower : (alts : List Alternative) → union_ty (type_at T t) ≡ some alts → Sound T → t < length T.types → (f : FieldPattern) (o : Option Alternative) → alternative_of alts f.name ≡ o → (named_choice f o n s).payload ≡ some p → Lower T t p.type
+  named-lower : (alts : List Alternative) → union_ty (type_at T t) ≡ Some alts → Sound T → t < length T.types → (f : FieldPattern) (o : Option Alternative) → alternative_of alts f.name ≡ o → (named_choice f o n s).payload ≡ Some p → Lower T t p.type
   unfolding named_choice alternative_of
-  named-lower alts u S h f none e q = absurd (some≢none p (sym q))
-  named-lower alts u S h f (some alt) e q =
+  named-lower alts u S h f None e q = absurd (some≢none p (sym q))
+  named-lower alts u S h f (Some alt) e q =
       let c : Child T t alt.type = each_first (λ (x : Alternative). eqb x.name f.name) (union-children (Child T t) (type_at T t) alts (S.children t h) u) alt e in
-      let ty : alt.type ≡ p.type = ap (λ (x : Option Payload). elim x [ none ↦ 0 | some y ↦ y.type ]) q in
+      let ty : alt.type ≡ p.type = ap (λ (x : Option Payload). elim x [ None ↦ 0 | Some y ↦ y.type ]) q in
       record { lower = subst (λ (i : ℕ). i < t) ty c.lower; known = subst (λ (i : ℕ). i < length T.types) ty c.in-types; less-deep = subst (λ (i : ℕ). File.depth T i + 1 ≤ File.depth T t) ty c.less-deep }
 
-  only-lower : (alts : List Alternative) → union_ty (type_at T t) ≡ some alts → Sound T → t < length T.types → (o : Option FieldPattern) → (only_choice o alts n s).payload ≡ some p → Lower T t p.type
+  only-lower : (alts : List Alternative) → union_ty (type_at T t) ≡ Some alts → Sound T → t < length T.types → (o : Option FieldPattern) → (only_choice o alts n s).payload ≡ Some p → Lower T t p.type
   unfolding only_choice
-  only-lower alts u S h none q = absurd (some≢none p (sym q))
-  only-lower alts u S h (some f) q = named-lower alts u S h f (alternative_of alts f.name) refl q
+  only-lower alts u S h None q = absurd (some≢none p (sym q))
+  only-lower alts u S h (Some f) q = named-lower alts u S h f (alternative_of alts f.name) refl q
 
-  alternative-lower : (o : Option (List FieldPattern)) (v : Option (List Alternative)) → union_ty (type_at T t) ≡ v → Sound T → t < length T.types → (alternative_choice o v n s).payload ≡ some p → Lower T t p.type
+  alternative-lower : (o : Option (List FieldPattern)) (v : Option (List Alternative)) → union_ty (type_at T t) ≡ v → Sound T → t < length T.types → (alternative_choice o v n s).payload ≡ Some p → Lower T t p.type
   unfolding alternative_choice
-  alternative-lower none v u S h q = absurd (some≢none p (sym q))
-  alternative-lower (some fields) none u S h q = absurd (some≢none p (sym q))
-  alternative-lower (some fields) (some alts) u S h q = only-lower alts u S h (only_field fields) q
+  alternative-lower None v u S h q = absurd (some≢none p (sym q))
+  alternative-lower (Some fields) None u S h q = absurd (some≢none p (sym q))
+  alternative-lower (Some fields) (Some alts) u S h q = only-lower alts u S h (only_field fields) q
 
   abbrev chosen : File.FieldPath → Option Const → Choosing
-  chosen path o = elim o [ some c ↦ Begin.unchosen (narrow_by (ops T) T n c path s) | none ↦ alternative_choice (record_fields (node_at T n)) (union_ty (type_at T t)) n s ]
+  chosen path o = elim o [ Some c ↦ Begin.unchosen (narrow_by (ops T) T n c path s) | None ↦ alternative_choice (record_fields (node_at T n)) (union_ty (type_at T t)) n s ]
 
-  pub choosing-lower : (path : File.FieldPath) → Sound T → t < length T.types → (choosing T n t path s).payload ≡ some p → Lower T t p.type
+  pub choosing-lower : (path : File.FieldPath) → Sound T → t < length T.types → (choosing T n t path s).payload ≡ Some p → Lower T t p.type
   unfolding choosing
   choosing-lower path S h = go (constant T n t)
     where
-      go : (o : Option Const) → (chosen path o).payload ≡ some p → Lower T t p.type
-      go none q = alternative-lower (record_fields (node_at T n)) (union_ty (type_at T t)) refl S h q
-      go (some c) q = absurd (some≢none p (sym q))
+      go : (o : Option Const) → (chosen path o).payload ≡ Some p → Lower T t p.type
+      go None q = alternative-lower (record_fields (node_at T n)) (union_ty (type_at T t)) refl S h q
+      go (Some c) q = absurd (some≢none p (sym q))

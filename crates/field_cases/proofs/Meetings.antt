@@ -3,7 +3,7 @@ use Prim.Native.Nat.{ℕ}
 use mathlib.Core.Path.{◌≡◌, sym, ap, ◌∙◌}
 use mathlib.Core.Bool.{Bool, true, false}
 use mathlib.Core.List.{List}
-use mathlib.Core.Option.{Option, some}
+use Rattle.std.specs.Prelude.{Option, Some, None}
 use lib.Dec.{eqb}
 use borrow.Author.Tests.{eq-eqb, ne_eqb}
 use Rattle.rules.specs.File as File
@@ -13,8 +13,6 @@ use Rattle.rules.specs.Walk.{FieldWalk, refers_to, matched}
 use Rattle.state.specs.State.{State}
 use Rattle.state.specs.Ops.{ops, narrow, report, skip}
 use Rattle.views.specs.Views.{predicate_option}
-use Rattle.views.specs.declared.MaybePredicate.{MaybePredicate}
-use Rattle.views.specs.declared.MaybePredicate.TheVariants as Mp
 use Rattle.paths.specs.declared.PredicateId.{PredicateId}
 use Rattle.paths.specs.declared.Address.{Address}
 use Rattle.paths.specs.Paths.{path_of}
@@ -27,18 +25,18 @@ use Rattle.walk.specs.declared.Walk.{Walk}
 use Rattle.field_cases.specs.FieldCases.{still, meeting}
 
 -- a row's predicate
-pub refers-none : (p : MaybePredicate) (q : Option ℕ) → p ≡ Mp.Nothing → false ≡ refers_to (predicate_option p) q
+pub refers-none : (p : Option PredicateId) (q : Option ℕ) → p ≡ None → false ≡ refers_to (predicate_option p) q
 unfolding refers_to
 refers-none p q e = ap (λ x. refers_to (predicate_option x) q) (sym e)
 
-module _ (p q : MaybePredicate) (a : PredicateId) (e : p ≡ Mp.Just a) where
-  pub refers-nothing : q ≡ Mp.Nothing → false ≡ refers_to (predicate_option p) (predicate_option q)
+module _ (p q : Option PredicateId) (a : PredicateId) (e : p ≡ Some a) where
+  pub refers-nothing : q ≡ None → false ≡ refers_to (predicate_option p) (predicate_option q)
   unfolding refers_to
-  refers-nothing g = ap (λ x. refers_to (some a.0) (predicate_option x)) (sym g) ∙ ap (λ x. refers_to (predicate_option x) (predicate_option q)) (sym e)
+  refers-nothing g = ap (λ x. refers_to (Some a.0) (predicate_option x)) (sym g) ∙ ap (λ x. refers_to (predicate_option x) (predicate_option q)) (sym e)
 
-  pub refers-both : (b : PredicateId) → q ≡ Mp.Just b → eqb a.0 b.0 ≡ refers_to (predicate_option p) (predicate_option q)
+  pub refers-both : (b : PredicateId) → q ≡ Some b → eqb a.0 b.0 ≡ refers_to (predicate_option p) (predicate_option q)
   unfolding refers_to
-  refers-both b g = ap (λ x. refers_to (some a.0) (predicate_option x)) (sym g) ∙ ap (λ x. refers_to (predicate_option x) (predicate_option q)) (sym e)
+  refers-both b g = ap (λ x. refers_to (Some a.0) (predicate_option x)) (sym g) ∙ ap (λ x. refers_to (predicate_option x) (predicate_option q)) (sym e)
 
 module _ (T : Tables) (a : ℕ) (below : FieldWalk State) (n from t : ℕ) (path : File.FieldPath) (s₀ : State) where
   module _ (p : Option ℕ) (b : Bool) (q : Option ℕ) (eb : b ≡ refers_to p q) (eq : q ≡ fact_ty (type_at T t)) where
@@ -76,7 +74,7 @@ module _ (T : Tables) (a n t : ℕ) (path : File.FieldPath) (s₀ : State) where
     by_kind : (kind : SlotKind) → slot.kind ≡ kind → meeting T a n (slot_with kind slot.path) t path s₀ ≡ whole
     by_kind kind e = ap (λ (x : SlotKind). meeting T a n (slot_with x slot.path) t path s₀) (sym e)
 
-    pub of_row : (from : Address) (p : MaybePredicate) → slot.kind ≡ Sk.Row from p → (s : State) → ((b : ℕ) (below : FieldWalk State) → s ≡ matched (ops T) T b below n (File.Slot.Row from.0 (predicate_option p)) t path s₀) → s ≡ whole
+    pub of_row : (from : Address) (p : Option PredicateId) → slot.kind ≡ Sk.Row from p → (s : State) → ((b : ℕ) (below : FieldWalk State) → s ≡ matched (ops T) T b below n (File.Slot.Row from.0 (predicate_option p)) t path s₀) → s ≡ whole
     unfolding meeting
     of_row from p e s g = g a still ∙ by_kind (Sk.Row from p) e
 
@@ -110,7 +108,7 @@ module _ (T : Tables) (a n t : ℕ) (path : File.FieldPath) (w r : Walk) where
     abbrev met : Slot → Type 0
     met slot = walk_state T r work plan' ≡ meeting T a n (slot_of slot) t path (walk_state T w work plan)
 
-    pub meets-row : (from : Address) → narrows (Narrowing.FactId from.0) → (slot : Slot) (p : MaybePredicate) → slot.kind ≡ Sk.Row from p → (b : Bool) (q : Option ℕ) → b ≡ refers_to (predicate_option p) q → q ≡ fact_ty (type_at T t) → b ≡ true → met slot
+    pub meets-row : (from : Address) → narrows (Narrowing.FactId from.0) → (slot : Slot) (p : Option PredicateId) → slot.kind ≡ Sk.Row from p → (b : Bool) (q : Option ℕ) → b ≡ refers_to (predicate_option p) q → q ≡ fact_ty (type_at T t) → b ≡ true → met slot
     meets-row from o slot p e b q eb eq h =
         of_row T a n t path (walk_state T w work plan) slot from p e (walk_state T r work plan')
         (λ i below. row-refers T i below n from.0 t path (walk_state T w work plan) (predicate_option p) b q eb eq h (walk_state T r work plan') (o T work))
@@ -134,7 +132,7 @@ module _ (T : Tables) (a n t : ℕ) (path : File.FieldPath) (w r : Walk) where
     abbrev told : Slot → Type 0
     told slot = walk_state T r work' plan ≡ meeting T a n (slot_of slot) t path (walk_state T w work plan)
 
-    pub meets-mistyped : reports Code.RejectTypeMismatch (λ s. s) → (slot : Slot) (from : Address) (p : MaybePredicate) → slot.kind ≡ Sk.Row from p → (b : Bool) (q : Option ℕ) → b ≡ refers_to (predicate_option p) q → q ≡ fact_ty (type_at T t) → b ≡ false → told slot
+    pub meets-mistyped : reports Code.RejectTypeMismatch (λ s. s) → (slot : Slot) (from : Address) (p : Option PredicateId) → slot.kind ≡ Sk.Row from p → (b : Bool) (q : Option ℕ) → b ≡ refers_to (predicate_option p) q → q ≡ fact_ty (type_at T t) → b ≡ false → told slot
     meets-mistyped o slot from p e b q eb eq h =
         of_row T a n t path (walk_state T w work plan) slot from p e (walk_state T r work' plan)
         (λ i below. row_other T i below n from.0 t path (walk_state T w work plan) (predicate_option p) b q eb eq h (walk_state T r work' plan) (o T plan))

@@ -2,8 +2,7 @@
 use Prim.Native.Nat.{ℕ, ◌+◌, ◌*◌, ◌≤◌, ◌<◌}
 use mathlib.Core.Path.{◌≡◌, refl, sym, ap, ◌∙◌, subst}
 use mathlib.Core.List.{List, []}
-use mathlib.Core.Option
-use mathlib.Core.Option.{Option, none, some}
+use Rattle.std.specs.Prelude.{Option, None, Some, unwrap_or}
 use native.Mathlib.Omega.{arith}
 use lib.ListN.{length, get_or}
 use Rattle.rules.specs.File as File
@@ -15,46 +14,43 @@ use Rattle.rules.proofs.Keeps.{record-children}
 use Rattle.views.specs.Views.{run, field_at, pattern_at, field_of}
 use Rattle.views.specs.declared.FieldTy.{FieldTy}
 use Rattle.views.proofs.Runs.{run_at, length_run}
-use Rattle.tables.specs.Tables.{SeenRun, found_option}
-use Rattle.tables.specs.declared.Found.{Found}
-use Rattle.tables.specs.declared.Run.{Run}
-use Rattle.tables.specs.declared.Run.TheVariants as Ru
+use Rattle.tables.specs.Tables.{SeenRun}
 use Rattle.field_cases.specs.Pieces.{Lower, patterns_of, open_fields, fields_for, no_places, Opened, no_field, Pieced}
 use Rattle.field_cases.specs.declared.Places.{Places}
 
 -- a run's records are inside the file
-pub run_inside : {A : Type 0} (f : List ℕ) (g : ℕ → A) (w : ℕ) (o : Option (List A)) (r : Run) → SeenRun f g w o r → (k from : ℕ) → r ≡ Ru.Just k from → from + w * k ≤ length f
+pub run_inside : {A : Type 0} (f : List ℕ) (g : ℕ → A) (w : ℕ) (o : Option (List A)) (r : Option (ℕ × ℕ)) → SeenRun f g w o r → (k from : ℕ) → r ≡ Some (k, from) → from + w * k ≤ length f
 run_inside f g w o r s k from e = (subst (SeenRun f g w o) e s).inside
 
-none_open : (o : Option (List File.FieldPattern)) → open_fields o none ≡ []
+none_open : (o : Option (List File.FieldPattern)) → open_fields o None ≡ []
 unfolding open_fields
-none_open none = refl
-none_open (some ps) = refl
+none_open None = refl
+none_open (Some ps) = refl
 
-module _ (f : List ℕ) (T : Tables) (n t : ℕ) (a : Run) (pairs : SeenRun f (pattern_at f) 4 (record_fields (node_at T n)) a) where
-  pub no_pairs : a ≡ Ru.Nothing → fields_for T n t ≡ []
+module _ (f : List ℕ) (T : Tables) (n t : ℕ) (a : Option (ℕ × ℕ)) (pairs : SeenRun f (pattern_at f) 4 (record_fields (node_at T n)) a) where
+  pub no_pairs : a ≡ None → fields_for T n t ≡ []
   unfolding fields_for open_fields
   no_pairs e = ap (λ o. open_fields o (record_ty (type_at T t))) (sym (subst (SeenRun f (pattern_at f) 4 (record_fields (node_at T n))) e pairs).is)
 
-  module _ (b : Run) (fields : SeenRun f (field_at f) 4 (record_ty (type_at T t)) b) where
-    pub no_fields : b ≡ Ru.Nothing → fields_for T n t ≡ []
+  module _ (b : Option (ℕ × ℕ)) (fields : SeenRun f (field_at f) 4 (record_ty (type_at T t)) b) where
+    pub no_fields : b ≡ None → fields_for T n t ≡ []
     unfolding fields_for
     no_fields e = ap (open_fields (record_fields (node_at T n))) (sym (subst (SeenRun f (field_at f) 4 (record_ty (type_at T t))) e fields).is) ∙ none_open (record_fields (node_at T n))
 
-    module _ (m at k from : ℕ) (ea : a ≡ Ru.Just m at) (eb : b ≡ Ru.Just k from) where
-      pairs-are : record_fields (node_at T n) ≡ some (run (pattern_at f) 4 m at)
+    module _ (m at k from : ℕ) (ea : a ≡ Some (m, at)) (eb : b ≡ Some (k, from)) where
+      pairs-are : record_fields (node_at T n) ≡ Some (run (pattern_at f) 4 m at)
       pairs-are = sym (subst (SeenRun f (pattern_at f) 4 (record_fields (node_at T n))) ea pairs).is
 
-      type-is : record_ty (type_at T t) ≡ some (run (field_at f) 4 k from)
+      type-is : record_ty (type_at T t) ≡ Some (run (field_at f) 4 k from)
       type-is = sym (subst (SeenRun f (field_at f) 4 (record_ty (type_at T t))) eb fields).is
 
       pub fields-are : fields_for T n t ≡ run (field_at f) 4 k from
       unfolding fields_for open_fields
-      fields-are = ap (λ o. open_fields o (record_ty (type_at T t))) pairs-are ∙ ap (open_fields (some (run (pattern_at f) 4 m at))) type-is
+      fields-are = ap (λ o. open_fields o (record_ty (type_at T t))) pairs-are ∙ ap (open_fields (Some (run (pattern_at f) 4 m at))) type-is
 
       pub patterns-are : patterns_of T n ≡ run (pattern_at f) 4 m at
       unfolding patterns_of
-      patterns-are = ap (λ o. Option.get_or o []) pairs-are
+      patterns-are = ap (λ o. unwrap_or o []) pairs-are
 
       pub opened_both : Opened f T n t (record { count = k; pairs = m; at = at; from = from })
       opened_both =
@@ -86,8 +82,8 @@ module _ (f : List ℕ) (T : Tables) (n t : ℕ) (r : Places) (o : Opened f T n 
         let c : Child T t v.ty = subst (λ (x : File.FieldTy). Child T t x.type) (ap (λ fs. get_or fs i no_field) (sym o.fields) ∙ field_is) e in
         record { lower = c.lower; known = c.in-types; less-deep = c.less-deep }
 
-    module _ (q : Found) (eq : found_option q ≡ field_pattern (run (pattern_at f) 4 r.pairs r.at) v.name) where
-      found-is : found_option q ≡ field_pattern (patterns_of T n) (get_or (fields_for T n t) i no_field).name
+    module _ (q : Option ℕ) (eq : q ≡ field_pattern (run (pattern_at f) 4 r.pairs r.at) v.name) where
+      found-is : q ≡ field_pattern (patterns_of T n) (get_or (fields_for T n t) i no_field).name
       found-is = eq ∙ ap (λ ps. field_pattern ps v.name) (sym (o.patterns (omega arith))) ∙ ap (λ (x : File.FieldTy). field_pattern (patterns_of T n) x.name) (sym field_is)
 
       pub piece_is : Pieced T n t i (record { pattern = q; ty = v.ty })

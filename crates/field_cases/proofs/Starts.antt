@@ -1,9 +1,10 @@
 -- How `field` goes on, by the pattern's kind.
+use Rattle.slots.specs.declared.Slot.{Slot}
 use Prim.Native.Nat.{ℕ}
 use mathlib.Core.Path.{◌≡◌, refl, sym, ap, ◌∙◌, subst}
 use mathlib.Core.Bool.{Bool, true, false}
 use mathlib.Core.List.{List, [], ◌∷◌}
-use mathlib.Core.Option.{Option, none, some}
+use Rattle.std.specs.Prelude.{Option, None, Some}
 use types.Run.{OneOf, miss}
 use denote.Enum.Declared.{tag_of}
 use Rattle.rules.specs.Base.{◌when_some◌}
@@ -18,12 +19,7 @@ use Rattle.views.specs.declared.NodeView.TheVariants as Nv
 use Rattle.views.specs.declared.Anchor.{Anchor}
 use Rattle.views.specs.contracts.NodeView as NodeViews
 use Rattle.slots.specs.Slots.{slot_option, IsSlot}
-use Rattle.slots.specs.declared.MaybeSlot.{MaybeSlot}
-use Rattle.tables.specs.Tables.{found_option, SeenRun}
-use Rattle.tables.specs.declared.Found.{Found}
-use Rattle.tables.specs.declared.Found.TheVariants as Fo
-use Rattle.tables.specs.declared.Run.{Run}
-use Rattle.tables.specs.declared.Run.TheVariants as Ru
+use Rattle.tables.specs.Tables.{SeenRun}
 use Rattle.lists.specs.Lists.{state_with}
 use Rattle.lists.specs.declared.Lists.{Lists}
 use Rattle.walk.specs.Walk.{walk_state, lists_of}
@@ -35,7 +31,7 @@ use Rattle.field_cases.specs.declared.Way.{Way}
 use Rattle.field_cases.specs.declared.Way.TheVariants as Wy
 
 -- a name looked up, whatever the level
-pub looked-up : (T : Tables) (x : ℕ) (m : MaybeSlot) (w : Walk) (l : Lists) (work plan : List ℕ) → l ≡ lists_of w → ((level : Level) (g : Target) (p : List ℕ) → IsSlot ((ops T).lookup (state_with l level g work p) x) m) → slot_option m ≡ (ops T).lookup (walk_state T w work plan) x
+pub looked-up : (T : Tables) (x : ℕ) (m : Option Slot) (w : Walk) (l : Lists) (work plan : List ℕ) → l ≡ lists_of w → ((level : Level) (g : Target) (p : List ℕ) → IsSlot ((ops T).lookup (state_with l level g work p) x) m) → slot_option m ≡ (ops T).lookup (walk_state T w work plan) x
 looked-up T x m w l work plan e k = (k _ _ plan).is ∙ ap (λ (s : State). (ops T).lookup s x) (lists-of T w l work plan e)
 
 -- a new variable, bound and constrained
@@ -43,22 +39,22 @@ pub captured-is : (T : Tables) (a x t : ℕ) (path : File.FieldPath) (s₀ : Sta
 captured-is T a x t path s₀ slot s₁ s₂ es e₁ e₂ = e₂ ∙ ap (constrain (ops T) T x t path) (e₁ ∙ ap (λ (y : File.Slot). bind x y s₀) es)
 
 -- a Record against a Union, as the code reads them
-module _ (f : List ℕ) (o : Option (List FieldPattern)) (u : Option (List Alternative)) (r : Run) (k : SeenRun f (pattern_at f) 4 o r) where
-  pub no_record_lem : r ≡ Ru.Nothing → false ≡ is_injection o u
+module _ (f : List ℕ) (o : Option (List FieldPattern)) (u : Option (List Alternative)) (r : Option (ℕ × ℕ)) (k : SeenRun f (pattern_at f) 4 o r) where
+  pub no_record_lem : r ≡ None → false ≡ is_injection o u
   unfolding is_injection
   no_record_lem e = ap (λ (p : Option (List FieldPattern)). is_injection p u) (subst (SeenRun f (pattern_at f) 4 o) e k).is
 
-  module _ (i at : ℕ) (e : r ≡ Ru.Just i at) (q : Run) (l : SeenRun f (alternative_at f) 8 u q) where
-    as_some : is_injection (some (run (pattern_at f) 4 i at)) u ≡ is_injection o u
+  module _ (i at : ℕ) (e : r ≡ Some (i, at)) (q : Option (ℕ × ℕ)) (l : SeenRun f (alternative_at f) 8 u q) where
+    as_some : is_injection (Some (run (pattern_at f) 4 i at)) u ≡ is_injection o u
     as_some = ap (λ (p : Option (List FieldPattern)). is_injection p u) (subst (SeenRun f (pattern_at f) 4 o) e k).is
 
-    pub no-union : q ≡ Ru.Nothing → false ≡ is_injection o u
+    pub no-union : q ≡ None → false ≡ is_injection o u
     unfolding is_injection
-    no-union g = ap (is_injection (some (run (pattern_at f) 4 i at))) (subst (SeenRun f (alternative_at f) 8 u) g l).is ∙ as_some
+    no-union g = ap (is_injection (Some (run (pattern_at f) 4 i at))) (subst (SeenRun f (alternative_at f) 8 u) g l).is ∙ as_some
 
-    pub record-and-union : (j from : ℕ) → q ≡ Ru.Just j from → true ≡ is_injection o u
+    pub record-and-union : (j from : ℕ) → q ≡ Some (j, from) → true ≡ is_injection o u
     unfolding is_injection
-    record-and-union j from g = ap (is_injection (some (run (pattern_at f) 4 i at))) (subst (SeenRun f (alternative_at f) 8 u) g l).is ∙ as_some
+    record-and-union j from g = ap (is_injection (Some (run (pattern_at f) 4 i at))) (subst (SeenRun f (alternative_at f) 8 u) g l).is ∙ as_some
 
 -- the kinds that are read, or are constants
 literal-as : (f : List ℕ) (c : Bool) (v : NodeView) → OneOf (0 ∷ 1 ∷ 2 ∷ 8 ∷ 9 ∷ 10 ∷ 11 ∷ 13 ∷ 14 ∷ 15 ∷ 16 ∷ []) (tag_of NodeViews.the_type v) → literal_way c ≡ node_way c (node_of f v)
@@ -125,21 +121,21 @@ module _ (T : Tables) (n t : ℕ) (b : Bool) (kb : b ≡ is_injection (record_fi
     as-literal w r q = q ∙ literal-as f (is_constant T n) v w ∙ seen_as v refl
 
 -- the pattern that a record key walks into
-module _ (T : Tables) (t : ℕ) (p : Found) where
-  pub none-walked : p ≡ Fo.Nothing → none ≡ walked_pattern T t (found_option p)
+module _ (T : Tables) (t : ℕ) (p : Option ℕ) where
+  pub none-walked : p ≡ None → None ≡ walked_pattern T t (p)
   unfolding walked_pattern ◌when_some◌
-  none-walked e = ap (λ (x : Found). walked_pattern T t (found_option x)) (sym e)
+  none-walked e = ap (λ (x : Option ℕ). walked_pattern T t (x)) (sym e)
 
-  module _ (n : ℕ) (e : p ≡ Fo.Just n) (way : Way) (k : way ≡ way_at T n t) (b : Bool) (kb : b ≡ is_skip way) where
+  module _ (n : ℕ) (e : p ≡ Some n) (way : Way) (k : way ≡ way_at T n t) (b : Bool) (kb : b ≡ is_skip way) where
     abbrev walked_by : Bool → Option ℕ
-    walked_by x = elim x [ true ↦ none | false ↦ some n ]
+    walked_by x = elim x [ true ↦ None | false ↦ Some n ]
 
-    walked-is : (x : Bool) → b ≡ x → walked_by x ≡ walked_pattern T t (found_option p)
+    walked-is : (x : Bool) → b ≡ x → walked_by x ≡ walked_pattern T t (p)
     unfolding walked_pattern ◌when_some◌
-    walked-is x d = ap walked_by (sym d ∙ kb ∙ ap is_skip k) ∙ ap (λ (y : Found). walked_pattern T t (found_option y)) (sym e)
+    walked-is x d = ap walked_by (sym d ∙ kb ∙ ap is_skip k) ∙ ap (λ (y : Option ℕ). walked_pattern T t (y)) (sym e)
 
-    pub skip-walked : b ≡ true → none ≡ walked_pattern T t (found_option p)
+    pub skip-walked : b ≡ true → None ≡ walked_pattern T t (p)
     skip-walked d = walked-is true d
 
-    pub other-walked : b ≡ false → some n ≡ walked_pattern T t (found_option p)
+    pub other-walked : b ≡ false → Some n ≡ walked_pattern T t (p)
     other-walked d = walked-is false d

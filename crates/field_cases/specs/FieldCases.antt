@@ -1,6 +1,5 @@
 -- What `field`, `matched` and `inject` come to before they go on into their cycle.
-use Rattle.std.specs.Prelude.{ℕ, Bool, true, false, List}
-use Rattle.std.proofs.Math.Option.{Option, none, some}
+use Rattle.std.specs.Prelude.{ℕ, Bool, true, false, List, Option, None, Some}
 use Rattle.rules.specs.Base.{◌when_some◌}
 use Rattle.rules.specs.File as File
 use Rattle.rules.specs.File.{Tables, Node, FieldPattern, Alternative, type_at, node_at, is_constant, record_fields, union_ty}
@@ -13,14 +12,13 @@ use Rattle.lists.specs.declared.Code.TheVariants as Co
 use Rattle.field_cases.specs.declared.Way.{Way}
 use Rattle.field_cases.specs.declared.Way.TheVariants as Wy
 use Rattle.field_cases.specs.declared.Choice as Code-choice
-use Rattle.field_cases.specs.declared.Choice.TheVariants as Ch
 use Rattle.field_cases.specs.declared.Chosen.{Chosen}
 
 -- a Record against a Union
 unfoldable pub is_injection : Option (List FieldPattern) → Option (List Alternative) → Bool
-is_injection none alts = false
-is_injection (some fields) none = false
-is_injection (some fields) (some alts) = true
+is_injection None alts = false
+is_injection (Some fields) None = false
+is_injection (Some fields) (Some alts) = true
 
 -- a walk of the types below that does nothing, for what goes no deeper
 abbrev pub still : FieldWalk State
@@ -68,7 +66,7 @@ is_skip (Wy.Variable x) = false
 is_skip Wy.Read = false
 
 unfoldable pub walked_pattern : Tables → ℕ → Option ℕ → Option ℕ
-walked_pattern T t pattern = pattern when_some λ n. elim (is_skip (way_at T n t)) [ true ↦ none | false ↦ some n ]
+walked_pattern T t pattern = pattern when_some λ n. elim (is_skip (way_at T n t)) [ true ↦ None | false ↦ Some n ]
 
 -- `matched` of a slot that is no constant; a constant changes nothing here
 unfoldable pub meeting : Tables → ℕ → ℕ → File.Slot → ℕ → File.FieldPath → State → State
@@ -91,47 +89,47 @@ pub record Choosing : Type 0 where
   pub state : State
 
 abbrev pub unchosen : State → Choosing
-unchosen s = record { payload = none; state = s }
+unchosen s = record { payload = None; state = s }
 
-abbrev pub payload_of : Code-choice.Choice → Option Payload
-payload_of Ch.Nothing = none
-payload_of (Ch.Just disc n t) = some (record { disc = disc; node = n; type = t })
+abbrev pub payload_of : Option Code-choice.Choice → Option Payload
+payload_of None = None
+payload_of (Some c) = Some (record { disc = c.disc; node = c.node; type = c.ty })
 
 abbrev pub choosing_of : Chosen → State → Choosing
 choosing_of r s = record { payload = payload_of r.choice; state = s }
 
 -- a union value's one pair names its alternative
 unfoldable pub named_choice : FieldPattern → Option Alternative → ℕ → State → Choosing
-named_choice f none n s = unchosen (report n Code.RejectUnknownAlternative (skip s))
-named_choice f (some alt) n s = record { payload = some (record { disc = alt.disc; node = f.node; type = alt.type }); state = s }
+named_choice f None n s = unchosen (report n Code.RejectUnknownAlternative (skip s))
+named_choice f (Some alt) n s = record { payload = Some (record { disc = alt.disc; node = f.node; type = alt.type }); state = s }
 
 unfoldable pub only_choice : Option FieldPattern → List Alternative → ℕ → State → Choosing
-only_choice none alts n s = unchosen (report n Code.RejectUnionArity (skip s))
-only_choice (some f) alts n s = named_choice f (alternative_of alts f.name) n s
+only_choice None alts n s = unchosen (report n Code.RejectUnionArity (skip s))
+only_choice (Some f) alts n s = named_choice f (alternative_of alts f.name) n s
 
 unfoldable pub alternative_choice : Option (List FieldPattern) → Option (List Alternative) → ℕ → State → Choosing
-alternative_choice none alts n s = unchosen s
-alternative_choice (some fields) none n s = unchosen s
-alternative_choice (some fields) (some alts) n s = only_choice (only_field fields) alts n s
+alternative_choice None alts n s = unchosen s
+alternative_choice (Some fields) None n s = unchosen s
+alternative_choice (Some fields) (Some alts) n s = only_choice (only_field fields) alts n s
 
 -- `inject`: the whole union's constant, or else the alternative that is walked
 unfoldable pub choosing : Tables → ℕ → ℕ → File.FieldPath → State → Choosing
 choosing T n t path s =
     elim (constant T n t) [
-      | some c ↦ unchosen (narrow_by (ops T) T n c path s)
-      | none ↦ alternative_choice (record_fields (node_at T n)) (union_ty (type_at T t)) n s
+      | Some c ↦ unchosen (narrow_by (ops T) T n c path s)
+      | None ↦ alternative_choice (record_fields (node_at T n)) (union_ty (type_at T t)) n s
     ]
 
 module _ (T : Tables) (address : ℕ) (below : FieldWalk State) where
   -- `inject` of the written rules where the node is a Record and the type a Union; of anything else, nothing
   unfoldable pub inject_fields : Option (List FieldPattern) → Option (List Alternative) → ℕ → File.FieldPath → State → State
-  inject_fields none alts n path s = s
-  inject_fields (some fields) none n path s = s
-  inject_fields (some fields) (some alts) n path s = inject_only (ops T) T address below n (only_field fields) alts path s
+  inject_fields None alts n path s = s
+  inject_fields (Some fields) None n path s = s
+  inject_fields (Some fields) (Some alts) n path s = inject_only (ops T) T address below n (only_field fields) alts path s
 
   unfoldable pub inject_at : FieldWalk State
   inject_at n t path s =
       elim (constant T n t) [
-        | some c ↦ narrow_by (ops T) T n c path s
-        | none ↦ inject_fields (record_fields (node_at T n)) (union_ty (type_at T t)) n path s
+        | Some c ↦ narrow_by (ops T) T n c path s
+        | None ↦ inject_fields (record_fields (node_at T n)) (union_ty (type_at T t)) n path s
       ]

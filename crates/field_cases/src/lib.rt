@@ -1,7 +1,7 @@
 // What a member of the walk's cycle does before it goes on into the cycle: the cycle itself then holds the recursion and nothing else.
 #![tactic(auto)]
 
-ghost use Rattle.std.specs.Prelude.{◌≡◌, List, ℕ, ◌<◌, length};
+ghost use Rattle.std.specs.Prelude.{◌≡◌, List, ℕ, ◌<◌, length, None};
 ghost use Rattle.rules.specs.Limits.{file_limit};
 ghost use Rattle.rules.specs.File as File;
 ghost use Rattle.rules.specs.Base.{either};
@@ -14,10 +14,10 @@ ghost use Rattle.paths.specs.Paths.{path_of};
 ghost use Rattle.views.specs.Views.{node_entry, pattern_at, predicate_option};
 ghost use Rattle.slots.specs.Slots.{slot_of};
 ghost use Rattle.accepted_file.specs.AcceptedFile.{AcceptedFile};
-ghost use Rattle.tables.specs.Tables.{found_option, pairs_in, SeenRun};
+ghost use Rattle.tables.specs.Tables.{pairs_in, SeenRun};
 ghost use Rattle.tables.specs.Recalled.{quiet_in};
 ghost use Rattle.walk.specs.Walk.{walk_state};
-ghost use Rattle.field_cases.specs.Pieces.{Fits, no_places, Opened, Pieced};
+ghost use Rattle.field_cases.specs.Pieces.{no_places, Opened, Pieced};
 ghost use Rattle.field_cases.specs.FieldCases.{is_injection, literal_way, way_at, is_skip, walked_pattern, meeting};
 ghost use Rattle.field_cases.specs.FieldCases.{choosing_of, alternative_choice, choosing};
 ghost use Rattle.field_cases.specs.Silent.{empty_at};
@@ -25,13 +25,11 @@ ghost use Rattle.field_cases.specs.Silent.{empty_at};
 use constrain::{constrain, is_nothing, known, narrow};
 use fields::fact_ty;
 use lists::Code;
-use paths::{Address, FieldPath};
+use paths::{Address, FieldPath, PredicateId};
 use resolve::constant_node;
 use slots::{Slot, SlotKind};
-use tables::{
-    Found, MaybeAlternative, Run, alternative_of, field_pattern, is_quiet, record_ty, union_ty,
-};
-use views::{MaybePredicate, NodeView, field_pattern_at, field_ty_at, node_of};
+use tables::{alternative_of, field_pattern, is_quiet, record_ty, union_ty};
+use views::{NodeView, field_pattern_at, field_ty_at, node_of};
 use walk::Walk;
 
 // How `field` goes on, by the pattern's kind: a union value, a skip, a diagnostic with a skip, a range or a guide, a constant, a variable
@@ -47,16 +45,17 @@ pub enum Way {
     Read,
 }
 
-// The alternative that `inject` goes on with, if any: its disc, its payload's pattern and type.
+// The alternative that `inject` goes on with: its disc, its payload's pattern and type.
 #[derive(Clone, Copy)]
-pub enum Choice {
-    Nothing,
-    Just(u32, usize, usize),
+pub struct Choice {
+    pub disc: u32,
+    pub node: usize,
+    pub ty: usize,
 }
 
 #[derive(Clone, Copy)]
 pub struct Chosen {
-    pub choice: Choice,
+    pub choice: Option<Choice>,
     pub walk: Walk,
 }
 
@@ -72,12 +71,12 @@ pub struct Places {
 // A field's type, and the pattern that it is given.
 #[derive(Clone, Copy)]
 pub struct Piece {
-    pub pattern: Found,
+    pub pattern: Option<usize>,
     pub ty: usize,
 }
 
 // A Record's pairs, of any node.
-pub fn pairs_of(file: &[u8], index: &[u16], node: usize) -> Run
+pub fn pairs_of(file: &[u8], index: &[u16], node: usize) -> Option<(usize, usize)>
     requires { Indexed file.now index.now }
     ensures shows { let f = file.now in
         SeenRun f (pattern_at f) 4 (record_fields (node_at (tables_of f) node)) result }
@@ -85,9 +84,9 @@ pub fn pairs_of(file: &[u8], index: &[u16], node: usize) -> Run
         result ≡ pairs_in (node_entry (tables_of f) f index.now node) }
 {
     if let NodeView::Record(k, at) = node_of(file, index, node) {
-        Run::Just(k, at)
+        Some((k, at))
     } else {
-        Run::Nothing
+        None
     }
 }
 
@@ -110,10 +109,10 @@ pub fn pieces(file: &[u8], index: &[u16], node: usize, ty: usize) -> Places
     ensures opens { Opened file.now (tables_of file.now) node ty result }
     ensures bounded { result.count < file_limit }
 {
-    let Run::Just(pairs, at) = pairs_of(file, index, node) else {
+    let Some((pairs, at)) = pairs_of(file, index, node) else {
         return closed();
     };
-    if let Run::Just(count, from) = record_ty(file, index, ty) {
+    if let Some((count, from)) = record_ty(file, index, ty) {
         Places {
             count,
             pairs,
@@ -151,17 +150,16 @@ fn is_empty_at(file: &[u8], index: &[u16], node: usize, ty: usize) -> bool
     requires ty_in_bounds { ty < length (tables_of file.now).types }
     ensures { result ≡ empty_at (tables_of file.now) node ty }
 {
-    let Run::Just(pairs, _) = pairs_of(file, index, node) else {
+    let Some((pairs, _)) = pairs_of(file, index, node) else {
         return false;
     };
     if pairs > 0 {
         return false;
     }
-    if let Run::Just(count, _) = record_ty(file, index, ty) {
-        0 < count
-    } else {
-        false
-    }
+    let Some((count, _)) = record_ty(file, index, ty) else {
+        return false;
+    };
+    count > 0
 }
 
 // Whether a field's pattern is known to give nothing but a skip before it is walked: a constant that is remembered to, or a Record that
@@ -172,10 +170,7 @@ pub fn is_silent(file: &[u8], index: &[u16], node: usize, ty: usize) -> bool
     ensures { let T = tables_of file.now in
         result ≡ either (quiet_in T index.now node ty) (empty_at T node ty) }
 {
-    if is_quiet(file, index, node, ty) {
-        return true;
-    }
-    is_empty_at(file, index, node, ty)
+    is_quiet(file, index, node, ty) || is_empty_at(file, index, node, ty)
 }
 
 // The kinds that another phase reports.
@@ -183,13 +178,10 @@ fn is_deferred(file: &[u8], index: &[u16], node: usize) -> bool
     requires { Indexed file.now index.now }
     ensures { result ≡ WalkRules.deferred (node_at (tables_of file.now) node) }
 {
-    match node_of(file, index, node) {
-        NodeView::Never => true,
-        NodeView::Disjunction => true,
-        NodeView::Subquery => true,
-        NodeView::Error => true,
-        _ => false,
-    }
+    matches!(
+        node_of(file, index, node),
+        NodeView::Never | NodeView::Disjunction | NodeView::Subquery | NodeView::Error
+    )
 }
 
 // A read that gave no slot is reported where nothing else told why: `mark` is where the diagnostics ended before it.
@@ -208,11 +200,8 @@ pub fn unresolved(
         let after = walk_state T result work.new plan in
         after ≡ WalkRules.unresolved (ops T) T node earlier before }
 {
-    if is_deferred(file, index, node) {
-        return w.skip();
-    }
     let ends = w.ends;
-    if ends.diagnostics == mark {
+    if !is_deferred(file, index, node) && ends.diagnostics == mark {
         return w.diagnose(work, node, Code::RejectUnresolvedAccess, true);
     }
     w.skip()
@@ -250,14 +239,10 @@ fn is_injection(file: &[u8], index: &[u16], node: usize, ty: usize) -> bool
     ensures { let T = tables_of file.now in
         result ≡ is_injection (record_fields (node_at T node)) (union_ty (type_at T ty)) }
 {
-    let Run::Just(_, _) = pairs_of(file, index, node) else {
+    let Some((_, _)) = pairs_of(file, index, node) else {
         return false;
     };
-    if let Run::Just(_, _) = union_ty(file, index, ty) {
-        true
-    } else {
-        false
-    }
+    matches!(union_ty(file, index, ty), Some((_, _)))
 }
 
 // A constant is its own location; anything else is read.
@@ -295,44 +280,37 @@ pub fn way_of(file: &[u8], index: &[u16], node: usize, ty: usize) -> Way
 fn is_skip(way: Way) -> bool
     ensures { result ≡ is_skip way }
 {
-    match way {
-        Way::Union => false,
-        Way::Skip => true,
-        Way::Report(_) => false,
-        Way::Range => false,
-        Way::Constant => false,
-        Way::Variable(_) => false,
-        Way::Read => false,
-    }
+    matches!(way, Way::Skip)
 }
 
 // The pattern of a field that a record key walks into: a Wildcard closes the seek, as a field does that no pattern names.
-pub fn walked_pattern(file: &[u8], index: &[u16], pattern: Found, ty: usize) -> Found
+pub fn walked_pattern(
+    file: &[u8],
+    index: &[u16],
+    pattern: Option<usize>,
+    ty: usize,
+) -> Option<usize>
     requires accepted_file { AcceptedFile file.now index.now }
     requires ty_in_bounds { ty < length (tables_of file.now).types }
-    ensures { found_option result ≡ walked_pattern (tables_of file.now) ty (found_option pattern) }
+    ensures { result ≡ walked_pattern (tables_of file.now) ty (pattern) }
 {
-    let Found::Just(n) = pattern else {
-        return Found::Nothing;
+    let Some(n) = pattern else {
+        return None;
     };
     if is_skip(way_of(file, index, n, ty)) {
-        Found::Nothing
+        None
     } else {
-        Found::Just(n)
+        Some(n)
     }
 }
 
 // Whether a row's predicate is the one that a field refers to.
-fn refers_to(p: MaybePredicate, referenced: MaybePredicate) -> bool
+fn refers_to(p: Option<PredicateId>, referenced: Option<PredicateId>) -> bool
     ensures { result ≡ WalkRules.refers_to (predicate_option p) (predicate_option referenced) }
 {
-    let MaybePredicate::Just(a) = p else {
-        return false;
-    };
-    if let MaybePredicate::Just(b) = referenced {
-        a.0 == b.0
-    } else {
-        false
+    match (p, referenced) {
+        (Some(a), Some(b)) => a.0 == b.0,
+        _ => false,
     }
 }
 
@@ -381,10 +359,10 @@ pub fn meet(
 }
 
 fn unchosen(w: Walk) -> Chosen
-    ensures { result ≡ record { choice = Choice.Nothing; walk = w } }
+    ensures { result ≡ record { choice = None; walk = w } }
 {
     Chosen {
-        choice: Choice::Nothing,
+        choice: None,
         walk: w,
     }
 }
@@ -406,21 +384,28 @@ fn choose_alternative(
         let after = walk_state T result.walk work.new plan in
         choosing_of result after ≡ alternative_choice (record_fields (node_at T node)) (union_ty (type_at T ty)) node before }
 {
-    let Run::Just(k, at) = pairs_of(file, index, node) else {
+    let Some((k, at)) = pairs_of(file, index, node) else {
         return unchosen(w);
     };
-    let Run::Just(m, from) = union_ty(file, index, ty) else {
+    let Some((m, from)) = union_ty(file, index, ty) else {
         return unchosen(w);
     };
     if k != 1 {
         return unchosen(w.diagnose(work, node, Code::RejectUnionArity, true));
     }
     let p = field_pattern_at(file, at, 0);
-    let MaybeAlternative::Just(a) = alternative_of(file, from, m, p.name) else {
+    let Some(a) = alternative_of(file, from, m, p.name) else {
         return unchosen(w.diagnose(work, node, Code::RejectUnknownAlternative, true));
     };
-    let choice = Choice::Just(a.disc, p.node, a.ty);
-    Chosen { choice, walk: w }
+    let choice = Choice {
+        disc: a.disc,
+        node: p.node,
+        ty: a.ty,
+    };
+    Chosen {
+        choice: Some(choice),
+        walk: w,
+    }
 }
 
 // `inject`: the whole union's constant, or else the alternative that is walked.

@@ -7,69 +7,44 @@ ghost use Rattle.rules.specs.File.{type_at, fact_ty, field_path, then};
 ghost use Rattle.rules.specs.Lookup.{field_from, field_of, same_path, fetched_register, folded_field, folded_slot, slot_at, row_field, row_value};
 ghost use Rattle.file.specs.Tables.{Indexed, tables_of};
 ghost use Rattle.paths.specs.Paths.{path_of};
-ghost use Rattle.views.specs.Views.{field_at, path_at, run, fetched_of, predicate_option, type_option, PathInside};
+ghost use Rattle.views.specs.Views.{field_at, path_at, run, fetched_of, predicate_option, PathInside};
 ghost use Rattle.accepted_file.specs.AcceptedFile.{AcceptedFile};
-ghost use Rattle.tables.specs.Tables.{found_option};
 ghost use Rattle.slots.specs.Slots.{IsSlot, ClearRoom};
-ghost use Rattle.fields.specs.Found.{place_of, name_option, address_option, hoisted_name, fetches, value_side};
+ghost use Rattle.fields.specs.Found.{place_of, address_option, hoisted_name, fetches, value_side};
 
 use file::{FETCHED, HOISTED, wide, wide16, word_at};
-use paths::{Address, FieldPath};
+use paths::{Address, FieldPath, PredicateId};
 use records::within;
-use slots::{MaybeSlot, Slot, SlotKind, just, nothing};
-use tables::{Found, field_pattern};
+use slots::{Slot, SlotKind};
+use tables::field_pattern;
 use views::{
-    FetchedView, MaybePredicate, MaybeType, NodeView, TypeView, count_of, fetched_at, field_ty_at,
-    hoisted_at, long_at, node_of, predicate_of, type_of,
+    FetchedView, NodeView, TypeView, count_of, fetched_at, field_ty_at, hoisted_at, long_at,
+    node_of, predicate_of, type_of,
 };
 
-// A field's place in its record type, and its type.
-#[derive(Clone, Copy)]
-pub enum FieldAt {
-    Nothing,
-    Just(u16, usize),
-}
-
-#[derive(Clone, Copy)]
-pub enum MaybeName {
-    Nothing,
-    Just(usize),
-}
-
-#[derive(Clone, Copy)]
-pub enum MaybeAddress {
-    Nothing,
-    Just(Address),
-}
-
 // The field of that name among n fields that start at at.
-fn field_from(file: &[u8], at: usize, n: usize, name: usize) -> FieldAt
+fn field_from(file: &[u8], at: usize, n: usize, name: usize) -> Option<(u16, usize)>
     requires { (at + 4 * n ≤ length file.now) × (n ≤ 65535) }
     ensures { place_of result ≡ field_from 0 (run (field_at file.now) 4 n at) name }
 {
-    let mut i: usize = 0;
-    while i < n {
+    for i in 0..n {
         let f = field_ty_at(file, at, i);
         if f.name == name {
-            return FieldAt::Just(i as u16, f.ty);
+            return Some((i as u16, f.ty));
         }
-        i += 1;
     }
-    FieldAt::Nothing
+    None
 }
 
 // A record type's field by name.
-pub fn field_of(file: &[u8], index: &[u16], ty: usize, name: usize) -> FieldAt
+pub fn field_of(file: &[u8], index: &[u16], ty: usize, name: usize) -> Option<(u16, usize)>
     requires { Indexed file.now index.now }
     ensures { place_of result ≡ field_of (type_at (tables_of file.now) ty) name }
 {
-    match type_of(file, index, ty) {
-        TypeView::Int => FieldAt::Nothing,
-        TypeView::Str => FieldAt::Nothing,
-        TypeView::Bytes => FieldAt::Nothing,
-        TypeView::Fact(p) => FieldAt::Nothing,
-        TypeView::Record(n, at) => field_from(file, at, n, name),
-        TypeView::Union(n, at) => FieldAt::Nothing,
+    if let TypeView::Record(n, at) = type_of(file, index, ty) {
+        field_from(file, at, n, name)
+    } else {
+        None
     }
 }
 
@@ -87,12 +62,10 @@ fn path_is(file: &[u8], at: usize, path: FieldPath) -> bool
         return false;
     }
     let steps = path.steps;
-    let mut i: usize = 0;
-    while i < n {
+    for i in 0..n {
         if long_at(file, at + 3 + 4 * i) != steps[i] {
             return false;
         }
-        i += 1;
     }
     true
 }
@@ -107,8 +80,7 @@ fn fetches(file: &[u8], entry: FetchedView, address: Address, path: FieldPath) -
     if from.0 != address.0 {
         return false;
     }
-    let same = path_is(file, entry.path, path);
-    same
+    path_is(file, entry.path, path)
 }
 
 // The register that the first fetch of this reference fills.
@@ -117,66 +89,65 @@ pub fn fetched_register(
     index: &[u16],
     address: Address,
     path: FieldPath,
-) -> MaybeAddress
+) -> Option<Address>
     requires indexed { Indexed file.now index.now }
     requires count_le_step_limit { path.count ≤ step_limit }
     ensures { let T = tables_of file.now in
         address_option result ≡ fetched_register T address.0 (path_of path) }
 {
     let n = count_of(file, index, FETCHED);
-    let mut i: usize = 0;
-    while i < n {
+    for i in 0..n {
         let f = fetched_at(file, index, i);
         if fetches(file, f, address, path) {
             let register = f.register;
-            return MaybeAddress::Just(register);
+            return Some(register);
         }
-        i += 1;
     }
-    MaybeAddress::Nothing
+    None
 }
 
 // The name of the row that the node was hoisted to: the first entry for the node decides.
-pub fn hoisted_name(file: &[u8], index: &[u16], node: usize) -> MaybeName
+pub fn hoisted_name(file: &[u8], index: &[u16], node: usize) -> Option<usize>
     requires { Indexed file.now index.now }
-    ensures { name_option result ≡ hoisted_name (tables_of file.now) node }
+    ensures { result ≡ hoisted_name (tables_of file.now) node }
 {
     let n = count_of(file, index, HOISTED);
-    let mut k: usize = 0;
-    while k < n {
+    for k in 0..n {
         let h = hoisted_at(file, index, k);
         if h.node == node {
-            return MaybeName::Just(h.name);
+            return Some(h.name);
         }
-        k += 1;
     }
-    MaybeName::Nothing
+    None
 }
 
 // The predicate that a reference's type names.
-pub fn fact_ty(file: &[u8], index: &[u16], ty: usize) -> MaybePredicate
+pub fn fact_ty(file: &[u8], index: &[u16], ty: usize) -> Option<PredicateId>
     requires { Indexed file.now index.now }
     ensures { predicate_option result ≡ fact_ty (type_at (tables_of file.now) ty) }
 {
-    match type_of(file, index, ty) {
-        TypeView::Int => MaybePredicate::Nothing,
-        TypeView::Str => MaybePredicate::Nothing,
-        TypeView::Bytes => MaybePredicate::Nothing,
-        TypeView::Fact(p) => MaybePredicate::Just(p),
-        TypeView::Record(n, at) => MaybePredicate::Nothing,
-        TypeView::Union(n, at) => MaybePredicate::Nothing,
+    if let TypeView::Fact(p) = type_of(file, index, ty) {
+        Some(p)
+    } else {
+        None
     }
 }
 
 // A field of a key, at its own path.
-pub fn key_field(file: &[u8], index: &[u16], address: Address, ty: usize, name: usize) -> MaybeSlot
+pub fn key_field(
+    file: &[u8],
+    index: &[u16],
+    address: Address,
+    ty: usize,
+    name: usize,
+) -> Option<Slot>
     requires { Indexed file.now index.now }
     ensures { let T = tables_of file.now in
         IsSlot (slot_at address.0 field_path (field_of (type_at T ty) name)) result }
 {
     match field_of(file, index, ty, name) {
-        FieldAt::Nothing => nothing(),
-        FieldAt::Just(i, t) => just(Slot::field(address, FieldPath::field(i), t)),
+        None => None,
+        Some((i, t)) => Some(Slot::field(address, FieldPath::field(i), t)),
     }
 }
 
@@ -188,15 +159,15 @@ pub fn path_field(
     path: FieldPath,
     ty: usize,
     name: usize,
-) -> MaybeSlot
+) -> Option<Slot>
     requires accepted_file { AcceptedFile file.now index.now }
     requires clear_room { ClearRoom (tables_of file.now) path ty }
     ensures { let T = tables_of file.now in
         IsSlot (slot_at address.0 (then (path_of path)) (field_of (type_at T ty) name)) result }
 {
     match field_of(file, index, ty, name) {
-        FieldAt::Nothing => nothing(),
-        FieldAt::Just(i, t) => just(Slot::field(address, within(path).then(i as u32), t)),
+        None => None,
+        Some((i, t)) => Some(Slot::field(address, within(path).then(i as u32), t)),
     }
 }
 
@@ -205,16 +176,16 @@ pub fn row_field(
     file: &[u8],
     index: &[u16],
     address: Address,
-    predicate: MaybePredicate,
+    predicate: Option<PredicateId>,
     name: usize,
-) -> MaybeSlot
+) -> Option<Slot>
     requires { Indexed file.now index.now }
     ensures { let T = tables_of file.now in
         IsSlot (row_field T address.0 (predicate_option predicate) name) result }
 {
     match predicate {
-        MaybePredicate::Nothing => nothing(),
-        MaybePredicate::Just(p) => {
+        None => None,
+        Some(p) => {
             let entry = predicate_of(file, index, p);
             key_field(file, index, address, entry.key, name)
         }
@@ -222,12 +193,12 @@ pub fn row_field(
 }
 
 // The value side of a predicate's row.
-fn value_side(address: Address, value: MaybeType) -> MaybeSlot
-    ensures { IsSlot (value_side address.0 (type_option value)) result }
+fn value_side(address: Address, value: Option<usize>) -> Option<Slot>
+    ensures { IsSlot (value_side address.0 (value)) result }
 {
     match value {
-        MaybeType::Nothing => nothing(),
-        MaybeType::Just(t) => just(Slot::plain(SlotKind::Value(address, t))),
+        None => None,
+        Some(t) => Some(Slot::plain(SlotKind::Value(address, t))),
     }
 }
 
@@ -236,15 +207,15 @@ pub fn row_value(
     file: &[u8],
     index: &[u16],
     address: Address,
-    predicate: MaybePredicate,
-) -> MaybeSlot
+    predicate: Option<PredicateId>,
+) -> Option<Slot>
     requires { Indexed file.now index.now }
     ensures { let T = tables_of file.now in
         IsSlot (row_value T address.0 (predicate_option predicate)) result }
 {
     match predicate {
-        MaybePredicate::Nothing => nothing(),
-        MaybePredicate::Just(p) => {
+        None => None,
+        Some(p) => {
             let entry = predicate_of(file, index, p);
             let value = entry.value;
             value_side(address, value)
@@ -253,24 +224,24 @@ pub fn row_value(
 }
 
 // The node that a folded record gives for a name.
-pub fn folded_field(file: &[u8], index: &[u16], folded: usize, name: usize) -> Found
+pub fn folded_field(file: &[u8], index: &[u16], folded: usize, name: usize) -> Option<usize>
     requires { Indexed file.now index.now }
-    ensures { found_option result ≡ folded_field (tables_of file.now) folded name }
+    ensures { result ≡ folded_field (tables_of file.now) folded name }
 {
     if let NodeView::Record(n, at) = node_of(file, index, folded) {
         field_pattern(file, at, n, name)
     } else {
-        Found::Nothing
+        None
     }
 }
 
 // A field of a folded constant is a constant of its own.
-pub fn folded_slot(file: &[u8], index: &[u16], folded: usize, name: usize) -> MaybeSlot
+pub fn folded_slot(file: &[u8], index: &[u16], folded: usize, name: usize) -> Option<Slot>
     requires { Indexed file.now index.now }
     ensures { IsSlot (folded_slot (tables_of file.now) folded name) result }
 {
     match folded_field(file, index, folded, name) {
-        Found::Nothing => nothing(),
-        Found::Just(n) => just(Slot::plain(SlotKind::Const(n))),
+        None => None,
+        Some(n) => Some(Slot::plain(SlotKind::Const(n))),
     }
 }

@@ -18,12 +18,13 @@ use Rattle.rules.specs.Read.Read.{got, refused}
 use Rattle.rules.specs.Read as Read
 use Rattle.file.specs.Steps.{word, step_of, read_at, step_at, skim, record_of, limit_of, base_of, section_of, count_at, starts, entries, sections, filled, index_of, index_length}
 use Rattle.file.specs.Tables.{Stands, Section, Indexed, tables_of, got_tables}
-use Rattle.file.specs.declared.Step.{Step}
-use Rattle.file.specs.declared.Step.TheVariants.{Next, Refused}
 use Rattle.file.proofs.Readers.{lt-or-le, refused-got, refused-next, bind_inv, step-got, step-skim, fixed-u16, needs-fixed, needs-first, cut_short, alike-step}
 use Rattle.file.proofs.Suffix.{Suffix, end-end, faulted, suffix-many, suffix-section, suffix-name, suffix-type, suffix-predicate, suffix-node, suffix-binding, suffix-hoisted, suffix-fetched, suffix-constraint, suffix-comparison, suffix-level}
 use Rattle.file.proofs.Sections.{apart, roomy, word-then, count_next, count-in, section-within, entries-on, sections-more, sections-fault, filled_none, filled_more, ten-sections, alike-section}
 use Rattle.file.proofs.Empty.{indexed-empty}
+use Rattle.std.specs.Prelude.{Result, Ok, Err, OnOk}
+use Rattle.file.specs.Refusals.{numbered}
+use Rattle.file.specs.declared.Refusal.{Refusal}
 
 -- a reading in two parts that succeeded, by position
 pub record Parts {A B : Type 0} (f : List ℕ) (r : Reader A) (k : A → Reader B) (p : ℕ) (b : B) (rest : List ℕ) : Type 0 where
@@ -63,16 +64,16 @@ sets-in (v ∷ vs) l b (suc t) d h g =
     let e : b + suc t ≡ suc b + t = omega arith in
     rw e (sets-in vs (set l b v) (suc b) t d (omega arith) g')
 
-end_of : Step → ℕ
-end_of (Next q) = q
-end_of (Refused x) = 0
+end_of : Result ℕ ℕ → ℕ
+end_of (Ok q) = q
+end_of (Err x) = 0
 
 -- where section s starts
 start : List ℕ → ℕ → ℕ
 start f zero = 0
 start f (suc s) = end_of (step_at f (section_of s) (start f s))
 
-start-next : (f : List ℕ) (s q : ℕ) → step_at f (section_of s) (start f s) ≡ Next q → start f (s + 1) ≡ q
+start-next : (f : List ℕ) (s q : ℕ) → step_at f (section_of s) (start f s) ≡ Ok q → start f (s + 1) ≡ q
 unfolding start end_of
 start-next f s q e = rw add-one (ap end_of e)
 
@@ -93,7 +94,7 @@ module _ {A : Type 0} (f : List ℕ) (s : ℕ) (r : Reader A) (x : Suffix r) (g 
       let w = parts f r (λ (y : A). many n r >>= λ (ys : List A). pure (y ∷ ys)) p xs rest x h e in
       let v = parts f (many n r) (λ (ys : List A). pure (w.value ∷ ys)) w.next xs rest (suffix-many x n) w.within w.then in
       let l = listed n w.next v.value (drop v.next f) w.within v.first in
-      let q : step_at f (record_of s) p ≡ Next w.next = same_step p ∙ step-got f r p w.value w.next w.within w.first in
+      let q : step_at f (record_of s) p ≡ Ok w.next = same_step p ∙ step-got f r p w.value w.next w.within w.first in
       let z : w.value ∷ v.value ≡ xs = cc v.then in
       let u : starts f s (suc n) p ≡ p ∷ starts f s n w.next = simp (starts, q) in
       record {
@@ -112,15 +113,15 @@ module _ {A : Type 0} (f : List ℕ) (s : ℕ) (r : Reader A) (x : Suffix r) (g 
 record Went (f : List ℕ) (n s p q : ℕ) : Type 0 where
   next : ℕ
   within : next ≤ length f
-  here : step_at f (section_of s) p ≡ Next next
-  later : step_at f (sections n (s + 1)) next ≡ Next q
+  here : step_at f (section_of s) p ≡ Ok next
+  later : step_at f (sections n (s + 1)) next ≡ Ok q
 
-went : (f : List ℕ) (n s p q : ℕ) → s < 10 → p ≤ length f → step_at f (sections (suc n) s) p ≡ Next q → Went f n s p q
+went : (f : List ℕ) (n s p q : ℕ) → s < 10 → p ≤ length f → step_at f (sections (suc n) s) p ≡ Ok q → Went f n s p q
 went f n s p q h g e = go (step_at f (section_of s) p) refl
   where
-    go : (y : Step) → step_at f (section_of s) p ≡ y → Went f n s p q
-    go (Next m) k = record { next = m; within = section-within f s h p m g k; here = k; later = sym (sections-more f (suc n) s p n m h g (omega arith) k) ∙ e }
-    go (Refused x) k = absurd (refused-next (sym (sections-fault f (suc n) s p x (omega arith) k) ∙ e))
+    go : (y : Result ℕ ℕ) → step_at f (section_of s) p ≡ y → Went f n s p q
+    go (Ok m) k = record { next = m; within = section-within f s h p m g k; here = k; later = sym (sections-more f (suc n) s p n m h g (omega arith) k) ∙ e }
+    go (Err x) k = absurd (refused-next (sym (sections-fault f (suc n) s p x (omega arith) k) ∙ e))
 
 module _ (f : List ℕ) where
   starts-short : (s n p : ℕ) → length (starts f s n p) ≤ n
@@ -128,30 +129,30 @@ module _ (f : List ℕ) where
   starts-short s zero p = omega arith
   starts-short s (suc n) p = go (step_at f (record_of s) p) (λ q. starts-short s n q)
     where
-      go : (y : Step) → ((q : ℕ) → length (starts f s n q) ≤ n) → length {A = ℕ} (elim y as (λ _. List ℕ) [ Next q ↦ p ∷ starts f s n q | Refused x ↦ [] ]) ≤ suc n
-      go (Next q) rec = omega (arith, rec q)
-      go (Refused x) rec = omega arith
+      go : (y : Result ℕ ℕ) → ((q : ℕ) → length (starts f s n q) ≤ n) → length {A = ℕ} (elim y as (λ _. List ℕ) [ Ok q ↦ p ∷ starts f s n q | Err x ↦ [] ]) ≤ suc n
+      go (Ok q) rec = omega (arith, rec q)
+      go (Err x) rec = omega arith
 
   entries-short : (s p : ℕ) → p ≤ length f → length (entries f s p) ≤ 1 + limit_of s
   unfolding entries
   entries-short s p h = go (count_at f s p) refl
     where
-      go : (y : Step) → count_at f s p ≡ y → length {A = ℕ} (elim y as (λ _. List ℕ) [ Next n ↦ n ∷ starts f s n (p + 2) | Refused x ↦ [] ]) ≤ 1 + limit_of s
-      go (Next n) e = omega (arith, starts-short s n (p + 2), (count_next f s p n h e).under)
-      go (Refused x) e = omega arith
+      go : (y : Result ℕ ℕ) → count_at f s p ≡ y → length {A = ℕ} (elim y as (λ _. List ℕ) [ Ok n ↦ n ∷ starts f s n (p + 2) | Err x ↦ [] ]) ≤ 1 + limit_of s
+      go (Ok n) e = omega (arith, starts-short s n (p + 2), (count_next f s p n h e).under)
+      go (Err x) e = omega arith
 
   pub length-filled : (n s p : ℕ) (ix : List ℕ) → length (filled f n s p ix) ≡ length ix
   unfolding filled
   length-filled zero s p ix = refl
   length-filled (suc n) s p ix = go (step_at f (section_of s) p) (λ q. length-filled n (s + 1) q (sets ix (base_of s) (entries f s p)))
     where
-      go : (y : Step) → ((q : ℕ) → length (filled f n (s + 1) q (sets ix (base_of s) (entries f s p))) ≡ length (sets ix (base_of s) (entries f s p)))
-          → length {A = ℕ} (elim y as (λ _. List ℕ) [ Next q ↦ filled f n (s + 1) q (sets ix (base_of s) (entries f s p)) | Refused x ↦ sets ix (base_of s) (entries f s p) ]) ≡ length ix
-      go (Next q) rec = rec q ∙ length-sets ix (base_of s) (entries f s p)
-      go (Refused x) rec = length-sets ix (base_of s) (entries f s p)
+      go : (y : Result ℕ ℕ) → ((q : ℕ) → length (filled f n (s + 1) q (sets ix (base_of s) (entries f s p))) ≡ length (sets ix (base_of s) (entries f s p)))
+          → length {A = ℕ} (elim y as (λ _. List ℕ) [ Ok q ↦ filled f n (s + 1) q (sets ix (base_of s) (entries f s p)) | Err x ↦ sets ix (base_of s) (entries f s p) ]) ≡ length ix
+      go (Ok q) rec = rec q ∙ length-sets ix (base_of s) (entries f s p)
+      go (Err x) rec = length-sets ix (base_of s) (entries f s p)
 
   -- a later section leaves an earlier one's entries
-  filled-below : (n s q j : ℕ) (ix : List ℕ) (p : ℕ) → s + n ≤ 10 → p ≤ length f → step_at f (sections n s) p ≡ Next q → j < base_of s → get_or (filled f n s p ix) j 0 ≡ get_or ix j 0
+  filled-below : (n s q j : ℕ) (ix : List ℕ) (p : ℕ) → s + n ≤ 10 → p ≤ length f → step_at f (sections n s) p ≡ Ok q → j < base_of s → get_or (filled f n s p ix) j 0 ≡ get_or ix j 0
   filled-below zero s q j ix p a b e h = ap (λ (l : List ℕ). get_or l j 0) (filled_none f 0 s p ix refl)
   filled-below (suc n) s q j ix p a b e h =
       let w = went f n s p q (omega arith) b e in
@@ -160,7 +161,7 @@ module _ (f : List ℕ) where
       ∙ sets_below (entries f s p) ix (base_of s) j 0 h
 
   -- the entries of section s + k, after n sections from section s on
-  filled_at : (n s q k t : ℕ) (ix : List ℕ) → index_length ≤ length ix → s + n ≤ 10 → start f s ≤ length f → step_at f (sections n s) (start f s) ≡ Next q → k < n
+  filled_at : (n s q k t : ℕ) (ix : List ℕ) → index_length ≤ length ix → s + n ≤ 10 → start f s ≤ length f → step_at f (sections n s) (start f s) ≡ Ok q → k < n
       → t < length (entries f (s + k) (start f (s + k)))
       → get_or (filled f n s (start f s) ix) (base_of (s + k) + t) 0 ≡ get_or (entries f (s + k) (start f (s + k))) t 0
   filled_at zero s q k t ix l a b e h g = absurd (omega arith)
@@ -198,7 +199,7 @@ peel : {A B : Type 0} (f : List ℕ) (s : ℕ) (r : Reader A) (k : List A → Re
 unfolding section_of
 peel f s r k b rest x g h e =
     let w = parts f (section (limit_of s) r) k (start f s) b rest (suffix-section (limit_of s) x) h e in
-    let q : step_at f (section_of s) (start f s) ≡ Next w.next =
+    let q : step_at f (section_of s) (start f s) ≡ Ok w.next =
     ap (λ (t : Reader (Unit {0})). step_at f (section (limit_of s) t) (start f s)) g ∙ sym (alike-step f (alike-section (limit_of s) r) (start f s))
     ∙ step-got f (section (limit_of s) r) (start f s) w.value w.next w.within w.first in
     let z : start f (s + 1) ≡ w.next = start-next f s w.next q in
@@ -249,11 +250,11 @@ section-of {A} f ix s r xs x g h y =
     }
 
 -- a reading that ended got something
-step-next : {A : Type 0} (f : List ℕ) (r : Reader A) (p q : ℕ) → step_at f r p ≡ Next q → (a : A) × (rest : List ℕ) × (read_at f r p ≡ got a rest)
+step-next : {A : Type 0} (f : List ℕ) (r : Reader A) (p q : ℕ) → step_at f r p ≡ Ok q → (a : A) × (rest : List ℕ) × (read_at f r p ≡ got a rest)
 unfolding step_at step_of
 step-next {A} f r p q e = go (read_at f r p) refl e
   where
-    go : (y : Read A) → read_at f r p ≡ y → step_of f y ≡ Next q → (a : A) × (rest : List ℕ) × (read_at f r p ≡ got a rest)
+    go : (y : Read A) → read_at f r p ≡ y → step_of f y ≡ Ok q → (a : A) × (rest : List ℕ) × (read_at f r p ≡ got a rest)
     go (got a rest) g k = (a, rest, g)
     go (refused n) g k = absurd (refused-next k)
 
@@ -262,7 +263,7 @@ unfolding end
 end-inv a b [] rest e = (cc, cc)
 end-inv a b (x ∷ l) rest e = absurd (refused-got e)
 
-module _ (f ix : List ℕ) (q : ℕ) (small : length f ≤ file_limit) (long : index_length ≤ length ix) (same : Read.file f ≡ Read.ten_sections f) (e : step_at f Read.ten_sections 0 ≡ Next q) where
+module _ (f ix : List ℕ) (q : ℕ) (small : length f ≤ file_limit) (long : index_length ≤ length ix) (same : Read.file f ≡ Read.ten_sections f) (e : step_at f Read.ten_sections 0 ≡ Ok q) where
   entry : (s t : ℕ) → s < 10 → t < length (entries f s (start f s)) → get_or (filled f 10 0 0 ix) (base_of s + t) 0 ≡ get_or (entries f s (start f s)) t 0
   unfolding start
   entry s t h g =
@@ -321,7 +322,12 @@ module _ (f ix : List ℕ) (q : ℕ) (small : length f ≤ file_limit) (long : i
           made T rest z (end-inv _ T _ rest e10) t0 t1 t2 t3 t4 t5 t6 t7 t8 t9))))))))))
 
 -- whatever file was read to its end
-pub indexed : (f ix : List ℕ) (q : ℕ) → length f ≤ file_limit → index_length ≤ length ix → step_at f Read.file 0 ≡ Next q → Indexed f (index_of f ix)
+pub indexed : (f ix : List ℕ) (q : ℕ) → length f ≤ file_limit → index_length ≤ length ix → step_at f Read.file 0 ≡ Ok q → Indexed f (index_of f ix)
 unfolding index_of step_at read_at Read.file
 indexed [] ix q small long e = indexed-empty ix long
 indexed (b ∷ bytes) ix q small long e = indexed-sections (b ∷ bytes) ix q small long refl e
+
+-- the same by what the reader gives
+pub indexed-if : (f ix jx : List ℕ) (r : Result ℕ Refusal) → length f ≤ file_limit → index_length ≤ length ix → numbered r ≡ step_at f Read.file 0 → jx ≡ index_of f ix → OnOk r (Indexed f jx)
+indexed-if f ix jx (Ok q) small long e x = subst (Indexed f) (sym x) (indexed f ix q small long (sym e))
+indexed-if f ix jx (Err n) small long e x = tt

@@ -12,8 +12,8 @@ use Rattle.rules.specs.Read.{Reader}
 use Rattle.rules.specs.Read as Read
 use Rattle.file.specs.Steps.{step_of, read_at, step_at, base_of, filled, emptied, index_of, index_length}
 use Rattle.file.specs.Tables.{Section, Indexed, tables_of}
-use Rattle.file.specs.declared.Step.TheVariants.{Next}
 use Rattle.file.proofs.Sections.{apart, roomy}
+use Rattle.std.specs.Prelude.{Ok}
 
 -- the loop over the sections
 module _ (n s : ℕ) (ix : List ℕ) where
@@ -78,7 +78,7 @@ module _ (ix : List ℕ) (long : index_length ≤ length ix) where
       }
 
 -- what is read and indexed, of a file of no bytes and of any other
-pub empty-reads : (f : List ℕ) → length f ≡ 0 → Next 0 ≡ step_at f Read.file 0
+pub empty-reads : (f : List ℕ) → length f ≡ 0 → Ok 0 ≡ step_at f Read.file 0
 unfolding step_at step_of read_at Read.file
 empty-reads [] h = refl
 empty-reads (b ∷ bytes) h = absurd (omega arith)

@@ -16,9 +16,9 @@ use Rattle.rules.specs.File.{Ty, Node, Slot, Anchor, CompareOp, compare_ops, op_
 use Rattle.rules.specs.Read.{Reader, ◌>>=◌, pure, refuse, u8, u16, many, several, kind, well_formed, name, field_ty, alternative, fact_ty, record_ty, union_ty, type, predicate, anchor, field_pattern, one, two, int_node, bytes_node, fuzzy_node, record_node, node, path, row_slot, key_slot, derived_slot, field_slot, value_slot, const_slot, slot, binding, hoisted, fetched, constraint, op, comparison, level}
 use Rattle.rules.specs.Read.Read.{got}
 use Rattle.file.specs.Steps.{read_at, step_at, skim, record_of}
-use Rattle.file.specs.declared.Step.TheVariants.{Next, Refused}
 use Rattle.file.proofs.Readers.{then-got, then-refused, kind-in, kind-out, several-in, several-out, step-got, step-refused, step_same, step-skim, Fixed, fixed-pure, fixed-bind, fixed-many, fixed-u8, fixed-u16, fixed-u32, fixed-optional, fixed-bytes, fixed_in, fixed_then, needs-fixed, needs-bind, needs-first, needs-kind, cut_short, SameSteps, alike_refl, alike-step, alike-value, alike-pure, alike-several, alike-map, alike-fixed}
 use Rattle.file.proofs.Suffix.{ended, faulted, suffix-path}
+use Rattle.std.specs.Prelude.{Ok, Err}
 
 pub times : (w n : ℕ) → w ≤ 8 → n < 256 → n * w ≤ 2040
 times w n h g =
@@ -180,11 +180,11 @@ bytes-got f p n h =
 
 -- where a text that was read ends
 module _ (f bytes : List ℕ) (q : ℕ) where
-  pub text-good : true ≡ UTF8-octets bytes → q ≤ length f → step_at f (well_formed bytes) q ≡ Next q
+  pub text-good : true ≡ UTF8-octets bytes → q ≤ length f → step_at f (well_formed bytes) q ≡ Ok q
   unfolding well_formed read_at pure
   text-good e h = step-got f (well_formed bytes) q bytes q h (ap (λ (t : Bool). (elim t as (λ _. Reader (List ℕ)) [ true ↦ pure bytes | false ↦ refuse 6 ]) (drop q f)) (sym e))
 
-  pub text-bad : false ≡ UTF8-octets bytes → step_at f (well_formed bytes) q ≡ Refused 6
+  pub text-bad : false ≡ UTF8-octets bytes → step_at f (well_formed bytes) q ≡ Err 6
   unfolding well_formed read_at refuse
   text-bad e = step-refused f (well_formed bytes) q 6 (ap (λ (t : Bool). (elim t as (λ _. Reader (List ℕ)) [ true ↦ pure bytes | false ↦ refuse 6 ]) (drop q f)) (sym e))
 
@@ -194,10 +194,10 @@ module _ (f : List ℕ) (p : ℕ) where
     pub kinded : (k : ℕ) → p < length f → k ≡ get_or f p 0 → step_at f (kind rs) p ≡ step_at f (get_or rs k (refuse 5)) (p + 1)
     kinded k h e = step_same f _ _ _ _ (kind-in f p rs h) ∙ ap (λ (j : ℕ). step_at f (get_or rs j (refuse 5)) (p + 1)) (sym e)
 
-    pub kind-cut : length f ≤ p → step_at f (kind rs) p ≡ Refused 3
+    pub kind-cut : length f ≤ p → step_at f (kind rs) p ≡ Err 3
     kind-cut h = step-refused f _ p 3 (kind-out f p rs h)
 
-    pub kind-bad : (k : ℕ) → p < length f → k ≡ get_or f p 0 → length rs ≤ k → step_at f (kind rs) p ≡ Refused 5
+    pub kind-bad : (k : ℕ) → p < length f → k ≡ get_or f p 0 → length rs ≤ k → step_at f (kind rs) p ≡ Err 5
     unfolding refuse read_at
     kind-bad k h e g =
         kinded k h e ∙ ap (λ (r : Reader A). step_at f r (p + 1)) (get_or-eq_default rs (refuse 5) g) ∙ step-refused f (refuse 5) (p + 1) 5 refl
@@ -206,7 +206,7 @@ module _ (f : List ℕ) (p : ℕ) where
     kind-fixed k n h e x = kinded k h e ∙ bytes-alike f n x (p + 1)
 
   -- a count byte and as many records of w bytes
-  pub several-cut : {A : Type 0} (r : Reader A) → length f ≤ p → step_at f (several r) p ≡ Refused 3
+  pub several-cut : {A : Type 0} (r : Reader A) → length f ≤ p → step_at f (several r) p ≡ Err 3
   several-cut r h = step-refused f _ p 3 (several-out f p r h)
 
   pub several-fixed : {A : Type 0} {r : Reader A} (w n : ℕ) → Fixed w r → p < length f → n ≡ get_or f p 0 → step_at f (several r) p ≡ step_at f (many (n * w) u8) (p + 1)
@@ -214,7 +214,7 @@ module _ (f : List ℕ) (p : ℕ) where
       step_same f _ _ _ _ (several-in f p r h) ∙ ap (λ (j : ℕ). step_at f (many j r) (p + 1)) (sym e) ∙ bytes-alike f (n * w) (fixed-many w x n) (p + 1)
 
   -- a name: read whole, then judged
-  pub name-cut : length f ≤ p → step_at f name p ≡ Refused 3
+  pub name-cut : length f ≤ p → step_at f name p ≡ Err 3
   unfolding name
   name-cut h = step-refused f _ p 3 (then-refused f (several u8) well_formed p 3 (several-out f p u8 h))
 
@@ -222,10 +222,10 @@ module _ (f : List ℕ) (p : ℕ) where
     bytes_of : read_at f (several u8) p ≡ read_at f (many n u8) (p + 1)
     bytes_of = several-in f p u8 h ∙ ap (λ (j : ℕ). read_at f (many j u8) (p + 1)) (sym e)
 
-    pub name-short : length f < p + 1 + n → step_at f name p ≡ Refused 3
+    pub name-short : length f < p + 1 + n → step_at f name p ≡ Err 3
     unfolding name
     name-short g =
-        let few : step_at f (many n u8) (p + 1) ≡ Refused 3 = cut_short f n (p + 1) (needs-fixed n (fixed-bytes n)) (omega arith) g in
+        let few : step_at f (many n u8) (p + 1) ≡ Err 3 = cut_short f n (p + 1) (needs-fixed n (fixed-bytes n)) (omega arith) g in
         step-refused f _ p 3 (then-refused f (several u8) well_formed p 3 (bytes_of ∙ faulted f (many n u8) (p + 1) 3 few))
 
     pub name-whole : (q : ℕ) → q ≡ p + 1 + n → q ≤ length f → step_at f name p ≡ step_at f (well_formed (take (q - (p + 1)) (drop (p + 1) f))) q
@@ -251,7 +251,7 @@ module _ (f : List ℕ) (p : ℕ) where
     unfolding type union_ty
     type-union g = kinded type_readers 5 h (sym g ∙ e) ∙ alike-step f (alike-map Ty.Union (alike-several (alike-fixed 8 fixed-alternative (fixed-bytes 8)))) (p + 1)
 
-    pub type-bad : 5 < k → step_at f type p ≡ Refused 5
+    pub type-bad : 5 < k → step_at f type p ≡ Err 5
     unfolding type
     type-bad g = kind-bad type_readers k h e g
 
@@ -272,7 +272,7 @@ module _ (f : List ℕ) (p : ℕ) where
     unfolding node record_node
     node-record g = kinded node_readers 8 h (sym g ∙ e) ∙ alike-step f (alike-map Node.Record (alike-several (alike-fixed 4 fixed-field_pattern (fixed-bytes 4)))) (p + 1)
 
-    pub node-bad : 16 < k → step_at f node p ≡ Refused 5
+    pub node-bad : 16 < k → step_at f node p ≡ Err 5
     unfolding node
     node-bad g = kind-bad node_readers k h e g
 
@@ -285,16 +285,16 @@ module _ (f : List ℕ) (p : ℕ) where
     unfolding slot field_slot fetched
     slot-field g = kinded slot_readers 3 h (sym g ∙ e) ∙ alike-step f (alike-value u16 (λ a. alike-value path (λ q. alike-value u16 (λ t. alike-pure _ _)))) (p + 1)
 
-    pub slot-bad : 5 < k → step_at f slot p ≡ Refused 5
+    pub slot-bad : 5 < k → step_at f slot p ≡ Err 5
     unfolding slot
     slot-bad g = kind-bad slot_readers k h e g
 
     -- comparisons by their op
-    pub comparison-bad : 3 < k → step_at f comparison p ≡ Refused 5
+    pub comparison-bad : 3 < k → step_at f comparison p ≡ Err 5
     unfolding comparison op
     comparison-bad g = step-refused f comparison p 5 (then-refused f op _ p 5 (faulted f op p 5 op-bad))
       where
-        op-bad : step_at f op p ≡ Refused 5
+        op-bad : step_at f op p ≡ Err 5
         op-bad = kind-bad op_readers k h e g
 
     pub comparison-in : k < 4 → step_at f comparison p ≡ step_at f (many 4 u8) (p + 1)
@@ -303,19 +303,19 @@ module _ (f : List ℕ) (p : ℕ) where
         step_same f _ _ _ _ (then-got f op _ p (op_of_number k) (p + 1) (kind-in f p op_readers h ∙ ap (λ (j : ℕ). get_or op_readers j (refuse 5) (drop (p + 1) f)) (sym e) ∙ ap (λ (r : Reader CompareOp). r (drop (p + 1) f)) (op-known k g)))
         ∙ bytes-alike f 4 (fixed-bind 2 2 fixed-u16 (λ l. fixed-bind 2 0 fixed-u16 (λ r. fixed-pure _))) (p + 1)
 
-  pub type-cut : length f ≤ p → step_at f type p ≡ Refused 3
+  pub type-cut : length f ≤ p → step_at f type p ≡ Err 3
   unfolding type
   type-cut h = kind-cut type_readers h
 
-  pub node-cut : length f ≤ p → step_at f node p ≡ Refused 3
+  pub node-cut : length f ≤ p → step_at f node p ≡ Err 3
   unfolding node
   node-cut h = kind-cut node_readers h
 
-  pub slot-cut : length f ≤ p → step_at f slot p ≡ Refused 3
+  pub slot-cut : length f ≤ p → step_at f slot p ≡ Err 3
   unfolding slot
   slot-cut h = kind-cut slot_readers h
 
-  pub comparison-cut : length f ≤ p → step_at f comparison p ≡ Refused 3
+  pub comparison-cut : length f ≤ p → step_at f comparison p ≡ Err 3
   unfolding comparison op
   comparison-cut h = step-refused f comparison p 3 (then-refused f op _ p 3 (kind-out f p op_readers h))
 
@@ -336,10 +336,10 @@ module _ (f : List ℕ) (p : ℕ) where
   word-then : {B C : Type 0} (k : ℕ → Reader B) (r : Reader C) → ((a : ℕ) → SameSteps (k a) r) → p + 2 ≤ length f → step_at f (u16 >>= k) p ≡ step_at f r (p + 2)
   word-then k r x h = step_same f _ _ _ _ (fixed_then f 2 p fixed-u16 k h) ∙ alike-step f (x _) (p + 2)
 
-  word_cut : {B : Type 0} (k : ℕ → Reader B) → p ≤ length f → length f < p + 2 → step_at f (u16 >>= k) p ≡ Refused 3
+  word_cut : {B : Type 0} (k : ℕ → Reader B) → p ≤ length f → length f < p + 2 → step_at f (u16 >>= k) p ≡ Err 3
   word_cut k h g = cut_short f 2 p (needs-first 2 k (needs-fixed 2 fixed-u16)) h g
 
-  pub fuzzy-cut : p ≤ length f → length f < p + 4 → step_at f fuzzy_node p ≡ Refused 3
+  pub fuzzy-cut : p ≤ length f → length f < p + 4 → step_at f fuzzy_node p ≡ Err 3
   unfolding fuzzy_node anchor
   fuzzy-cut h g = cut_short f 4 p (needs-bind 2 2 fixed-u16 (λ x. needs-bind 1 1 fixed-u8 (λ d. needs-first 1 _ (needs-kind anchor_readers)))) h g
 
@@ -351,19 +351,19 @@ module _ (f : List ℕ) (p : ℕ) where
       ∙ alike-step f (alike-map _ (alike_refl anchor)) (p + 2 + 1)
       ∙ ap (λ (j : ℕ). step_at f anchor j) e
 
-  pub fuzzy-bad : p + 4 ≤ length f → 1 < get_or f (p + 3) 0 → step_at f fuzzy_node p ≡ Refused 5
+  pub fuzzy-bad : p + 4 ≤ length f → 1 < get_or f (p + 3) 0 → step_at f fuzzy_node p ≡ Err 5
   unfolding anchor
   fuzzy-bad h g = fuzzy-anchor h ∙ kind-bad f (p + 3) anchor_readers (get_or f (p + 3) 0) (omega arith) refl g
 
-  pub fuzzy-in : p + 4 ≤ length f → get_or f (p + 3) 0 < 2 → step_at f fuzzy_node p ≡ Next (p + 4)
+  pub fuzzy-in : p + 4 ≤ length f → get_or f (p + 3) 0 < 2 → step_at f fuzzy_node p ≡ Ok (p + 4)
   unfolding anchor
   fuzzy-in h g =
       let e : p + 3 + 1 ≡ p + 4 = omega arith in
       let n : p + 3 + 1 + 0 ≡ p + 3 + 1 = omega arith in
       fuzzy-anchor h ∙ kind-fixed f (p + 3) anchor_readers (get_or f (p + 3) 0) 0 (omega arith) refl (fixed-known (anchor-known (get_or f (p + 3) 0) g))
-      ∙ fixed_in f 0 (p + 3 + 1) (fixed-bytes 0) (omega arith) ∙ ap Next (n ∙ e)
+      ∙ fixed_in f 0 (p + 3 + 1) (fixed-bytes 0) (omega arith) ∙ ap Ok (n ∙ e)
 
-  pub path-cut : p ≤ length f → length f < p + 2 → step_at f path p ≡ Refused 3
+  pub path-cut : p ≤ length f → length f < p + 2 → step_at f path p ≡ Err 3
   unfolding path
   path-cut h g = word_cut _ h g
 
@@ -371,21 +371,21 @@ module _ (f : List ℕ) (p : ℕ) where
   unfolding path
   path-in h = word-then _ _ (λ a. alike-map _ (alike-several (alike-fixed 4 fixed-u32 (fixed-bytes 4)))) h
 
-  pub fetched-cut : p ≤ length f → length f < p + 2 → step_at f fetched p ≡ Refused 3
+  pub fetched-cut : p ≤ length f → length f < p + 2 → step_at f fetched p ≡ Err 3
   unfolding fetched
   fetched-cut h g = word_cut _ h g
 
-  pub fetched-fault : (x : ℕ) → p + 2 ≤ length f → step_at f path (p + 2) ≡ Refused x → step_at f fetched p ≡ Refused x
+  pub fetched-fault : (x : ℕ) → p + 2 ≤ length f → step_at f path (p + 2) ≡ Err x → step_at f fetched p ≡ Err x
   unfolding fetched
   fetched-fault x h e = step-refused f fetched p x (fixed_then f 2 p fixed-u16 _ h ∙ then-refused f path _ (p + 2) x (faulted f path (p + 2) x e))
 
-  pub fetched-in : (q : ℕ) → p + 2 ≤ length f → step_at f path (p + 2) ≡ Next q → step_at f fetched p ≡ step_at f (many 2 u8) q
+  pub fetched-in : (q : ℕ) → p + 2 ≤ length f → step_at f path (p + 2) ≡ Ok q → step_at f fetched p ≡ step_at f (many 2 u8) q
   unfolding fetched
   fetched-in q h e =
       let w = ended f path (p + 2) q suffix-path h e in
       step_same f _ _ _ _ (fixed_then f 2 p fixed-u16 _ h ∙ then-got f path _ (p + 2) w.value q w.is) ∙ alike-step f (alike-map _ (alike-fixed 2 fixed-u16 (fixed-bytes 2))) q
 
-  pub binding-cut : p ≤ length f → length f < p + 2 → step_at f binding p ≡ Refused 3
+  pub binding-cut : p ≤ length f → length f < p + 2 → step_at f binding p ≡ Err 3
   unfolding binding
   binding-cut h g = word_cut _ h g
 
@@ -393,7 +393,7 @@ module _ (f : List ℕ) (p : ℕ) where
   unfolding binding
   binding-in h = word-then _ _ (λ a. alike-map _ (alike_refl slot)) h
 
-pub path-within : (f : List ℕ) (p q : ℕ) → p ≤ length f → step_at f path p ≡ Next q → q ≤ length f
+pub path-within : (f : List ℕ) (p q : ℕ) → p ≤ length f → step_at f path p ≡ Ok q → q ≤ length f
 path-within f p q h e = (ended f path p q suffix-path h e).within
 
 -- a record of section s

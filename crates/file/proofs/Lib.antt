@@ -1,3 +1,4 @@
+pub mod Raised
 pub mod Readers
 pub mod Suffix
 pub mod Leaves

@@ -13,7 +13,7 @@ use lib.Seq.{drop-cons, drop-drop}
 use Rattle.rules.specs.Read.{Read, Reader, follow, ◌>>=◌, pure, refuse, u8, u16, u32, optional, many, several, kind}
 use Rattle.rules.specs.Read.Read.{got, refused}
 use Rattle.file.specs.Steps.{step_of, read_at, step_at, skim}
-use Rattle.file.specs.declared.Step.TheVariants.{Next, Refused}
+use Rattle.std.specs.Prelude.{Ok, Err}
 
 pub lt-or-le : (a b : ℕ) → (a < b) ⊎ (b ≤ a)
 lt-or-le a b = go (ltb a b) refl
@@ -29,7 +29,7 @@ down n h = omega arith
 pub refused-got : {A : Type 0} {n : ℕ} {a : A} {rest : List ℕ} → refused n ≡ got a rest → ⊥
 refused-got {A} {n} {a} {rest} e = let z : ◌≡◌ {A = ℕ} 0 1 = cc in omega arith
 
-pub refused-next : {x q : ℕ} → Refused x ≡ Next q → ⊥
+pub refused-next : {x q : ℕ} → Err x ≡ Ok q → ⊥
 refused-next {x} {q} e = let z : ◌≡◌ {A = ℕ} 0 1 = cc in omega arith
 
 -- a reading goes on with what was read, or stops at its fault
@@ -103,11 +103,11 @@ module _ (f : List ℕ) (p : ℕ) where
 
 -- where a reading ends
 module _ {A : Type 0} (f : List ℕ) (r : Reader A) (p : ℕ) where
-  pub step-got : (a : A) (q : ℕ) → q ≤ length f → read_at f r p ≡ got a (drop q f) → step_at f r p ≡ Next q
+  pub step-got : (a : A) (q : ℕ) → q ≤ length f → read_at f r p ≡ got a (drop q f) → step_at f r p ≡ Ok q
   unfolding step_at step_of
-  step-got a q h e = ap (step_of f) e ∙ ap Next (omega (arith, length-drop q f))
+  step-got a q h e = ap (step_of f) e ∙ ap Ok (omega (arith, length-drop q f))
 
-  pub step-refused : (n : ℕ) → read_at f r p ≡ refused n → step_at f r p ≡ Refused n
+  pub step-refused : (n : ℕ) → read_at f r p ≡ refused n → step_at f r p ≡ Err n
   unfolding step_at step_of
   step-refused n e = ap (step_of f) e
 
@@ -132,7 +132,7 @@ step-skim f r p = step_map f (λ a. tt) r p
 
 -- n times the same reading
 module _ {A : Type 0} (f : List ℕ) (r : Reader A) (n p : ℕ) where
-  pub many-none : n ≡ 0 → p ≤ length f → step_at f (many n r) p ≡ Next p
+  pub many-none : n ≡ 0 → p ≤ length f → step_at f (many n r) p ≡ Ok p
   unfolding many pure read_at
   many-none h g = rw h (step-got f (pure []) p [] p g refl)
 
@@ -143,7 +143,7 @@ module _ {A : Type 0} (f : List ℕ) (r : Reader A) (n p : ℕ) where
       ∙ ap (λ (x : Read A). step_of f (follow x (λ (y : A). many (n - 1) r >>= λ (ys : List A). pure (y ∷ ys)))) e
       ∙ map_same f (λ (ys : List A). a ∷ ys) (many (n - 1) r (drop q f))
 
-  pub many-fault : (x : ℕ) → 0 < n → read_at f r p ≡ refused x → step_at f (many n r) p ≡ Refused x
+  pub many-fault : (x : ℕ) → 0 < n → read_at f r p ≡ refused x → step_at f (many n r) p ≡ Err x
   unfolding step_at read_at many step_of ◌>>=◌ follow
   many-fault x h e =
       ap (λ (k : ℕ). step_of f (many k r (drop p f))) (down n h)
@@ -216,7 +216,7 @@ module _ {A : Type 0} (f : List ℕ) (n p : ℕ) {r : Reader A} (x : Fixed n r) 
       let g : n ≤ length (drop p f) = omega (arith, length-drop p f) in
       x.whole (drop p f) g ∙ ap (got (x.value (drop p f))) (drop-drop n p f)
 
-  pub fixed_in : p + n ≤ length f → step_at f r p ≡ Next (p + n)
+  pub fixed_in : p + n ≤ length f → step_at f r p ≡ Ok (p + n)
   fixed_in h = step-got f r p (x.value (drop p f)) (p + n) h (fixed-got h)
 
   -- what follows n bytes, read at its own place
@@ -246,7 +246,7 @@ pub needs-kind : {A : Type 0} (rs : List (Reader A)) → Needs 1 (kind rs)
 unfolding kind
 needs-kind rs = needs-first 1 (λ (k : ℕ). get_or rs k (refuse 5)) (needs-fixed 1 fixed-u8)
 
-pub cut_short : {A : Type 0} (f : List ℕ) (n p : ℕ) {r : Reader A} → Needs n r → p ≤ length f → length f < p + n → step_at f r p ≡ Refused 3
+pub cut_short : {A : Type 0} (f : List ℕ) (n p : ℕ) {r : Reader A} → Needs n r → p ≤ length f → length f < p + n → step_at f r p ≡ Err 3
 unfolding read_at
 cut_short f n p {r} x g h =
     let k : length (drop p f) < n = omega (arith, length-drop p f) in

@@ -14,9 +14,9 @@ use Rattle.rules.specs.Read.{Read, Reader, follow, ◌>>=◌, pure, refuse, u16,
 use Rattle.rules.specs.Read.Read.{got, refused}
 use Rattle.rules.specs.Read as Read
 use Rattle.file.specs.Steps.{word, read_at, step_at, skim, record_of, limit_of, base_of, section_of, count, counted, count_at, starts, entries, sections, filled}
-use Rattle.file.specs.declared.Step.TheVariants.{Next, Refused}
 use Rattle.file.proofs.Readers.{lt-or-le, down, refused-next, then-got, then-refused, byte-in, step-got, step-refused, step_same, many-none, many_more, many-fault, fixed-u16, needs-fixed, needs-first, cut_short, SameSteps, alike-step, alike-skim, alike-bind, alike-value, alike-refuse, alike-many}
 use Rattle.file.proofs.Suffix.{ended, faulted, suffix-record, suffix-sections}
+use Rattle.std.specs.Prelude.{Ok, Err}
 
 -- the areas of the index stand one behind the other
 pub apart : (s : ℕ) → s < 10 → base_of s + 1 + limit_of s ≤ base_of (s + 1)
@@ -58,38 +58,39 @@ pub word-then : {A : Type 0} (f : List ℕ) (p : ℕ) (k : ℕ → Reader A) →
 word-then f p k h = then-got f u16 k p (word f p) (p + 2) (word_in f p h)
 
 module _ (f : List ℕ) (s : ℕ) (h : s < 10) where
-  pub record-within : (p q : ℕ) → p ≤ length f → step_at f (record_of s) p ≡ Next q → q ≤ length f
+  pub record-within : (p q : ℕ) → p ≤ length f → step_at f (record_of s) p ≡ Ok q → q ≤ length f
   record-within p q g e = (ended f (record_of s) p q (suffix-record s h) g e).within
 
-  pub section-within : (p q : ℕ) → p ≤ length f → step_at f (section_of s) p ≡ Next q → q ≤ length f
+  pub section-within : (p q : ℕ) → p ≤ length f → step_at f (section_of s) p ≡ Ok q → q ≤ length f
   section-within p q g e = (ended f (section_of s) p q (suffix-sections s h) g e).within
 
   module _ (n p : ℕ) (g : p ≤ length f) where
-    pub records-none : n ≡ 0 → step_at f (many n (record_of s)) p ≡ Next p
+    pub records-none : n ≡ 0 → step_at f (many n (record_of s)) p ≡ Ok p
     records-none e = many-none f (record_of s) n p e g
 
-    pub records-more : (q : ℕ) → 0 < n → step_at f (record_of s) p ≡ Next q → step_at f (many n (record_of s)) p ≡ step_at f (many (n - 1) (record_of s)) q
-    records-more q k e =
+    pub records-more : (m q : ℕ) → n ≡ m + 1 → step_at f (record_of s) p ≡ Ok q → step_at f (many n (record_of s)) p ≡ step_at f (many m (record_of s)) q
+    records-more m q k e =
         let w = ended f (record_of s) p q (suffix-record s h) g e in
-        many_more f (record_of s) n p w.value q k w.is
+        many_more f (record_of s) n p w.value q (omega arith) w.is
+        ∙ ap (λ (j : ℕ). step_at f (many j (record_of s)) q) (omega arith)
 
-    pub records-fault : (x : ℕ) → 0 < n → step_at f (record_of s) p ≡ Refused x → step_at f (many n (record_of s)) p ≡ Refused x
+    pub records-fault : (x : ℕ) → 0 < n → step_at f (record_of s) p ≡ Err x → step_at f (many n (record_of s)) p ≡ Err x
     records-fault x k e = many-fault f (record_of s) n p x k (faulted f (record_of s) p x e)
 
 -- what the loop over records stores
 module _ (f : List ℕ) (s : ℕ) (n p : ℕ) where
-  starts_more : (q : ℕ) → 0 < n → step_at f (record_of s) p ≡ Next q → starts f s n p ≡ p ∷ starts f s (n - 1) q
+  starts_more : (m q : ℕ) → n ≡ m + 1 → step_at f (record_of s) p ≡ Ok q → starts f s n p ≡ p ∷ starts f s m q
   unfolding starts
-  starts_more q h e = ap (λ (k : ℕ). starts f s k p) (down n h) ∙ simp (starts, e)
+  starts_more m q h e = ap (λ (k : ℕ). starts f s k p) (h ∙ add-one m) ∙ simp (starts, e)
 
   pub stored-none : (ix : List ℕ) (i : ℕ) → n ≡ 0 → sets ix i (starts f s n p) ≡ ix
   unfolding starts
   stored-none ix i h = rw h
 
-  pub stored_more : (ix : List ℕ) (i q : ℕ) → 0 < n → step_at f (record_of s) p ≡ Next q → sets ix i (starts f s n p) ≡ sets (set ix i p) (i + 1) (starts f s (n - 1) q)
-  stored_more ix i q h e = rw (starts_more q h e, add-one)
+  pub stored_more : (ix : List ℕ) (i j m q : ℕ) → j ≡ i + 1 → n ≡ m + 1 → step_at f (record_of s) p ≡ Ok q → sets ix i (starts f s n p) ≡ sets (set ix i p) j (starts f s m q)
+  stored_more ix i j m q g h e = rw (starts_more m q h e, g, add-one)
 
-  pub stored-fault : (ix : List ℕ) (i x : ℕ) → 0 < n → step_at f (record_of s) p ≡ Refused x → sets ix i (starts f s n p) ≡ ix
+  pub stored-fault : (ix : List ℕ) (i x : ℕ) → 0 < n → step_at f (record_of s) p ≡ Err x → sets ix i (starts f s n p) ≡ ix
   unfolding starts
   stored-fault ix i x h e = rw (down n h) (simp (starts, e))
 
@@ -106,11 +107,11 @@ module _ (f : List ℕ) (s p : ℕ) where
   unfolding read_at pure
   count-good h g = count-read h ∙ ap (λ (b : Bool). (elim b as (λ _. Reader ℕ) [ true ↦ pure (word f p) | false ↦ refuse 4 ]) (drop (p + 2) f)) (le-leb _ _ g)
 
-  pub count-in : p + 2 ≤ length f → word f p ≤ limit_of s → count_at f s p ≡ Next (word f p)
+  pub count-in : p + 2 ≤ length f → word f p ≤ limit_of s → count_at f s p ≡ Ok (word f p)
   unfolding count_at counted
   count-in h g = ap counted (count-good h g)
 
-  pub count-over : p + 2 ≤ length f → limit_of s < word f p → count_at f s p ≡ Refused 4
+  pub count-over : p + 2 ≤ length f → limit_of s < word f p → count_at f s p ≡ Err 4
   unfolding count_at counted read_at refuse
   count-over h g = ap counted (count-read h ∙ ap (λ (b : Bool). (elim b as (λ _. Reader ℕ) [ true ↦ pure (word f p) | false ↦ refuse 4 ]) (drop (p + 2) f)) (lt-leb _ _ g))
 
@@ -118,7 +119,7 @@ module _ (f : List ℕ) (s p : ℕ) where
   unfolding count
   count-short h g = faulted f (count s) p 3 (cut_short f 2 p (needs-first 2 judged (needs-fixed 2 fixed-u16)) h g)
 
-  pub count_cut : p ≤ length f → length f < p + 2 → count_at f s p ≡ Refused 3
+  pub count_cut : p ≤ length f → length f < p + 2 → count_at f s p ≡ Err 3
   unfolding count_at counted
   count_cut h g = ap counted (count-short h g)
 
@@ -127,7 +128,7 @@ module _ (f : List ℕ) (s p : ℕ) where
     pub under : n ≤ limit_of s
     pub reads : read_at f (count s) p ≡ got n (drop (p + 2) f)
 
-  pub count_next : (n : ℕ) → p ≤ length f → count_at f s p ≡ Next n → Counted n
+  pub count_next : (n : ℕ) → p ≤ length f → count_at f s p ≡ Ok n → Counted n
   count_next n h e =
       ⊎_elim (λ g. absurd (refused-next (sym (count_cut h g) ∙ e)))
       (λ g. ⊎_elim (λ k. absurd (refused-next (sym (count-over g k) ∙ e)))
@@ -135,11 +136,11 @@ module _ (f : List ℕ) (s p : ℕ) where
       (lt-or-le (limit_of s) (word f p)))
       (lt-or-le (length f) (p + 2))
 
-  pub count-fault : (x : ℕ) → count_at f s p ≡ Refused x → read_at f (count s) p ≡ refused x
+  pub count-fault : (x : ℕ) → count_at f s p ≡ Err x → read_at f (count s) p ≡ refused x
   unfolding count_at counted
   count-fault x e = go (read_at f (count s) p) e
     where
-      go : (y : Read ℕ) → counted y ≡ Refused x → y ≡ refused x
+      go : (y : Read ℕ) → counted y ≡ Err x → y ≡ refused x
       go (got a rest) g = absurd (refused-next (sym g))
       go (refused n) g = let z : n ≡ x = cc in ap refused z
 
@@ -160,43 +161,43 @@ module _ (f : List ℕ) (s p : ℕ) where
   unfolding read_at
   section-at = section-parts (drop p f)
 
-  pub section-fault : (x : ℕ) → count_at f s p ≡ Refused x → step_at f (section_of s) p ≡ Refused x
+  pub section-fault : (x : ℕ) → count_at f s p ≡ Err x → step_at f (section_of s) p ≡ Err x
   section-fault x e = step-refused f (section_of s) p x (section-at ∙ then-refused f (count s) (λ n. many n (record_of s)) p x (count-fault x e))
 
-  pub section-on : (n : ℕ) → p ≤ length f → count_at f s p ≡ Next n → step_at f (section_of s) p ≡ step_at f (many n (record_of s)) (p + 2)
+  pub section-on : (n : ℕ) → p ≤ length f → count_at f s p ≡ Ok n → step_at f (section_of s) p ≡ step_at f (many n (record_of s)) (p + 2)
   section-on n h e = step_same f _ _ _ _ (section-at ∙ then-got f (count s) (λ n. many n (record_of s)) p n (p + 2) (count_next n h e).reads)
 
   -- a section's stores: its count, then its records' starts
-  pub entries-on : (n : ℕ) → count_at f s p ≡ Next n → entries f s p ≡ n ∷ starts f s n (p + 2)
+  pub entries-on : (n : ℕ) → count_at f s p ≡ Ok n → entries f s p ≡ n ∷ starts f s n (p + 2)
   unfolding entries
   entries-on n e = rw (e, entries)
 
-  pub entries-stored : (ix : List ℕ) (b n : ℕ) → b ≡ base_of s → count_at f s p ≡ Next n → sets (set ix b n) (b + 1) (starts f s n (p + 2)) ≡ sets ix (base_of s) (entries f s p)
+  pub entries-stored : (ix : List ℕ) (b n : ℕ) → b ≡ base_of s → count_at f s p ≡ Ok n → sets (set ix b n) (b + 1) (starts f s n (p + 2)) ≡ sets ix (base_of s) (entries f s p)
   entries-stored ix b n g e = rw (← g, entries-on n e, add-one)
 
-  pub entries-kept : (ix : List ℕ) (b x : ℕ) → count_at f s p ≡ Refused x → ix ≡ sets ix b (entries f s p)
+  pub entries-kept : (ix : List ℕ) (b x : ℕ) → count_at f s p ≡ Err x → ix ≡ sets ix b (entries f s p)
   unfolding entries
   entries-kept ix b x e = rw (e, entries)
 
 -- the whole file: n sections from section s on, and the end
 module _ (f : List ℕ) (n s p : ℕ) where
-  pub sections-more : (m q : ℕ) → s < 10 → p ≤ length f → n ≡ m + 1 → step_at f (section_of s) p ≡ Next q → step_at f (sections n s) p ≡ step_at f (sections m (s + 1)) q
+  pub sections-more : (m q : ℕ) → s < 10 → p ≤ length f → n ≡ m + 1 → step_at f (section_of s) p ≡ Ok q → step_at f (sections n s) p ≡ step_at f (sections m (s + 1)) q
   unfolding sections
   sections-more m q h g k e =
       let w = ended f (section_of s) p q (suffix-sections s h) g e in
       ap (λ (j : ℕ). step_at f (sections j s) p) (k ∙ add-one m) ∙ step_same f _ _ _ _ (then-got f (section_of s) (λ a. sections m (s + 1)) p w.value q w.is)
 
-  pub sections-fault : (x : ℕ) → 0 < n → step_at f (section_of s) p ≡ Refused x → step_at f (sections n s) p ≡ Refused x
+  pub sections-fault : (x : ℕ) → 0 < n → step_at f (section_of s) p ≡ Err x → step_at f (sections n s) p ≡ Err x
   unfolding sections
   sections-fault x h e =
       ap (λ (j : ℕ). step_at f (sections j s) p) (down n h)
       ∙ step-refused f _ p x (then-refused f (section_of s) (λ a. sections (n - 1) (s + 1)) p x (faulted f (section_of s) p x e))
 
-  pub sections-over : n ≡ 0 → p < length f → step_at f (sections n s) p ≡ Refused 7
+  pub sections-over : n ≡ 0 → p < length f → step_at f (sections n s) p ≡ Err 7
   unfolding sections end read_at
   sections-over h g = ap (λ (j : ℕ). step_at f (sections j s) p) h ∙ step-refused f (end tt) p 7 (ap (end tt) (drop-cons f p 0 g))
 
-  pub sections-whole : n ≡ 0 → p ≤ length f → length f ≤ p → step_at f (sections n s) p ≡ Next p
+  pub sections-whole : n ≡ 0 → p ≤ length f → length f ≤ p → step_at f (sections n s) p ≡ Ok p
   unfolding sections end read_at
   sections-whole h k g =
       let e : drop p f ≡ [] = drop_of_length-le f g in
@@ -206,11 +207,11 @@ module _ (f : List ℕ) (n s p : ℕ) where
   unfolding filled
   filled_none ix h = rw h
 
-  pub filled_more : (m q : ℕ) (ix ix' : List ℕ) → n ≡ m + 1 → step_at f (section_of s) p ≡ Next q → ix' ≡ sets ix (base_of s) (entries f s p) → filled f n s p ix ≡ filled f m (s + 1) q ix'
+  pub filled_more : (m q : ℕ) (ix ix' : List ℕ) → n ≡ m + 1 → step_at f (section_of s) p ≡ Ok q → ix' ≡ sets ix (base_of s) (entries f s p) → filled f n s p ix ≡ filled f m (s + 1) q ix'
   unfolding filled
   filled_more m q ix ix' h e g = ap (λ (k : ℕ). filled f k s p ix) (h ∙ add-one m) ∙ simp (filled, e, g)
 
-  pub filled-fault : (x : ℕ) (ix : List ℕ) → 0 < n → step_at f (section_of s) p ≡ Refused x → filled f n s p ix ≡ sets ix (base_of s) (entries f s p)
+  pub filled-fault : (x : ℕ) (ix : List ℕ) → 0 < n → step_at f (section_of s) p ≡ Err x → filled f n s p ix ≡ sets ix (base_of s) (entries f s p)
   unfolding filled
   filled-fault x ix h e = rw (down n h) (simp (filled, e))
 

@@ -11,8 +11,8 @@ use Rattle.rules.specs.Utf8.{UTF8-octets}
 use Rattle.rules.specs.Read.{Read, Reader, ◌>>=◌, pure, refuse, u8, u16, u32, optional, many, several, kind, section, well_formed, name, field_ty, alternative, fact_ty, record_ty, union_ty, type, predicate, anchor, field_pattern, one, two, int_node, bytes_node, fuzzy_node, record_node, node, path, row_slot, key_slot, derived_slot, field_slot, value_slot, const_slot, slot, binding, hoisted, fetched, constraint, op, comparison, level}
 use Rattle.rules.specs.Read.Read.{got, refused}
 use Rattle.file.specs.Steps.{step_of, read_at, step_at, skim, record_readers, record_of, limit_of, section_of}
-use Rattle.file.specs.declared.Step.TheVariants.{Next, Refused}
 use Rattle.file.proofs.Readers.{refused-got, refused-next, bind_inv}
+use Rattle.std.specs.Prelude.{Result, Ok, Err}
 
 -- rest is l without its first elements
 pub record End (l rest : List ℕ) : Type 0 where
@@ -238,15 +238,15 @@ pub record Ended {A : Type 0} (f : List ℕ) (r : Reader A) (p q : ℕ) : Type 0
   pub is : read_at f r p ≡ got value (drop q f)
   pub within : q ≤ length f
 
-next_of : {a b : ℕ} → Next a ≡ Next b → a ≡ b
+next_of : {a b : ℕ} → ◌≡◌ {A = Result ℕ ℕ} (Ok a) (Ok b) → a ≡ b
 next_of {a} {b} e = cc
 
 module _ {A : Type 0} (f : List ℕ) (r : Reader A) (p : ℕ) where
-  pub ended : (q : ℕ) → Suffix r → p ≤ length f → step_at f r p ≡ Next q → Ended f r p q
+  pub ended : (q : ℕ) → Suffix r → p ≤ length f → step_at f r p ≡ Ok q → Ended f r p q
   unfolding step_at read_at step_of
   ended q x h e = go (r (drop p f)) refl e
     where
-      go : (y : Read A) → r (drop p f) ≡ y → step_of f y ≡ Next q → Ended f r p q
+      go : (y : Read A) → r (drop p f) ≡ y → step_of f y ≡ Ok q → Ended f r p q
       go (got a rest) g k =
           let t = end-end (record { skipped = p; within = h; is = refl }) (x.left (drop p f) a rest g) in
           let n : length f - length rest ≡ q = next_of k in
@@ -254,10 +254,10 @@ module _ {A : Type 0} (f : List ℕ) (r : Reader A) (p : ℕ) where
           record { value = a; is = g ∙ ap (got a) (t.is ∙ ap (λ (j : ℕ). drop j f) m); within = omega (arith, t.within) }
       go (refused n) g k = absurd (refused-next k)
 
-  pub faulted : (x : ℕ) → step_at f r p ≡ Refused x → read_at f r p ≡ refused x
+  pub faulted : (x : ℕ) → step_at f r p ≡ Err x → read_at f r p ≡ refused x
   unfolding step_at step_of
   faulted x e = go (read_at f r p) e
     where
-      go : (y : Read A) → step_of f y ≡ Refused x → y ≡ refused x
+      go : (y : Read A) → step_of f y ≡ Err x → y ≡ refused x
       go (got a rest) g = absurd (refused-next (sym g))
       go (refused n) g = let z : n ≡ x = cc in ap refused z

@@ -1,3 +1,4 @@
+pub mod Refusals
 pub mod Sections
 pub mod Steps
 pub mod Tables

@@ -1,11 +1,9 @@
 -- Reading by position: where a reading of the written rules ends, and what stands in the index afterwards.
-use Rattle.std.specs.Prelude.{ℕ, zero, suc, ◌+◌, ◌*◌, ◌-◌, true, false, List, [], ◌∷◌, length, get_or, set, drop, leb}
+use Rattle.std.specs.Prelude.{ℕ, zero, suc, ◌+◌, ◌*◌, ◌-◌, true, false, List, [], ◌∷◌, length, get_or, set, drop, leb, Result, Ok, Err}
 use Rattle.std.proofs.lemmas.List.Edits.{sets}
 use Rattle.rules.specs.Limits.{name_limit, type_limit, predicate_limit, node_limit, binding_limit, hoisted_limit, fetched_limit, constraint_limit, comparison_limit, level_limit}
 use Rattle.rules.specs.Read.{Read, Reader, ◌>>=◌, pure, refuse, u16, section, end, name, type, predicate, node, binding, hoisted, fetched, constraint, comparison, level}
 use Rattle.rules.specs.Read.Read.{got, refused}
-use Rattle.file.specs.declared.Step.{Step}
-use Rattle.file.specs.declared.Step.TheVariants.{Next, Refused}
 
 -- two bytes hold a number below this
 abbrev pub word_limit : ℕ
@@ -16,16 +14,16 @@ unfoldable pub word : List ℕ → ℕ → ℕ
 word f p = get_or f p 0 + 256 * get_or f (p + 1) 0
 
 -- where a reading of f ended, or its refusal
-unfoldable pub step_of : {A : Type 0} → List ℕ → Read A → Step
-step_of f (got a rest) = Next (length f - length rest)
-step_of f (refused n) = Refused n
+unfoldable pub step_of : {A : Type 0} → List ℕ → Read A → Result ℕ ℕ
+step_of f (got a rest) = Ok (length f - length rest)
+step_of f (refused n) = Err n
 
 -- what reader r finds at position p of f
 unfoldable pub read_at : {A : Type 0} → List ℕ → Reader A → ℕ → Read A
 read_at f r p = r (drop p f)
 
 -- and where it ends
-unfoldable pub step_at : {A : Type 0} → List ℕ → Reader A → ℕ → Step
+unfoldable pub step_at : {A : Type 0} → List ℕ → Reader A → ℕ → Result ℕ ℕ
 step_at f r p = step_of f (read_at f r p)
 
 -- the same reading, with nothing kept
@@ -99,21 +97,21 @@ unfoldable pub count : ℕ → Reader ℕ
 count s = u16 >>= λ n. elim (leb n (limit_of s)) [ true ↦ pure n | false ↦ refuse 4 ]
 
 -- a count that was read, or its refusal
-unfoldable pub counted : Read ℕ → Step
-counted (got n rest) = Next n
-counted (refused x) = Refused x
+unfoldable pub counted : Read ℕ → Result ℕ ℕ
+counted (got n rest) = Ok n
+counted (refused x) = Err x
 
-unfoldable pub count_at : List ℕ → ℕ → ℕ → Step
+unfoldable pub count_at : List ℕ → ℕ → ℕ → Result ℕ ℕ
 count_at f s p = counted (read_at f (count s) p)
 
 -- where each of n records of section s starts, up to the first fault
 unfoldable pub starts : List ℕ → ℕ → ℕ → ℕ → List ℕ
 starts f s zero p = []
-starts f s (suc n) p = elim (step_at f (record_of s) p) [ Next q ↦ p ∷ starts f s n q | Refused x ↦ [] ]
+starts f s (suc n) p = elim (step_at f (record_of s) p) [ Ok q ↦ p ∷ starts f s n q | Err x ↦ [] ]
 
 -- what section s leaves in the index
 unfoldable pub entries : List ℕ → ℕ → ℕ → List ℕ
-entries f s p = elim (count_at f s p) [ Next n ↦ n ∷ starts f s n (p + 2) | Refused x ↦ [] ]
+entries f s p = elim (count_at f s p) [ Ok n ↦ n ∷ starts f s n (p + 2) | Err x ↦ [] ]
 
 -- n sections from section s on, and the file's end
 unfoldable pub sections : ℕ → ℕ → Reader (Unit {0})
@@ -125,8 +123,8 @@ unfoldable pub filled : List ℕ → ℕ → ℕ → ℕ → List ℕ → List �
 filled f zero s p ix = ix
 filled f (suc n) s p ix =
     elim (step_at f (section_of s) p) [
-      | Next q ↦ filled f n (s + 1) q (sets ix (base_of s) (entries f s p))
-      | Refused x ↦ sets ix (base_of s) (entries f s p)
+      | Ok q ↦ filled f n (s + 1) q (sets ix (base_of s) (entries f s p))
+      | Err x ↦ sets ix (base_of s) (entries f s p)
     ]
 
 -- the index with n empty sections from section s on: each count is 0

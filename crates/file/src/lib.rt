@@ -1,21 +1,56 @@
 // Reading a rule file front to back: refusals 3 to 7, and the index of where each record starts.
 #![tactic(auto)]
 
-ghost use Rattle.std.specs.Prelude.{◌≡◌, ℕ, ◌+◌, ◌*◌, ◌-◌, ◌≤◌, ◌<◌, min, length, take, drop};
+ghost use Rattle.std.specs.Prelude.{◌≡◌, ◌+◌, ◌*◌, ◌-◌, ◌≤◌, ◌<◌, min, length, take, drop, OnOk};
 ghost use Rattle.std.proofs.lemmas.List.Edits.{sets};
 ghost use Rattle.rules.specs.Limits.{file_limit};
 ghost use Rattle.rules.specs.Read.{u8, many, several, well_formed, name, type, node, slot, binding, fetched, comparison, fuzzy_node, path};
 ghost use Rattle.rules.specs.Read as Read;
 ghost use Rattle.file.specs.Steps.{word_limit, word, step_at, record_of, section_count, limit_of, base_of, count_at, starts, section_of, entries, filled, emptied, index_length, index_of};
+ghost use Rattle.file.specs.Refusals.{number, numbered};
 ghost use Rattle.file.specs.Tables.{Indexed};
 
 use utf8::well_formed;
 
-// Where what was read ends, or the number of the first fault.
-#[derive(Clone, Copy)]
-pub enum Step {
-    Next(usize),
-    Refused(u8),
+// Why a call gives no plan, by its number; the Rust crate has the same names.
+#[derive(Clone, Copy, PartialEq, Eq)]
+pub enum Refusal {
+    // The file or the work area, as they were lent.
+    FileTooLong = 1,
+    WorkTooShort,
+    // Reading: the bytes end inside a count or a record; a count above its section's limit; an unknown kind, anchor or op; a name that
+    // is not UTF-8; bytes that follow the last section.
+    Ends,
+    Count,
+    Kind,
+    NameByte,
+    Follows,
+    // The whole file: a number past its section's count; a child that is not lower than its parent; a name or disc twice in a type; a
+    // type that is too deep; a node that is a child twice; a Const binding of a node that is not constant; a path that may grow too long.
+    Number,
+    Child,
+    Repeat,
+    Depth,
+    Shared,
+    NotConstant,
+    Path,
+    // The plan is too long, in compiling and in reading.
+    PlanTooLong,
+    // Reading a plan: it ends early; a byte has no meaning, a path is too long, or bytes are left over; a level breaks a rule.
+    PlanEnds,
+    PlanByte,
+    PlanRule,
+    // A level has a constant where its type gives that no bytes.
+    Literal,
+}
+
+impl Refusal {
+    // The number that the caller is told.
+    pub fn number(self) -> u8
+        ensures { result ≡ number self }
+    {
+        self as u8
+    }
 }
 
 // The sections by number, in the file's order.
@@ -110,66 +145,66 @@ pub fn word_at(file: &[u8], p: usize) -> usize
 }
 
 // Where n bytes from p on end, whatever they hold.
-pub fn fixed(file: &[u8], n: usize, p: usize) -> Step
+pub fn fixed(file: &[u8], n: usize, p: usize) -> Result<usize, Refusal>
     requires { (p ≤ length file.now) × (n ≤ word_limit) }
-    ensures { result ≡ step_at file.now (many n u8) p }
+    ensures { numbered result ≡ step_at file.now (many n u8) p }
 {
     if n <= file.len() - p {
-        Step::Next(p + n)
+        Ok(p + n)
     } else {
-        Step::Refused(3)
+        Err(Refusal::Ends)
     }
 }
 
 // Where a count byte at p and as many times w bytes end.
-pub fn repeated(file: &[u8], w: usize, p: usize) -> Step
+pub fn repeated(file: &[u8], w: usize, p: usize) -> Result<usize, Refusal>
     requires { (p ≤ length file.now) × (w ≤ 8) }
-    ensures { result ≡ step_at file.now (several (many w u8)) p }
+    ensures { numbered result ≡ step_at file.now (several (many w u8)) p }
 {
     if p >= file.len() {
-        return Step::Refused(3);
+        return Err(Refusal::Ends);
     }
     let n = wide(file[p]);
     fixed(file, n * w, p + 1)
 }
 
 // Where the bytes from p to q end, if they are well-formed UTF-8.
-fn text_end(file: &[u8], p: usize, q: usize) -> Step
+fn text_end(file: &[u8], p: usize, q: usize) -> Result<usize, Refusal>
     requires { (p ≤ q) × (q ≤ length file.now) }
     ensures { let bytes = take (q - p) (drop p file.now) in
-        result ≡ step_at file.now (well_formed bytes) q }
+        numbered result ≡ step_at file.now (well_formed bytes) q }
 {
     if well_formed(&file[p..q]) {
-        Step::Next(q)
+        Ok(q)
     } else {
-        Step::Refused(6)
+        Err(Refusal::NameByte)
     }
 }
 
 // Where the name at `at` ends: its length, then as many bytes. It is read whole before its bytes are judged.
-pub fn name_end(file: &[u8], at: usize) -> Step
+pub fn name_end(file: &[u8], at: usize) -> Result<usize, Refusal>
     requires { at ≤ length file.now }
-    ensures { result ≡ step_at file.now name at }
+    ensures { numbered result ≡ step_at file.now name at }
 {
     if at >= file.len() {
-        return Step::Refused(3);
+        return Err(Refusal::Ends);
     }
     let n = wide(file[at]);
     let p = at + 1;
     if n > file.len() - p {
-        Step::Refused(3)
+        Err(Refusal::Ends)
     } else {
         text_end(file, p, p + n)
     }
 }
 
 // Where the type at `at` ends: its kind says how many bytes follow.
-pub fn type_end(file: &[u8], at: usize) -> Step
+pub fn type_end(file: &[u8], at: usize) -> Result<usize, Refusal>
     requires { at ≤ length file.now }
-    ensures { result ≡ step_at file.now type at }
+    ensures { numbered result ≡ step_at file.now type at }
 {
     if at >= file.len() {
-        return Step::Refused(3);
+        return Err(Refusal::Ends);
     }
     let k = wide(file[at]);
     if k < 4 {
@@ -181,34 +216,34 @@ pub fn type_end(file: &[u8], at: usize) -> Step
     if k == 5 {
         return repeated(file, 8, at + 1);
     }
-    Step::Refused(5)
+    Err(Refusal::Kind)
 }
 
 // Where a Fuzzy node ends that has its name at p: name, distance, anchor.
-pub fn fuzzy_end(file: &[u8], p: usize) -> Step
+pub fn fuzzy_end(file: &[u8], p: usize) -> Result<usize, Refusal>
     requires { p ≤ length file.now }
-    ensures { result ≡ step_at file.now fuzzy_node p }
+    ensures { numbered result ≡ step_at file.now fuzzy_node p }
 {
     if file.len() - p < 4 {
-        return Step::Refused(3);
+        return Err(Refusal::Ends);
     }
     if file[p + 3] > 1 {
-        return Step::Refused(5);
+        return Err(Refusal::Kind);
     }
-    Step::Next(p + 4)
+    Ok(p + 4)
 }
 
 // Where the node at `at` ends: its kind says how many bytes follow.
-pub fn node_end(file: &[u8], at: usize) -> Step
+pub fn node_end(file: &[u8], at: usize) -> Result<usize, Refusal>
     requires { at ≤ length file.now }
-    ensures { result ≡ step_at file.now node at }
+    ensures { numbered result ≡ step_at file.now node at }
 {
     if at >= file.len() {
-        return Step::Refused(3);
+        return Err(Refusal::Ends);
     }
     let k = wide(file[at]);
     if k > 16 {
-        return Step::Refused(5);
+        return Err(Refusal::Kind);
     }
     if k == 2 {
         return repeated(file, 1, at + 1);
@@ -223,41 +258,39 @@ pub fn node_end(file: &[u8], at: usize) -> Step
 }
 
 // Where the path at p ends: its field, a count, and as many steps.
-fn path_end(file: &[u8], p: usize) -> Step
+fn path_end(file: &[u8], p: usize) -> Result<usize, Refusal>
     requires { p ≤ length file.now }
-    ensures { result ≡ step_at file.now path p }
+    ensures { numbered result ≡ step_at file.now path p }
 {
     if file.len() - p < 2 {
-        return Step::Refused(3);
+        return Err(Refusal::Ends);
     }
     repeated(file, 4, p + 2)
 }
 
 // Where an address, a path and a number end: a fetched entry has them, and a Field slot after its kind.
-pub fn fetched_end(file: &[u8], p: usize) -> Step
+pub fn fetched_end(file: &[u8], p: usize) -> Result<usize, Refusal>
     requires { p ≤ length file.now }
-    ensures { result ≡ step_at file.now fetched p }
+    ensures { numbered result ≡ step_at file.now fetched p }
 {
     if file.len() - p < 2 {
-        return Step::Refused(3);
+        return Err(Refusal::Ends);
     }
-    match path_end(file, p + 2) {
-        Step::Next(q) => fixed(file, 2, q),
-        Step::Refused(x) => Step::Refused(x),
-    }
+    let q = path_end(file, p + 2)?;
+    fixed(file, 2, q)
 }
 
 // Where the slot at `at` ends: its kind says how many bytes follow.
-pub fn slot_end(file: &[u8], at: usize) -> Step
+pub fn slot_end(file: &[u8], at: usize) -> Result<usize, Refusal>
     requires { at ≤ length file.now }
-    ensures { result ≡ step_at file.now slot at }
+    ensures { numbered result ≡ step_at file.now slot at }
 {
     if at >= file.len() {
-        return Step::Refused(3);
+        return Err(Refusal::Ends);
     }
     let k = wide(file[at]);
     if k > 5 {
-        return Step::Refused(5);
+        return Err(Refusal::Kind);
     }
     if k == 3 {
         return fetched_end(file, at + 1);
@@ -266,34 +299,34 @@ pub fn slot_end(file: &[u8], at: usize) -> Step
 }
 
 // Where the binding at p ends: a name and a slot.
-pub fn binding_end(file: &[u8], p: usize) -> Step
+pub fn binding_end(file: &[u8], p: usize) -> Result<usize, Refusal>
     requires { p ≤ length file.now }
-    ensures { result ≡ step_at file.now binding p }
+    ensures { numbered result ≡ step_at file.now binding p }
 {
     if file.len() - p < 2 {
-        return Step::Refused(3);
+        return Err(Refusal::Ends);
     }
     slot_end(file, p + 2)
 }
 
 // Where the comparison at `at` ends: an op and two nodes.
-pub fn comparison_end(file: &[u8], at: usize) -> Step
+pub fn comparison_end(file: &[u8], at: usize) -> Result<usize, Refusal>
     requires { at ≤ length file.now }
-    ensures { result ≡ step_at file.now comparison at }
+    ensures { numbered result ≡ step_at file.now comparison at }
 {
     if at >= file.len() {
-        return Step::Refused(3);
+        return Err(Refusal::Ends);
     }
     if file[at] > 3 {
-        return Step::Refused(5);
+        return Err(Refusal::Kind);
     }
     fixed(file, 4, at + 1)
 }
 
 // Where the record of section s at `at` ends.
-pub fn record_end(file: &[u8], s: usize, at: usize) -> Step
+pub fn record_end(file: &[u8], s: usize, at: usize) -> Result<usize, Refusal>
     requires { (at ≤ length file.now) × (s < section_count) }
-    ensures { result ≡ step_at file.now (record_of s) at }
+    ensures { numbered result ≡ step_at file.now (record_of s) at }
 {
     match s {
         NAMES => name_end(file, at),
@@ -307,31 +340,28 @@ pub fn record_end(file: &[u8], s: usize, at: usize) -> Step
 }
 
 // Where n records of section s from `at` on end. Each one's start goes into the index, from base on.
-pub fn records(file: &[u8], index: &mut [u16], s: usize, base: usize, n: usize, at: usize) -> Step
+pub fn records(
+    file: &[u8],
+    index: &mut [u16],
+    s: usize,
+    base: usize,
+    n: usize,
+    at: usize,
+) -> Result<usize, Refusal>
     requires { (at ≤ length file.now) ×
         (length file.now ≤ file_limit) ×
         (s < section_count) ×
         (base + n ≤ length index.old) }
-    ensures reads { result ≡ step_at file.now (many n (record_of s)) at }
+    ensures reads { numbered result ≡ step_at file.now (many n (record_of s)) at }
     ensures indexes { index.new ≡ sets index.old base (starts file.now s n at) }
 {
     let mut p = at;
-    let mut i = base;
-    let mut left = n;
-    while left > 0 {
-        match record_end(file, s, p) {
-            Step::Next(q) => {
-                index[i] = p as u16;
-                p = q;
-                i += 1;
-                left -= 1;
-            }
-            Step::Refused(x) => {
-                return Step::Refused(x);
-            }
-        }
+    for k in 0..n {
+        let q = record_end(file, s, p)?;
+        index[base + k] = p as u16;
+        p = q;
     }
-    Step::Next(p)
+    Ok(p)
 }
 
 // How many records section s may have.
@@ -351,62 +381,49 @@ pub fn base(s: usize) -> usize
 }
 
 // The count of section s, which stands at p, or the refusal of a count above the section's limit.
-pub fn count(file: &[u8], s: usize, p: usize) -> Step
+pub fn count(file: &[u8], s: usize, p: usize) -> Result<usize, Refusal>
     requires { (p ≤ length file.now) × (s < section_count) }
-    ensures { result ≡ count_at file.now s p }
+    ensures { numbered result ≡ count_at file.now s p }
 {
     if file.len() - p < 2 {
-        return Step::Refused(3);
+        return Err(Refusal::Ends);
     }
     let n = word_at(file, p);
     if n > limit(s) {
-        return Step::Refused(4);
+        return Err(Refusal::Count);
     }
-    Step::Next(n)
+    Ok(n)
 }
 
 // Where section s at p ends: its count and its records. The count and each record's start go into the section's area of the index.
-pub fn section(file: &[u8], index: &mut [u16], s: usize, p: usize) -> Step
+pub fn section(file: &[u8], index: &mut [u16], s: usize, p: usize) -> Result<usize, Refusal>
     requires { (p ≤ length file.now) ×
         (length file.now ≤ file_limit) ×
         (s < section_count) ×
         (index_length ≤ length index.old) }
-    ensures reads { result ≡ step_at file.now (section_of s) p }
+    ensures reads { numbered result ≡ step_at file.now (section_of s) p }
     ensures indexes { index.new ≡ sets index.old (base_of s) (entries file.now s p) }
 {
-    match count(file, s, p) {
-        Step::Next(n) => {
-            let b = base(s);
-            index[b] = n as u16;
-            records(file, index, s, b + 1, n, p + 2)
-        }
-        Step::Refused(x) => Step::Refused(x),
-    }
+    let n = count(file, s, p)?;
+    let b = base(s);
+    index[b] = n as u16;
+    records(file, index, s, b + 1, n, p + 2)
 }
 
 // Reads the ten sections front to back: the refusal of the first fault, or the file's end. Their counts and records go into the index.
-fn ten_sections(file: &[u8], index: &mut [u16]) -> Step
+fn ten_sections(file: &[u8], index: &mut [u16]) -> Result<usize, Refusal>
     requires { (length file.now ≤ file_limit) × (index_length ≤ length index.old) }
-    ensures reads { result ≡ step_at file.now Read.ten_sections 0 }
+    ensures reads { numbered result ≡ step_at file.now Read.ten_sections 0 }
     ensures indexes { index.new ≡ filled file.now section_count 0 0 index.old }
 {
     let mut p = 0;
-    let mut s = 0;
-    while s < SECTIONS {
-        match section(file, index, s, p) {
-            Step::Next(q) => {
-                p = q;
-                s += 1;
-            }
-            Step::Refused(x) => {
-                return Step::Refused(x);
-            }
-        }
+    for s in 0..SECTIONS {
+        p = section(file, index, s, p)?;
     }
     if p < file.len() {
-        return Step::Refused(7);
+        return Err(Refusal::Follows);
     }
-    Step::Next(p)
+    Ok(p)
 }
 
 // Writes the index of ten empty sections: each count is 0.
@@ -414,25 +431,22 @@ fn no_records(index: &mut [u16])
     requires { index_length ≤ length index.old }
     ensures { index.new ≡ emptied section_count 0 index.old }
 {
-    let mut s = 0;
-    while s < SECTIONS {
-        let b = base(s);
-        index[b] = 0;
-        s += 1;
+    for s in 0..SECTIONS {
+        index[base(s)] = 0;
     }
 }
 
 // Reads the whole file: the refusal of its first fault, or its end. On acceptance the index finds every record. A file of no bytes is
 // ten empty sections.
-pub fn read(file: &[u8], index: &mut [u16]) -> Step
+pub fn read(file: &[u8], index: &mut [u16]) -> Result<usize, Refusal>
     requires { (length file.now ≤ file_limit) × (index_length ≤ length index.old) }
-    ensures reads { result ≡ step_at file.now Read.file 0 }
+    ensures reads { numbered result ≡ step_at file.now Read.file 0 }
     ensures indexes { index.new ≡ index_of file.now index.old }
-    ensures finds { (q : ℕ) → result ≡ Step.Next q → Indexed file.now index.new }
+    ensures finds { OnOk result (Indexed file.now index.new) }
 {
     if file.len() == 0 {
         no_records(index);
-        return Step::Next(0);
+        return Ok(0);
     }
     ten_sections(file, index)
 }

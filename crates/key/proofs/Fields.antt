@@ -2,8 +2,7 @@
 use Prim.Native.Nat.{ℕ, ◌+◌, ◌≤◌, ◌<◌}
 use mathlib.Core.Path.{◌≡◌, refl, sym, ap, ◌∙◌}
 use mathlib.Core.List.{List, [], ◌∷◌}
-use mathlib.Core.Option
-use mathlib.Core.Option.{Option, none, some}
+use Rattle.std.specs.Prelude.{Option, None, Some, unwrap_or}
 use native.Mathlib.Numerals.{add-one}
 use native.Mathlib.Omega.{arith}
 use lib.ListN.{length, get_or, drop, length-drop}
@@ -21,7 +20,7 @@ none_left (x ∷ l) h = absurd (omega arith)
 module _ {S : Type 0} (g : FieldWalk S) (missing : S → S) (place : ℕ → FieldPath) (fields : List FieldPattern) (fs : List FieldTy) (i : ℕ) (s : S) where
   -- field i, by the pattern of its name
   unfoldable pub turn : Option ℕ → ℕ → S
-  turn o t = elim o [ none ↦ missing s | some pattern ↦ g pattern t (place i) s ]
+  turn o t = elim o [ None ↦ missing s | Some pattern ↦ g pattern t (place i) s ]
 
   pub each_more : i < length fs → each_field g missing place fields i (drop i fs) s ≡ each_field g missing place fields (i + 1) (drop (i + 1) fs) (turn (field_pattern fields (get_or fs i no_field).name) (get_or fs i no_field).type)
   unfolding each_field turn
@@ -35,11 +34,11 @@ module _ {S : Type 0} (g : FieldWalk S) (missing : S → S) (place : ℕ → Fie
 
 -- `partial` walks the fields that are open
 module _ {S : Type 0} (o : Ops S) (T : Tables) (address : ℕ) (below : FieldWalk S) where
-  opens : (ps : Option (List FieldPattern)) (fs : Option (List FieldTy)) (path : FieldPath) (s : S) → partial_fields o T address below ps fs path s ≡ each_field below (λ w. w) (then path) (Option.get_or ps []) 0 (open_fields ps fs) s
+  opens : (ps : Option (List FieldPattern)) (fs : Option (List FieldTy)) (path : FieldPath) (s : S) → partial_fields o T address below ps fs path s ≡ each_field below (λ w. w) (then path) (unwrap_or ps []) 0 (open_fields ps fs) s
   unfolding partial_fields open_fields each_field
-  opens none fs path s = refl
-  opens (some ps) none path s = refl
-  opens (some ps) (some fs) path s = refl
+  opens None fs path s = refl
+  opens (Some ps) None path s = refl
+  opens (Some ps) (Some fs) path s = refl
 
   pub partial-opens : (n t : ℕ) (path : FieldPath) (s : S) → partial o T address below n t path s ≡ each_field below (λ w. w) (then path) (patterns_of T n) 0 (fields_for T n t) (o.skip s)
   unfolding partial patterns_of fields_for

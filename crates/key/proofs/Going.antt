@@ -3,7 +3,7 @@
 use Prim.Native.Nat.{ℕ, ◌+◌, ◌≤◌, ◌<◌}
 use mathlib.Core.Path.{◌≡◌, refl, sym, ap, ◌∙◌}
 use mathlib.Core.List.{List}
-use mathlib.Core.Option.{Option, some}
+use Rattle.std.specs.Prelude.{Option, Some, None}
 use native.Mathlib.Omega.{arith}
 use lib.ListN.{length, get_or, drop}
 use Rattle.rules.specs.File as File
@@ -13,9 +13,6 @@ use Rattle.state.specs.State.{State}
 use Rattle.state.specs.Ops.{ops}
 use Rattle.paths.specs.Paths.{path_of, Holds}
 use Rattle.paths.specs.declared.FieldPath.{FieldPath}
-use Rattle.tables.specs.Tables.{found_option}
-use Rattle.tables.specs.declared.Found.{Found}
-use Rattle.tables.specs.declared.Found.TheVariants as Fo
 use Rattle.field_cases.specs.Pieces.{patterns_of, fields_for, no_field, Pieced}
 use Rattle.field_cases.specs.declared.Piece.{Piece}
 use Rattle.key.specs.Cycle.{Walks}
@@ -41,7 +38,7 @@ module _ (T : Tables) (a n t : ℕ) (missing : State → State) (place : ℕ →
 
     module _ (s' : State) (w' p' : List ℕ) (ew : length w' ≡ length w) (ep : length p' ≡ length p) where
       -- one field more, by what was found of it
-      pub going-turn : ((m : ℕ) → t ≤ m → s' ≡ one m (found_option r.pattern) r.ty) → Going T a n t missing place (i + 1) s₀ s' w₀ p₀ w' p'
+      pub going-turn : ((m : ℕ) → t ≤ m → s' ≡ one m (r.pattern) r.ty) → Going T a n t missing place (i + 1) s₀ s' w₀ p₀ w' p'
       going-turn q =
           record {
             low = omega arith;
@@ -52,15 +49,15 @@ module _ (T : Tables) (a n t : ℕ) (missing : State → State) (place : ℕ →
                 ∙ each_more (field_below (ops T) T a m) missing place (patterns_of T n) (fields_for T n t) i s h
                 ∙ ap (left T a n t missing place m (i + 1))
                 (ap (λ (x : Option ℕ). one m x (get_or (fields_for T n t) i no_field).type) (sym k.found)
-                ∙ ap (one m (found_option r.pattern)) (sym k.type)
+                ∙ ap (one m (r.pattern)) (sym k.type)
                 ∙ sym (q m l));
           }
 
-      pub going-missing : r.pattern ≡ Fo.Nothing → s' ≡ missing s → Going T a n t missing place (i + 1) s₀ s' w₀ p₀ w' p'
+      pub going-missing : r.pattern ≡ None → s' ≡ missing s → Going T a n t missing place (i + 1) s₀ s' w₀ p₀ w' p'
       unfolding turn
-      going-missing e q = going-turn (λ m l. q ∙ ap (λ (x : Found). one m (found_option x) r.ty) (sym e))
+      going-missing e q = going-turn (λ m l. q ∙ ap (λ (x : Option ℕ). one m (x) r.ty) (sym e))
 
-      pub going-given : (j : ℕ) → found_option r.pattern ≡ some j → (q : FieldPath) → Holds q (place i) → Walks T a j r.ty (path_of q) s s' → Going T a n t missing place (i + 1) s₀ s' w₀ p₀ w' p'
+      pub going-given : (j : ℕ) → r.pattern ≡ Some j → (q : FieldPath) → Holds q (place i) → Walks T a j r.ty (path_of q) s s' → Going T a n t missing place (i + 1) s₀ s' w₀ p₀ w' p'
       unfolding turn
       going-given j e q o x =
           going-turn

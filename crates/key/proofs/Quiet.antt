@@ -3,7 +3,7 @@ use Prim.Native.Nat.{ℕ, zero, suc, ◌≤◌, ◌<◌}
 use mathlib.Core.Path.{◌≡◌, refl, sym, ap, ap₂, ◌∙◌, subst}
 use mathlib.Core.Bool.{Bool, true, false}
 use mathlib.Core.List.{List, [], ◌∷◌}
-use mathlib.Core.Option.{Option, none, some}
+use Rattle.std.specs.Prelude.{Option, None, Some}
 use native.Mathlib.Omega.{arith}
 use lib.ListN.{length}
 use Rattle.rules.specs.Base.{Each, done, more, either, ◌when_some◌}
@@ -43,7 +43,7 @@ skip_at false e l g w p = refl
 skip-again : (s : State) → skip (skip s) ≡ skip s
 skip-again s = skip_at s.over s.ends s.level s.target s.work s.plan
 
-record-type : (u : Ty) (fs : List FieldTy) → record_ty u ≡ some fs → u ≡ Ty.Record fs
+record-type : (u : Ty) (fs : List FieldTy) → record_ty u ≡ Some fs → u ≡ Ty.Record fs
 unfolding record_ty
 record-type Ty.Int fs e = absurd (some≢none fs (sym e))
 record-type Ty.Str fs e = absurd (some≢none fs (sym e))
@@ -65,8 +65,8 @@ record Opens (T : Tables) (m n t : ℕ) : Type 0 where
   fields : List FieldPattern
   front : FieldTy
   rest : List FieldTy
-  node-is : record_fields (node_at T n) ≡ some fields
-  type-is : record_ty (type_at T t) ≡ some (front ∷ rest)
+  node-is : record_fields (node_at T n) ≡ Some fields
+  type-is : record_ty (type_at T t) ≡ Some (front ∷ rest)
   silent : any_field (heard_below T m) fields (front ∷ rest) ≡ false
 
 opens : (T : Tables) (m n t : ℕ) → heard_below T (suc m) n t ≡ false → Opens T m n t
@@ -74,26 +74,26 @@ unfolding heard_below heard_by
 opens T m n t h = go (record_fields (node_at T n)) (record_ty (type_at T t)) refl refl h
   where
     go : (ps : Option (List FieldPattern)) (fs : Option (List FieldTy)) → record_fields (node_at T n) ≡ ps → record_ty (type_at T t) ≡ fs → heard_by (heard_below T m) ps fs ≡ false → Opens T m n t
-    go none fs p q e = absurd (true≢false e)
-    go (some fields) none p q e = absurd (true≢false e)
-    go (some fields) (some []) p q e = absurd (true≢false e)
-    go (some fields) (some (f ∷ fs)) p q e = record { fields = fields; front = f; rest = fs; node-is = p; type-is = q; silent = e }
+    go None fs p q e = absurd (true≢false e)
+    go (Some fields) None p q e = absurd (true≢false e)
+    go (Some fields) (Some []) p q e = absurd (true≢false e)
+    go (Some fields) (Some (f ∷ fs)) p q e = record { fields = fields; front = f; rest = fs; node-is = p; type-is = q; silent = e }
 
 -- a field's pattern, if there is one, is not heard
 abbrev piece : (ℕ → ℕ → Bool) → ℕ → Option ℕ → Bool
-piece below t o = elim o [ none ↦ false | some pattern ↦ below pattern t ]
+piece below t o = elim o [ None ↦ false | Some pattern ↦ below pattern t ]
 
 -- options
-when-none : {A B : Type 0} (o : Option A) (k : A → Option B) → o ≡ none → (o when_some k) ≡ none
+when-none : {A B : Type 0} (o : Option A) (k : A → Option B) → o ≡ None → (o when_some k) ≡ None
 unfolding ◌when_some◌
 when-none {A} {B} o k e = ap (λ (x : Option A). x when_some k) e
 
-when-some : {A B : Type 0} (o : Option A) (k : A → Option B) (a : A) → o ≡ some a → (o when_some k) ≡ k a
+when-some : {A B : Type 0} (o : Option A) (k : A → Option B) (a : A) → o ≡ Some a → (o when_some k) ≡ k a
 unfolding ◌when_some◌
 when-some {A} {B} o k a e = ap (λ (x : Option A). x when_some k) e
 
 -- the pattern of a name among constants is a constant
-pattern-constant : (T : Tables) (fields : List FieldPattern) (x p : ℕ) → Each (λ g. is_constant T g.node ≡ true) fields → field_pattern fields x ≡ some p → is_constant T p ≡ true
+pattern-constant : (T : Tables) (fields : List FieldPattern) (x p : ℕ) → Each (λ g. is_constant T g.node ≡ true) fields → field_pattern fields x ≡ Some p → is_constant T p ≡ true
 unfolding field_pattern
 pattern-constant T fields x p k e =
     let a = bind-some _ _ p e in
@@ -101,18 +101,18 @@ pattern-constant T fields x p k e =
 
 module _ (T : Tables) (P : Passed T) (S : Sound T) where
   abbrev Lacks : ℕ → Type 0
-  Lacks m = (n t : ℕ) → is_constant T n ≡ true → t < length T.types → heard_below T m n t ≡ false → constant T n t ≡ none
+  Lacks m = (n t : ℕ) → is_constant T n ≡ true → t < length T.types → heard_below T m n t ≡ false → constant T n t ≡ None
 
   -- a Record whose first field has no bytes has none
-  first-lacks : (m : ℕ) → Lacks m → (fields : List FieldPattern) (f : FieldTy) (fs : List FieldTy) → Each (λ g. is_constant T g.node ≡ true) fields → f.type < length T.types → piece (heard_below T m) f.type (field_pattern fields f.name) ≡ false → constant_fields (constant T) fields (f ∷ fs) ≡ none
+  first-lacks : (m : ℕ) → Lacks m → (fields : List FieldPattern) (f : FieldTy) (fs : List FieldTy) → Each (λ g. is_constant T g.node ≡ true) fields → f.type < length T.types → piece (heard_below T m) f.type (field_pattern fields f.name) ≡ false → constant_fields (constant T) fields (f ∷ fs) ≡ None
   unfolding constant_fields
   first-lacks m ih fields f fs k q h = go (field_pattern fields f.name) refl h
     where
-      go : (o : Option ℕ) → field_pattern fields f.name ≡ o → piece (heard_below T m) f.type o ≡ false → constant_fields (constant T) fields (f ∷ fs) ≡ none
-      go none e g = when-none _ _ e
-      go (some p) e g = when-some _ _ p e ∙ when-none _ _ (ih p f.type (pattern-constant T fields f.name p k e) q g)
+      go : (o : Option ℕ) → field_pattern fields f.name ≡ o → piece (heard_below T m) f.type o ≡ false → constant_fields (constant T) fields (f ∷ fs) ≡ None
+      go None e g = when-none _ _ e
+      go (Some p) e g = when-some _ _ p e ∙ when-none _ _ (ih p f.type (pattern-constant T fields f.name p k e) q g)
 
-  record-lacks : (fields : List FieldPattern) (fs : List FieldTy) → constant_fields (constant T) fields fs ≡ none → constant_node T (constant T) (Node.Record fields) (Ty.Record fs) ≡ none
+  record-lacks : (fields : List FieldPattern) (fs : List FieldTy) → constant_fields (constant T) fields fs ≡ None → constant_node T (constant T) (Node.Record fields) (Ty.Record fs) ≡ None
   unfolding constant_node constant_record
   record-lacks fields fs e = when-none _ _ e
 
@@ -149,9 +149,9 @@ module _ (T : Tables) (P : Passed T) (S : Sound T) where
           ap (each_field (walks limit) (λ w. w) (then path) fields (suc i) fs) (turn (field_pattern fields f.name) refl (either_left (piece (heard_below T m) f.type (field_pattern fields f.name)) (any_field (heard_below T m) fields fs) h))
           ∙ quiet_each fields t (suc i) path s l k qs (either-right (piece (heard_below T m) f.type (field_pattern fields f.name)) (any_field (heard_below T m) fields fs) h)
         where
-          turn : (o : Option ℕ) → field_pattern fields f.name ≡ o → piece (heard_below T m) f.type o ≡ false → ◌≡◌ {A = State} (elim o [ none ↦ skip s | some p ↦ walks limit p f.type (then path i) (skip s) ]) (skip s)
-          turn none e g = refl
-          turn (some p) e g = ih p f.type (then path i) (skip s) (pattern-constant T fields f.name p k e) q.in-types (omega (arith, q.lower)) g ∙ skip-again s
+          turn : (o : Option ℕ) → field_pattern fields f.name ≡ o → piece (heard_below T m) f.type o ≡ false → ◌≡◌ {A = State} (elim o [ None ↦ skip s | Some p ↦ walks limit p f.type (then path i) (skip s) ]) (skip s)
+          turn None e g = refl
+          turn (Some p) e g = ih p f.type (then path i) (skip s) (pattern-constant T fields f.name p k e) q.in-types (omega (arith, q.lower)) g ∙ skip-again s
 
       quiet-pieces : (n t : ℕ) (path : File.FieldPath) (s : State) → is_constant T n ≡ true → t < length T.types → t ≤ limit → heard_below T (suc m) n t ≡ false → partial (ops T) T a (walks limit) n t path s ≡ skip s
       unfolding partial partial_fields
@@ -166,7 +166,7 @@ module _ (T : Tables) (P : Passed T) (S : Sound T) where
       quiet-const : (k n t : ℕ) (path : File.FieldPath) (s : State) → is_constant T n ≡ true → t < length T.types → t ≤ limit → heard_below T (suc m) n t ≡ false → matched (ops T) T a (walks limit) k (File.Slot.Const n) t path s ≡ skip s
       unfolding matched
       quiet-const k n t path s c l g h =
-          let by : Option Const → State = λ x. elim x [ some v ↦ narrow_by (ops T) T k v path s | none ↦ partial (ops T) T a (walks limit) n t path s ] in
+          let by : Option Const → State = λ x. elim x [ Some v ↦ narrow_by (ops T) T k v path s | None ↦ partial (ops T) T a (walks limit) n t path s ] in
           ap by (quiet-lacks (suc m) n t c l h) ∙ quiet-pieces n t path s c l g h
 
     quiet-way : (m n t : ℕ) → is_constant T n ≡ true → heard_below T (suc m) n t ≡ false → way_at T n t ≡ Wy.Constant

@@ -1,11 +1,11 @@
 -- What each member of the cycle ends in, from what it began with and what the member that it called gives.
 use Prim.Native.Nat.{ℕ, zero, suc, ◌≤◌, ◌<◌}
 use mathlib.Core.Path.{◌≡◌, refl, sym, ap, ◌∙◌, subst}
-use mathlib.Core.Bool.{Bool, true, false}
+use mathlib.Core.Bool.{true, false}
 use mathlib.Core.List.{List, [], ◌∷◌}
 use types.Run.{OneOf, miss}
 use denote.Enum.Declared.{tag_of}
-use mathlib.Core.Option.{Option, none, some}
+use Rattle.std.specs.Prelude.{Option, None, Some}
 use native.Mathlib.Omega.{arith}
 use lib.ListN.{length}
 use Rattle.rules.specs.File as File
@@ -19,15 +19,12 @@ use Rattle.state.specs.Ops.{ops, bind, report, narrow, skip, closer}
 use Rattle.paths.specs.Paths.{path_of, Holds}
 use Rattle.paths.specs.declared.FieldPath.{FieldPath}
 use Rattle.views.specs.Views.{pattern_at}
-use Rattle.slots.specs.Slots.{slot_of, slot_with, slot_option, maybe, IsSlot}
+use Rattle.slots.specs.Slots.{slot_of, slot_with, slot_option, IsSlot}
 use Rattle.slots.specs.declared.Slot.{Slot}
 use Rattle.slots.specs.declared.SlotKind.{SlotKind}
 use Rattle.slots.specs.declared.SlotKind.TheVariants as Sk
 use Rattle.slots.specs.contracts.SlotKind as SlotKinds
-use Rattle.slots.specs.declared.MaybeSlot.{MaybeSlot}
 use Rattle.tables.specs.Tables.{SeenRun}
-use Rattle.tables.specs.declared.Run.{Run}
-use Rattle.tables.specs.declared.Run.TheVariants as Ru
 use Rattle.constant.specs.declared.Const.{Const}
 use Rattle.lists.specs.Lists.{code_of, state_with}
 use Rattle.lists.specs.declared.Code.{Code}
@@ -52,7 +49,6 @@ use Rattle.field_cases.proofs.Finishes.{by_way, way-finished, const_node, meetin
 use Rattle.field_cases.specs.declared.Way.{Way}
 use Rattle.field_cases.specs.declared.Way.TheVariants as Wy
 use Rattle.field_cases.specs.declared.Choice.{Choice}
-use Rattle.field_cases.specs.declared.Choice.TheVariants as Ch
 use Rattle.field_cases.specs.declared.Chosen.{Chosen}
 use Rattle.key.specs.Cycle.{Walks, Gives}
 use Rattle.key.proofs.Fields.{partial-opens}
@@ -69,7 +65,7 @@ field-over T a n t path w work plan e =
     record { is = λ limit h. sym (idle-field_below (ops T) T s (stopped T s e) a limit n t path) }
 
 -- `matched` of a constant: its bytes, or else its pieces
-module _ (T : Tables) (a n k t : ℕ) (path : File.FieldPath) (s₀ : State) (c : Const) (v : Known T k t c) (s : State) where
+module _ (T : Tables) (a n k t : ℕ) (path : File.FieldPath) (s₀ : State) (c : Option Const) (v : Known T k t c) (s : State) where
   const-bytes : (g : FieldWalk State) → is_nothing c ≡ false → s ≡ narrowed_by T n (const_of T c) path s₀ → s ≡ matched (ops T) T a g n (File.Slot.Const k) t path s₀
   unfolding matched
   const-bytes g e q = after-constant T n k t path s₀ c v (λ x. x) (partial (ops T) T a g k t path) e s q
@@ -89,7 +85,7 @@ module _ (T : Tables) (a n k t : ℕ) (path : File.FieldPath) (s₀ : State) (c 
     matched-pieces e p = record { is = λ m h. const-pieces (below T a m) e (p.is m h) ∙ ap (by_kind m) (sym es) }
 
 -- `matched` of any other slot
-no_const : (kind : SlotKind) (at : FieldPath) → OneOf (0 ∷ 1 ∷ 2 ∷ 3 ∷ 4 ∷ []) (tag_of SlotKinds.the_type kind) → const_node (slot_with kind at) ≡ none
+no_const : (kind : SlotKind) (at : FieldPath) → OneOf (0 ∷ 1 ∷ 2 ∷ 3 ∷ 4 ∷ []) (tag_of SlotKinds.the_type kind) → const_node (slot_with kind at) ≡ None
 no_const (Sk.Row from p) at w = refl
 no_const (Sk.Key from u) at w = refl
 no_const (Sk.Derived from) at w = refl
@@ -126,7 +122,7 @@ module _ (T : Tables) (a n t : ℕ) (path : File.FieldPath) (s₀ : State) (way 
   unfolding by_way
   field-range e s q = goes Wy.Range e s (λ m h. q a (below T a m))
 
-  module _ (e : way ≡ Wy.Constant) (c : Const) (v : Known T n t c) (s : State) where
+  module _ (e : way ≡ Wy.Constant) (c : Option Const) (v : Known T n t c) (s : State) where
     pub field-bytes : is_nothing c ≡ false → s ≡ narrowed_by T n (const_of T c) path s₀ → Walks T a n t path s₀ s
     unfolding by_way
     field-bytes b q = goes Wy.Constant e s (λ m h. const-bytes T a n n t path s₀ c v s (below T a m) b q)
@@ -135,42 +131,42 @@ module _ (T : Tables) (a n t : ℕ) (path : File.FieldPath) (s₀ : State) (way 
     unfolding by_way
     field-pieces b p = goes Wy.Constant e s (λ m h. const-pieces T a n n t path s₀ c v s (below T a m) b (p.is m h))
 
-  module _ (x : ℕ) (e : way ≡ Wy.Variable x) (found : MaybeSlot) (f : slot_option found ≡ (ops T).lookup s₀ x) (s : State) where
+  module _ (x : ℕ) (e : way ≡ Wy.Variable x) (found : Option Slot) (f : slot_option found ≡ (ops T).lookup s₀ x) (s : State) where
     abbrev by-slot : ℕ → Option File.Slot → State
-    by-slot m o = elim o [ none ↦ constrain (ops T) T x t path (bind x (File.Slot.Field a path t) s₀) | some slot ↦ matched (ops T) T a (below T a m) n slot t path s₀ ]
+    by-slot m o = elim o [ None ↦ constrain (ops T) T x t path (bind x (File.Slot.Field a path t) s₀) | Some slot ↦ matched (ops T) T a (below T a m) n slot t path s₀ ]
 
-    looked : (m : ℕ) (b : Bool) → found.some ≡ b → by-slot m (maybe b (slot_of found.slot)) ≡ by-slot m ((ops T).lookup s₀ x)
-    looked m b h = ap (by-slot m) (ap (λ (y : Bool). maybe y (slot_of found.slot)) (sym h) ∙ f)
+    looked : (m : ℕ) (o : Option Slot) → found ≡ o → by-slot m (slot_option o) ≡ by-slot m ((ops T).lookup s₀ x)
+    looked m o h = ap (by-slot m) (ap slot_option (sym h) ∙ f)
 
-    pub field_bound : found.some ≡ true → Gives T a t (λ g. matched (ops T) T a g n (slot_of found.slot) t path s₀) s → Walks T a n t path s₀ s
+    pub field_bound : {slot : Slot} → found ≡ Some slot → Gives T a t (λ g. matched (ops T) T a g n (slot_of slot) t path s₀) s → Walks T a n t path s₀ s
     unfolding by_way
-    field_bound h g = goes (Wy.Variable x) e s (λ m l. g.is m l ∙ looked m true h)
+    field_bound {slot} h g = goes (Wy.Variable x) e s (λ m l. g.is m l ∙ looked m (Some slot) h)
 
-    pub field-new : found.some ≡ false → s ≡ constrain (ops T) T x t path (bind x (File.Slot.Field a path t) s₀) → Walks T a n t path s₀ s
+    pub field-new : found ≡ None → s ≡ constrain (ops T) T x t path (bind x (File.Slot.Field a path t) s₀) → Walks T a n t path s₀ s
     unfolding by_way
-    field-new h q = goes (Wy.Variable x) e s (λ m l. q ∙ looked m false h)
+    field-new h q = goes (Wy.Variable x) e s (λ m l. q ∙ looked m None h)
 
 -- `field` of a name, by what is found under it: l are the lists of the walk w
 module _ (T : Tables) (a n t : ℕ) (path : File.FieldPath) (w : Walk) (work plan : List ℕ) (s : State) (x : ℕ) where
   abbrev by-found : ℕ → Option File.Slot → State
   by-found m o =
       elim o [
-        | none ↦ constrain (ops T) T x t path (bind x (File.Slot.Field a path t) (walk_state T w work plan))
-        | some slot ↦ matched (ops T) T a (below T a m) n slot t path (walk_state T w work plan)
+        | None ↦ constrain (ops T) T x t path (bind x (File.Slot.Field a path t) (walk_state T w work plan))
+        | Some slot ↦ matched (ops T) T a (below T a m) n slot t path (walk_state T w work plan)
       ]
 
-  module _ (found : MaybeSlot) (l : Lists) (el : l ≡ lists_of w) (f : (level : Level) (g : Target) (p : List ℕ) → IsSlot ((ops T).lookup (state_with l level g work p) x) found) (way : Way) (k : way ≡ way_at T n t) (low : Resolved.Lower T) (e : way ≡ Wy.Variable x) where
-    found-goes : (b : Bool) → found.some ≡ b → ((m : ℕ) → t ≤ m → s ≡ by-found m (maybe b (slot_of found.slot))) → Walks T a n t path (walk_state T w work plan) s
+  module _ (found : Option Slot) (l : Lists) (el : l ≡ lists_of w) (f : (level : Level) (g : Target) (p : List ℕ) → IsSlot ((ops T).lookup (state_with l level g work p) x) found) (way : Way) (k : way ≡ way_at T n t) (low : Resolved.Lower T) (e : way ≡ Wy.Variable x) where
+    found-goes : (o : Option Slot) → found ≡ o → ((m : ℕ) → t ≤ m → s ≡ by-found m (slot_option o)) → Walks T a n t path (walk_state T w work plan) s
     unfolding by_way
-    found-goes b h q =
+    found-goes o h q =
         goes T a n t path (walk_state T w work plan) way k low (Wy.Variable x) e s
-        (λ m j. q m j ∙ ap (by-found m) (ap (λ (y : Bool). maybe y (slot_of found.slot)) (sym h) ∙ looked-up T x found w l work plan el f))
+        (λ m j. q m j ∙ ap (by-found m) (ap slot_option (sym h) ∙ looked-up T x found w l work plan el f))
 
-    pub found-bound : found.some ≡ true → Gives T a t (λ g. matched (ops T) T a g n (slot_of found.slot) t path (walk_state T w work plan)) s → Walks T a n t path (walk_state T w work plan) s
-    found-bound h g = found-goes true h g.is
+    pub found-bound : {slot : Slot} → found ≡ Some slot → Gives T a t (λ g. matched (ops T) T a g n (slot_of slot) t path (walk_state T w work plan)) s → Walks T a n t path (walk_state T w work plan) s
+    found-bound {slot} h g = found-goes (Some slot) h g.is
 
-  pub found-new : s ≡ constrain (ops T) T x t path (bind x (File.Slot.Field a path t) (walk_state T w work plan)) → (found : MaybeSlot) (l : Lists) → l ≡ lists_of w → ((level : Level) (g : Target) (p : List ℕ) → IsSlot ((ops T).lookup (state_with l level g work p) x) found) → (way : Way) → way ≡ way_at T n t → Resolved.Lower T → way ≡ Wy.Variable x → found.some ≡ false → Walks T a n t path (walk_state T w work plan) s
-  found-new q found l el f way k low e h = found-goes found l el f way k low e false h (λ m j. q)
+  pub found-new : s ≡ constrain (ops T) T x t path (bind x (File.Slot.Field a path t) (walk_state T w work plan)) → (found : Option Slot) (l : Lists) → l ≡ lists_of w → ((level : Level) (g : Target) (p : List ℕ) → IsSlot ((ops T).lookup (state_with l level g work p) x) found) → (way : Way) → way ≡ way_at T n t → Resolved.Lower T → way ≡ Wy.Variable x → found ≡ None → Walks T a n t path (walk_state T w work plan) s
+  found-new q found l el f way k low e h = found-goes found l el f way k low e None h (λ m j. q)
 
 -- `field` of a read, by its answer: r is the walk w with the lists of the answer
 module _ (T : Tables) (a n t : ℕ) (path : File.FieldPath) (w r : Walk) (ans : Answer) (work work' plan : List ℕ) (l : Lists) (el : l ≡ lists_of w) (er : r ≡ with_lists w ans.lists) (q : Answers (resolve (ops T) T n) l work ans work') (way : Way) (k : way ≡ way_at T n t) (low : Resolved.Lower T) (e : way ≡ Wy.Read) (s : State) where
@@ -180,52 +176,52 @@ module _ (T : Tables) (a n t : ℕ) (path : File.FieldPath) (w r : Walk) (ans : 
   abbrev answered : ℕ → Option File.Slot → State → State
   answered m o x = read_answer (ops T) T a (below T a m) n o t path (walk_state T w work plan) x
 
-  reads : (b : Bool) → ans.some ≡ b → ((m : ℕ) → t ≤ m → s ≡ answered m (maybe b (slot_of ans.slot)) s₁) → Walks T a n t path (walk_state T w work plan) s
+  reads : (o : Option Slot) → ans.slot ≡ o → ((m : ℕ) → t ≤ m → s ≡ answered m (slot_option o) s₁) → Walks T a n t path (walk_state T w work plan) s
   unfolding by_way read
-  reads b h g =
+  reads o h g =
       goes T a n t path (walk_state T w work plan) way k low Wy.Read e s
-      (λ m i. g m i ∙ ap (λ (x : Bool). answered m (maybe x (slot_of ans.slot)) s₁) (sym h)
+      (λ m i. g m i ∙ ap (λ (x : Option Slot). answered m (slot_option x) s₁) (sym h)
       ∙ ap (λ (x : ResolveRules.Answer State). answered m x.slot x.walk) (answer-is T w r l ans work work' plan el er (resolve (ops T) T n) q))
 
-  pub field-read : ans.some ≡ true → Gives T a t (λ g. matched (ops T) T a g n (slot_of ans.slot) t path s₁) s → Walks T a n t path (walk_state T w work plan) s
+  pub field-read : {slot : Slot} → ans.slot ≡ Some slot → Gives T a t (λ g. matched (ops T) T a g n (slot_of slot) t path s₁) s → Walks T a n t path (walk_state T w work plan) s
   unfolding read_answer
-  field-read h g = reads true h g.is
+  field-read {slot} h g = reads (Some slot) h g.is
 
-  module _ (h : ans.some ≡ false) (f : List ℕ) (pairs : Run) (seen : SeenRun f (pattern_at f) 4 (record_fields (node_at T n)) pairs) where
+  module _ (h : ans.slot ≡ None) (f : List ℕ) (pairs : Option (ℕ × ℕ)) (seen : SeenRun f (pattern_at f) 4 (record_fields (node_at T n)) pairs) where
     abbrev by-fields : ℕ → Option (List FieldPattern) → State
-    by-fields m o = elim o [ some fields ↦ partial (ops T) T a (below T a m) n t path s₁ | none ↦ unresolved (ops T) T n (walk_state T w work plan) s₁ ]
+    by-fields m o = elim o [ Some fields ↦ partial (ops T) T a (below T a m) n t path s₁ | None ↦ unresolved (ops T) T n (walk_state T w work plan) s₁ ]
 
-    pub field-opened : (i at : ℕ) → pairs ≡ Ru.Just i at → Gives T a t (λ g. partial (ops T) T a g n t path s₁) s → Walks T a n t path (walk_state T w work plan) s
+    pub field-opened : (i at : ℕ) → pairs ≡ Some (i, at) → Gives T a t (λ g. partial (ops T) T a g n t path s₁) s → Walks T a n t path (walk_state T w work plan) s
     unfolding read_answer
-    field-opened i at ep g = reads false h (λ m j. g.is m j ∙ ap (by-fields m) (subst (SeenRun f (pattern_at f) 4 (record_fields (node_at T n))) ep seen).is)
+    field-opened i at ep g = reads None h (λ m j. g.is m j ∙ ap (by-fields m) (subst (SeenRun f (pattern_at f) 4 (record_fields (node_at T n))) ep seen).is)
 
-    pub field-unresolved : pairs ≡ Ru.Nothing → s ≡ unresolved (ops T) T n (walk_state T w work plan) s₁ → Walks T a n t path (walk_state T w work plan) s
+    pub field-unresolved : pairs ≡ None → s ≡ unresolved (ops T) T n (walk_state T w work plan) s₁ → Walks T a n t path (walk_state T w work plan) s
     unfolding read_answer
-    field-unresolved ep g = reads false h (λ m j. g ∙ ap (by-fields m) (subst (SeenRun f (pattern_at f) 4 (record_fields (node_at T n))) ep seen).is)
+    field-unresolved ep g = reads None h (λ m j. g ∙ ap (by-fields m) (subst (SeenRun f (pattern_at f) 4 (record_fields (node_at T n))) ep seen).is)
 
 -- a read that gave nothing: v is the walk that it ends with
-pub unresolved-walks : (T : Tables) (a n t : ℕ) (path : File.FieldPath) (w r v : Walk) (work work' work'' plan : List ℕ) → ((p : List ℕ) (earlier : State) → earlier.ends.diagnostics ≡ w.ends.diagnostics → walk_state T v work'' p ≡ unresolved (ops T) T n earlier (walk_state T r work' p)) → (ans : Answer) (l : Lists) → l ≡ lists_of w → r ≡ with_lists w ans.lists → Answers (resolve (ops T) T n) l work ans work' → (way : Way) → way ≡ way_at T n t → Resolved.Lower T → way ≡ Wy.Read → ans.some ≡ false → (f : List ℕ) (pairs : Run) → SeenRun f (pattern_at f) 4 (record_fields (node_at T n)) pairs → pairs ≡ Ru.Nothing → Walks T a n t path (walk_state T w work plan) (walk_state T v work'' plan)
+pub unresolved-walks : (T : Tables) (a n t : ℕ) (path : File.FieldPath) (w r v : Walk) (work work' work'' plan : List ℕ) → ((p : List ℕ) (earlier : State) → earlier.ends.diagnostics ≡ w.ends.diagnostics → walk_state T v work'' p ≡ unresolved (ops T) T n earlier (walk_state T r work' p)) → (ans : Answer) (l : Lists) → l ≡ lists_of w → r ≡ with_lists w ans.lists → Answers (resolve (ops T) T n) l work ans work' → (way : Way) → way ≡ way_at T n t → Resolved.Lower T → way ≡ Wy.Read → ans.slot ≡ None → (f : List ℕ) (pairs : Option (ℕ × ℕ)) → SeenRun f (pattern_at f) 4 (record_fields (node_at T n)) pairs → pairs ≡ None → Walks T a n t path (walk_state T w work plan) (walk_state T v work'' plan)
 unresolved-walks T a n t path w r v work work' work'' plan g ans l el er q way k low e h f pairs seen ep =
     field-unresolved T a n t path w r ans work work' plan l el er q way k low e (walk_state T v work'' plan) h f pairs seen ep
     (g plan (walk_state T w work plan) (diagnostics-at T w work plan))
 
 -- `inject`
 module _ (T : Tables) (a n t : ℕ) (path : File.FieldPath) (s₀ s₁ : State) (r : Chosen) (b : choosing_of r s₁ ≡ choosing T n t path s₀) where
-  abbrev by-choice : ℕ → Choice → State
+  abbrev by-choice : ℕ → Option Choice → State
   by-choice m x = injected T a (below T a m) n (record { payload = payload_of x; state = s₁ }) path
 
-  inject-is : (m : ℕ) (x : Choice) → r.choice ≡ x → by-choice m x ≡ inject_at T a (below T a m) n t path s₀
+  inject-is : (m : ℕ) (x : Option Choice) → r.choice ≡ x → by-choice m x ≡ inject_at T a (below T a m) n t path s₀
   inject-is m x e = sym (ap (by-choice m) e) ∙ ap (λ (y : Choosing). injected T a (below T a m) n y path) b ∙ choosing-finished T a (below T a m) n path s₀ t
 
-  pub inject-done : r.choice ≡ Ch.Nothing → Gives T a t (λ g. inject_at T a g n t path s₀) s₁
+  pub inject-done : r.choice ≡ None → Gives T a t (λ g. inject_at T a g n t path s₀) s₁
   unfolding injected
-  inject-done e = record { is = λ m h. inject-is m Ch.Nothing e }
+  inject-done e = record { is = λ m h. inject-is m None e }
 
-  module _ (d k c : ℕ) (e : r.choice ≡ Ch.Just d k c) where
-    pub inject-lower : Sound T → t < length T.types → Lower T t c
-    inject-lower S h = choosing-lower T t n s₀ (record { disc = d; node = k; type = c }) path S h (ap (λ (x : Choosing). x.payload) (sym b) ∙ ap payload_of e)
+  module _ {ch : Choice} (e : r.choice ≡ Some ch) where
+    pub inject-lower : Sound T → t < length T.types → Lower T t ch.ty
+    inject-lower S h = choosing-lower T t n s₀ (record { disc = ch.disc; node = ch.node; type = ch.ty }) path S h (ap (λ (x : Choosing). x.payload) (sym b) ∙ ap payload_of e)
 
-    pub inject-goes : Lower T t c → (q : FieldPath) → Holds q (payload path d) → (s₂ s₃ s₄ : State) → s₂ ≡ narrow n path (Narrowing.Tag d) s₁ → Walks T a k c (path_of q) s₂ s₃ → s₄ ≡ closer n s₃ → Gives T a t (λ g. inject_at T a g n t path s₀) s₄
+    pub inject-goes : Lower T t ch.ty → (q : FieldPath) → Holds q (payload path ch.disc) → (s₂ s₃ s₄ : State) → s₂ ≡ narrow n path (Narrowing.Tag ch.disc) s₁ → Walks T a ch.node ch.ty (path_of q) s₂ s₃ → s₄ ≡ closer n s₃ → Gives T a t (λ g. inject_at T a g n t path s₀) s₄
     unfolding injected
     inject-goes l q o s₂ s₃ s₄ tag w close =
         record {
@@ -233,15 +229,15 @@ module _ (T : Tables) (a n t : ℕ) (path : File.FieldPath) (s₀ s₁ : State) 
               close
               ∙ ap (closer n)
               (w.is m (omega (arith, l.lower))
-              ∙ ap (λ (p : File.FieldPath). field_below (ops T) T a m k c p s₂) o.is
-              ∙ ap (field_below (ops T) T a m k c (payload path d)) tag)
-              ∙ inject-is m (Ch.Just d k c) e;
+              ∙ ap (λ (p : File.FieldPath). field_below (ops T) T a m ch.node ch.ty p s₂) o.is
+              ∙ ap (field_below (ops T) T a m ch.node ch.ty (payload path ch.disc)) tag)
+              ∙ inject-is m (Some ch) e;
         }
 
 -- `inject`, by its walks: w₂ has the tag, w₃ the payload, w₄ the closer
-pub injects-walks : (T : Tables) (a n t : ℕ) (path : File.FieldPath) (s₀ : State) (r : Chosen) (work plan : List ℕ) → choosing_of r (walk_state T r.walk work plan) ≡ choosing T n t path s₀ → (d k c : ℕ) → r.choice ≡ Ch.Just d k c → Lower T t c → (q : FieldPath) → Holds q (payload path d) → (w₂ w₃ w₄ : Walk) (plan₂ work₃ plan₃ plan₄ : List ℕ) → ((U : Tables) (x : List ℕ) → walk_state U w₂ x plan₂ ≡ narrow n path (Narrowing.Tag d) (walk_state U r.walk x plan)) → Walks T a k c (path_of q) (walk_state T w₂ work plan₂) (walk_state T w₃ work₃ plan₃) → ((U : Tables) (x : List ℕ) → walk_state U w₄ x plan₄ ≡ closer n (walk_state U w₃ x plan₃)) → Gives T a t (λ g. inject_at T a g n t path s₀) (walk_state T w₄ work₃ plan₄)
-injects-walks T a n t path s₀ r work plan b d k c e l q o w₂ w₃ w₄ plan₂ work₃ plan₃ plan₄ tag walks close =
-    inject-goes T a n t path s₀ (walk_state T r.walk work plan) r b d k c e l q o (walk_state T w₂ work plan₂) (walk_state T w₃ work₃ plan₃)
+pub injects-walks : (T : Tables) (a n t : ℕ) (path : File.FieldPath) (s₀ : State) (r : Chosen) (work plan : List ℕ) → choosing_of r (walk_state T r.walk work plan) ≡ choosing T n t path s₀ → {ch : Choice} → r.choice ≡ Some ch → Lower T t ch.ty → (q : FieldPath) → Holds q (payload path ch.disc) → (w₂ w₃ w₄ : Walk) (plan₂ work₃ plan₃ plan₄ : List ℕ) → ((U : Tables) (x : List ℕ) → walk_state U w₂ x plan₂ ≡ narrow n path (Narrowing.Tag ch.disc) (walk_state U r.walk x plan)) → Walks T a ch.node ch.ty (path_of q) (walk_state T w₂ work plan₂) (walk_state T w₃ work₃ plan₃) → ((U : Tables) (x : List ℕ) → walk_state U w₄ x plan₄ ≡ closer n (walk_state U w₃ x plan₃)) → Gives T a t (λ g. inject_at T a g n t path s₀) (walk_state T w₄ work₃ plan₄)
+injects-walks T a n t path s₀ r work plan b e l q o w₂ w₃ w₄ plan₂ work₃ plan₃ plan₄ tag walks close =
+    inject-goes T a n t path s₀ (walk_state T r.walk work plan) r b e l q o (walk_state T w₂ work plan₂) (walk_state T w₃ work₃ plan₃)
     (walk_state T w₄ work₃ plan₄) (tag T work) walks (close T work₃)
 
 -- `partial`

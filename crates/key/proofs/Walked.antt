@@ -1,9 +1,9 @@
 -- The fields of a record key, of which those are walked into that have a pattern other than a Wildcard.
 use Prim.Native.Nat.{ℕ, ◌+◌, ◌<◌}
-use mathlib.Core.Path.{◌≡◌, refl, sym, ap, ◌∙◌}
+use mathlib.Core.Path.{◌≡◌, refl, sym, ◌∙◌}
 use mathlib.Core.Bool.{Bool, true, false}
 use mathlib.Core.List.{List}
-use mathlib.Core.Option.{Option, none, some}
+use Rattle.std.specs.Prelude.{Option, None, Some}
 use native.Mathlib.Omega.{arith}
 use lib.ListN.{length}
 use Rattle.rules.specs.Base.{◌when_some◌}
@@ -14,9 +14,6 @@ use Rattle.state.specs.State.{State}
 use Rattle.state.specs.Ops.{ops, skip}
 use Rattle.paths.specs.Paths.{path_of, Holds}
 use Rattle.paths.specs.declared.FieldPath.{FieldPath}
-use Rattle.tables.specs.Tables.{found_option}
-use Rattle.tables.specs.declared.Found.{Found}
-use Rattle.tables.specs.declared.Found.TheVariants as Fo
 use Rattle.resolve.proofs.Steps as Resolved
 use Rattle.field_cases.specs.Pieces.{fields_for, Pieced}
 use Rattle.field_cases.specs.FieldCases.{way_at, is_skip, walked_pattern}
@@ -39,35 +36,35 @@ skip_is Wy.Read e = absurd (true≢false (sym e))
 
 module _ (T : Tables) (c : ℕ) where
   -- a pattern that is walked into is the one that was found
-  walked-some : (o : Option ℕ) (j : ℕ) → some j ≡ walked_pattern T c o → o ≡ some j
+  walked-some : (o : Option ℕ) (j : ℕ) → Some j ≡ walked_pattern T c o → o ≡ Some j
   unfolding walked_pattern ◌when_some◌
-  walked-some none j e = absurd (some≢none j e)
-  walked-some (some n) j e = go (is_skip (way_at T n c)) e
+  walked-some None j e = absurd (some≢none j e)
+  walked-some (Some n) j e = go (is_skip (way_at T n c)) e
     where
-      go : (b : Bool) → ◌≡◌ {A = Option ℕ} (some j) (elim b [ true ↦ none | false ↦ some n ]) → some n ≡ some j
+      go : (b : Bool) → ◌≡◌ {A = Option ℕ} (Some j) (elim b [ true ↦ None | false ↦ Some n ]) → Some n ≡ Some j
       go true g = absurd (some≢none j g)
       go false g = sym g
 
   -- where none is, building falls
-  walked_none : Resolved.Lower T → (a m : ℕ) → c < m → (ps : List FieldPattern) (fs : List FieldTy) (i : ℕ) (s : State) (o : Option ℕ) → none ≡ walked_pattern T c o → skip s ≡ turn (field_below (ops T) T a m) skip field_path ps fs i s o c
+  walked_none : Resolved.Lower T → (a m : ℕ) → c < m → (ps : List FieldPattern) (fs : List FieldTy) (i : ℕ) (s : State) (o : Option ℕ) → None ≡ walked_pattern T c o → skip s ≡ turn (field_below (ops T) T a m) skip field_path ps fs i s o c
   unfolding walked_pattern ◌when_some◌ turn
-  walked_none low a m h ps fs i s none e = refl
-  walked_none low a m h ps fs i s (some n) e = go (is_skip (way_at T n c)) refl e
+  walked_none low a m h ps fs i s None e = refl
+  walked_none low a m h ps fs i s (Some n) e = go (is_skip (way_at T n c)) refl e
     where
-      go : (b : Bool) → is_skip (way_at T n c) ≡ b → ◌≡◌ {A = Option ℕ} none (elim b [ true ↦ none | false ↦ some n ]) → skip s ≡ field_below (ops T) T a m n c (field_path i) s
+      go : (b : Bool) → is_skip (way_at T n c) ≡ b → ◌≡◌ {A = Option ℕ} None (elim b [ true ↦ None | false ↦ Some n ]) → skip s ≡ field_below (ops T) T a m n c (field_path i) s
       go true k g = (field_skip T a n c (field_path i) s (way_at T n c) refl low (skip_is (way_at T n c) k) (skip s) refl).is m h
       go false k g = absurd (some≢none n (sym g))
 
-module _ (T : Tables) (a n t i : ℕ) (s₀ s : State) (w₀ p₀ w p : List ℕ) (v : Going T a n t skip field_path i s₀ s w₀ p₀ w p) (h : i < length (fields_for T n t)) (r : Piece) (k : Pieced T n t i r) (s' : State) (w' p' : List ℕ) (ew : length w' ≡ length w) (ep : length p' ≡ length p) (x : Found) (e : found_option x ≡ walked_pattern T r.ty (found_option r.pattern)) where
-  pub going-closed : Resolved.Lower T → x ≡ Fo.Nothing → s' ≡ skip s → Going T a n t skip field_path (i + 1) s₀ s' w₀ p₀ w' p'
+module _ (T : Tables) (a n t i : ℕ) (s₀ s : State) (w₀ p₀ w p : List ℕ) (v : Going T a n t skip field_path i s₀ s w₀ p₀ w p) (h : i < length (fields_for T n t)) (r : Piece) (k : Pieced T n t i r) (s' : State) (w' p' : List ℕ) (ew : length w' ≡ length w) (ep : length p' ≡ length p) (x : Option ℕ) (e : x ≡ walked_pattern T r.ty (r.pattern)) where
+  pub going-closed : Resolved.Lower T → x ≡ None → s' ≡ skip s → Going T a n t skip field_path (i + 1) s₀ s' w₀ p₀ w' p'
   going-closed low d q =
       going-turn T a n t skip field_path i s₀ s w₀ p₀ w p v h r k s' w' p' ew ep
-      (λ m l. q ∙ walked_none T r.ty low a m (omega (arith, k.lower.lower)) _ _ i s (found_option r.pattern) (ap found_option (sym d) ∙ e))
+      (λ m l. q ∙ walked_none T r.ty low a m (omega (arith, k.lower.lower)) _ _ i s (r.pattern) ((sym d) ∙ e))
 
-  pub going-walked : (j : ℕ) → x ≡ Fo.Just j → (q : FieldPath) → Holds q (field_path i) → Walks T a j r.ty (path_of q) s s' → Going T a n t skip field_path (i + 1) s₀ s' w₀ p₀ w' p'
+  pub going-walked : (j : ℕ) → x ≡ Some j → (q : FieldPath) → Holds q (field_path i) → Walks T a j r.ty (path_of q) s s' → Going T a n t skip field_path (i + 1) s₀ s' w₀ p₀ w' p'
   going-walked j d q o g =
       going-given T a n t skip field_path i s₀ s w₀ p₀ w p v h r k s' w' p' ew ep j
-      (walked-some T r.ty (found_option r.pattern) j (ap found_option (sym d) ∙ e))
+      (walked-some T r.ty (r.pattern) j ((sym d) ∙ e))
       q
       o
       g

@@ -1,10 +1,8 @@
 -- The whole key in one pattern: what each of its forms gives, and its fields in turn.
 use Prim.Native.Nat.{ℕ, suc, ◌+◌, ◌*◌, ◌≤◌, ◌<◌}
 use mathlib.Core.Path.{◌≡◌, refl, sym, ap, ◌∙◌, subst}
-use mathlib.Core.Bool.{Bool, true, false}
 use mathlib.Core.List.{List, [], ◌∷◌}
-use mathlib.Core.Option
-use mathlib.Core.Option.{Option, none, some}
+use Rattle.std.specs.Prelude.{Option, None, Some, unwrap_or}
 use types.Run.{OneOf, miss}
 use denote.Enum.Declared.{tag_of}
 use native.Mathlib.Numerals.{add-one}
@@ -27,15 +25,12 @@ use Rattle.views.specs.declared.NodeView.{NodeView}
 use Rattle.views.specs.declared.NodeView.TheVariants as Nv
 use Rattle.views.specs.contracts.NodeView as NodeViews
 use Rattle.views.proofs.Runs.{run_at, length_run}
-use Rattle.slots.specs.Slots.{slot_with, slot_of, slot_option, maybe, IsSlot}
+use Rattle.slots.specs.Slots.{slot_with, slot_of, slot_option, IsSlot}
 use Rattle.slots.specs.declared.Slot.{Slot}
 use Rattle.slots.specs.declared.SlotKind.{SlotKind}
 use Rattle.slots.specs.declared.SlotKind.TheVariants as Sk
 use Rattle.slots.specs.contracts.SlotKind as SlotKinds
-use Rattle.slots.specs.declared.MaybeSlot.{MaybeSlot}
 use Rattle.tables.specs.Tables.{SeenRun}
-use Rattle.tables.specs.declared.Run.{Run}
-use Rattle.tables.specs.declared.Run.TheVariants as Ru
 use Rattle.lists.specs.Lists.{state_with}
 use Rattle.lists.specs.declared.Lists.{Lists}
 use Rattle.walk.specs.Walk.{walk_state, lists_of}
@@ -78,21 +73,21 @@ module _ (T : Tables) (a n t : ℕ) (slot : File.Slot) where
     matching-end h = sym (v.is ∙ ap (λ l. whole_fields (ops T) T a n slot i l s) (none_left (drop i (fields_of T t)) (omega (arith, length-drop i (fields_of T t)))))
 
 -- a Record type's fields, as the code reads them
-module _ (f : List ℕ) (T : Tables) (t : ℕ) (r : Run) (k : SeenRun f (field_at f) 4 (record_ty (type_at T t)) r) where
-  pub matching-none : r ≡ Ru.Nothing → (a n : ℕ) (slot : File.Slot) (s : State) → s ≡ whole_fields (ops T) T a n slot 0 (fields_of T t) s
+module _ (f : List ℕ) (T : Tables) (t : ℕ) (r : Option (ℕ × ℕ)) (k : SeenRun f (field_at f) 4 (record_ty (type_at T t)) r) where
+  pub matching-none : r ≡ None → (a n : ℕ) (slot : File.Slot) (s : State) → s ≡ whole_fields (ops T) T a n slot 0 (fields_of T t) s
   unfolding fields_of whole_fields
-  matching-none e a n slot s = ap (λ o. whole_fields (ops T) T a n slot 0 (Option.get_or o []) s) (subst (SeenRun f (field_at f) 4 (record_ty (type_at T t))) e k).is
+  matching-none e a n slot s = ap (λ o. whole_fields (ops T) T a n slot 0 (unwrap_or o []) s) (subst (SeenRun f (field_at f) 4 (record_ty (type_at T t))) e k).is
 
-  module _ (m at : ℕ) (e : r ≡ Ru.Just m at) where
+  module _ (m at : ℕ) (e : r ≡ Some (m, at)) where
     pub fields-inside : at + 4 * m ≤ length f
     fields-inside = (subst (SeenRun f (field_at f) 4 (record_ty (type_at T t))) e k).inside
 
-    type-is : record_ty (type_at T t) ≡ some (run (field_at f) 4 m at)
+    type-is : record_ty (type_at T t) ≡ Some (run (field_at f) 4 m at)
     type-is = sym (subst (SeenRun f (field_at f) 4 (record_ty (type_at T t))) e k).is
 
     fields-are : fields_of T t ≡ run (field_at f) 4 m at
     unfolding fields_of
-    fields-are = ap (λ o. Option.get_or o []) type-is
+    fields-are = ap (λ o. unwrap_or o []) type-is
 
     pub fields-count : m ≡ length (fields_of T t)
     fields-count = sym (ap length fields-are ∙ length_run (field_at f) 4 m at)
@@ -128,32 +123,32 @@ module _ (n : ℕ) (slot : Slot) where
   node-other w = node-of-kind n slot.kind slot.path w
 
 -- a variable, by whether its name is bound
-module _ (T : Tables) (a x n t : ℕ) (fs : List File.FieldTy) (s₀ : State) (m : MaybeSlot) (k : slot_option m ≡ (ops T).lookup s₀ x) (s : State) where
+module _ (T : Tables) (a x n t : ℕ) (fs : List File.FieldTy) (s₀ : State) (m : Option Slot) (k : slot_option m ≡ (ops T).lookup s₀ x) (s : State) where
   abbrev asks : Option File.Slot → State
-  asks o = elim o [ none ↦ bind x (File.Slot.Key a t) (skip s₀) | some slot ↦ whole_read (ops T) T a n fs s₀ ]
+  asks o = elim o [ None ↦ bind x (File.Slot.Key a t) (skip s₀) | Some slot ↦ whole_read (ops T) T a n fs s₀ ]
 
-  pub whole-bound : m.some ≡ true → s ≡ whole_read (ops T) T a n fs s₀ → s ≡ whole_variable (ops T) T a x n t fs s₀
+  pub whole-bound : {slot : Slot} → m ≡ Some slot → s ≡ whole_read (ops T) T a n fs s₀ → s ≡ whole_variable (ops T) T a x n t fs s₀
   unfolding whole_variable
-  whole-bound e q = q ∙ ap asks (ap (λ (y : Bool). maybe y (slot_of m.slot)) (sym e) ∙ k)
+  whole-bound e q = q ∙ ap asks (ap slot_option (sym e) ∙ k)
 
-  pub whole-new : m.some ≡ false → (slot : File.Slot) (s₁ : State) → slot ≡ File.Slot.Key a t → s₁ ≡ skip s₀ → s ≡ bind x slot s₁ → s ≡ whole_variable (ops T) T a x n t fs s₀
+  pub whole-new : m ≡ None → (slot : File.Slot) (s₁ : State) → slot ≡ File.Slot.Key a t → s₁ ≡ skip s₀ → s ≡ bind x slot s₁ → s ≡ whole_variable (ops T) T a x n t fs s₀
   unfolding whole_variable
-  whole-new e slot s₁ es e₁ q = q ∙ ap (bind x slot) e₁ ∙ ap (λ (y : File.Slot). bind x y (skip s₀)) es ∙ ap asks (ap (λ (y : Bool). maybe y (slot_of m.slot)) (sym e) ∙ k)
+  whole-new e slot s₁ es e₁ q = q ∙ ap (bind x slot) e₁ ∙ ap (λ (y : File.Slot). bind x y (skip s₀)) es ∙ ap asks (ap slot_option (sym e) ∙ k)
 
 -- the same of walks: l are the lists of the walk w
 module _ (T : Tables) (a x n t : ℕ) (fs : List File.FieldTy) (w : Walk) (work plan : List ℕ) where
   abbrev walk-asks : Option File.Slot → State
-  walk-asks o = elim o [ none ↦ bind x (File.Slot.Key a t) (skip (walk_state T w work plan)) | some slot ↦ whole_read (ops T) T a n fs (walk_state T w work plan) ]
+  walk-asks o = elim o [ None ↦ bind x (File.Slot.Key a t) (skip (walk_state T w work plan)) | Some slot ↦ whole_read (ops T) T a n fs (walk_state T w work plan) ]
 
-  asked : (m : MaybeSlot) (l : Lists) → l ≡ lists_of w → ((level : Level) (g : Target) (p : List ℕ) → IsSlot ((ops T).lookup (state_with l level g work p) x) m) → (b : Bool) → m.some ≡ b → walk-asks (maybe b (slot_of m.slot)) ≡ whole_variable (ops T) T a x n t fs (walk_state T w work plan)
+  asked : (m : Option Slot) (l : Lists) → l ≡ lists_of w → ((level : Level) (g : Target) (p : List ℕ) → IsSlot ((ops T).lookup (state_with l level g work p) x) m) → (o : Option Slot) → m ≡ o → walk-asks (slot_option o) ≡ whole_variable (ops T) T a x n t fs (walk_state T w work plan)
   unfolding whole_variable
-  asked m l el f b e = ap walk-asks (ap (λ (y : Bool). maybe y (slot_of m.slot)) (sym e) ∙ looked-up T x m w l work plan el f)
+  asked m l el f o e = ap walk-asks (ap slot_option (sym e) ∙ looked-up T x m w l work plan el f)
 
-  pub bound-walks : (s : State) → s ≡ whole_read (ops T) T a n fs (walk_state T w work plan) → (m : MaybeSlot) (l : Lists) → l ≡ lists_of w → ((level : Level) (g : Target) (p : List ℕ) → IsSlot ((ops T).lookup (state_with l level g work p) x) m) → m.some ≡ true → s ≡ whole_variable (ops T) T a x n t fs (walk_state T w work plan)
-  bound-walks s q m l el f e = q ∙ asked m l el f true e
+  pub bound-walks : (s : State) → s ≡ whole_read (ops T) T a n fs (walk_state T w work plan) → (m : Option Slot) (l : Lists) → l ≡ lists_of w → ((level : Level) (g : Target) (p : List ℕ) → IsSlot ((ops T).lookup (state_with l level g work p) x) m) → {slot : Slot} → m ≡ Some slot → s ≡ whole_variable (ops T) T a x n t fs (walk_state T w work plan)
+  bound-walks s q m l el f {slot} e = q ∙ asked m l el f (Some slot) e
 
-  pub new-walks : (slot : File.Slot) (w₁ w₂ : Walk) (work₂ : List ℕ) → ((U : Tables) (p : List ℕ) → walk_state U w₂ work₂ p ≡ bind x slot (walk_state U w₁ work p)) → ((U : Tables) (y p : List ℕ) → walk_state U w₁ y p ≡ skip (walk_state U w y p)) → slot ≡ File.Slot.Key a t → (m : MaybeSlot) (l : Lists) → l ≡ lists_of w → ((level : Level) (g : Target) (p : List ℕ) → IsSlot ((ops T).lookup (state_with l level g work p) x) m) → m.some ≡ false → walk_state T w₂ work₂ plan ≡ whole_variable (ops T) T a x n t fs (walk_state T w work plan)
-  new-walks slot w₁ w₂ work₂ q e₁ es m l el f e = q T plan ∙ ap (bind x slot) (e₁ T work plan) ∙ ap (λ (y : File.Slot). bind x y (skip (walk_state T w work plan))) es ∙ asked m l el f false e
+  pub new-walks : (slot : File.Slot) (w₁ w₂ : Walk) (work₂ : List ℕ) → ((U : Tables) (p : List ℕ) → walk_state U w₂ work₂ p ≡ bind x slot (walk_state U w₁ work p)) → ((U : Tables) (y p : List ℕ) → walk_state U w₁ y p ≡ skip (walk_state U w y p)) → slot ≡ File.Slot.Key a t → (m : Option Slot) (l : Lists) → l ≡ lists_of w → ((level : Level) (g : Target) (p : List ℕ) → IsSlot ((ops T).lookup (state_with l level g work p) x) m) → m ≡ None → walk_state T w₂ work₂ plan ≡ whole_variable (ops T) T a x n t fs (walk_state T w work plan)
+  new-walks slot w₁ w₂ work₂ q e₁ es m l el f e = q T plan ∙ ap (bind x slot) (e₁ T work plan) ∙ ap (λ (y : File.Slot). bind x y (skip (walk_state T w work plan))) es ∙ asked m l el f None e
 
 -- the kinds that are read
 reads_as : (T : Tables) (a : ℕ) (f : List ℕ) (v : NodeView) (n t : ℕ) (fs : List File.FieldTy) (s : State) → OneOf (0 ∷ 1 ∷ 2 ∷ 5 ∷ 6 ∷ 7 ∷ 8 ∷ 9 ∷ 10 ∷ 11 ∷ 12 ∷ 13 ∷ 14 ∷ 15 ∷ 16 ∷ []) (tag_of NodeViews.the_type v) → whole_read (ops T) T a n fs s ≡ whole_key (ops T) T a (node_of f v) n t fs s

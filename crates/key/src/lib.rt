@@ -16,14 +16,13 @@ ghost use Rattle.key.specs.Cycle.{Walks, Gives, fields_of, whole_field};
 
 use constrain::{is_nothing, known, narrow, ranged};
 use field_cases::{
-    Choice, Way, captured, choose, meet, pairs_of, piece_at, pieces, unresolved, walked_pattern,
-    way_of,
+    Way, captured, choose, meet, pairs_of, piece_at, pieces, unresolved, walked_pattern, way_of,
 };
 use lists::lookup;
 use paths::{Address, FieldPath};
 use resolve::{field_slot, resolve};
 use slots::{Slot, SlotKind};
-use tables::{Found, Run, is_quiet, record_ty};
+use tables::{is_quiet, record_ty};
 use views::{FieldTy, NodeView, field_ty_at, node_of};
 use walk::Walk;
 
@@ -65,9 +64,7 @@ pub fn field(
             narrow(file, index, plan, node, c, path, w)
         }
         Way::Variable(x) => {
-            let found = lookup(file, index, work, w.lists(), x);
-            if found.some {
-                let slot = found.slot;
+            if let Some(slot) = lookup(file, index, work, w.lists(), x) {
                 return matched(file, index, work, plan, node, slot, ty, address, path, w);
             }
             captured(file, index, work, plan, x, ty, address, path, w)
@@ -75,10 +72,10 @@ pub fn field(
         Way::Read => {
             let a = resolve(file, index, work, node, w.lists());
             let l = w.listed(a.lists);
-            if a.some {
-                return matched(file, index, work, plan, node, a.slot, ty, address, path, l);
+            if let Some(slot) = a.slot {
+                return matched(file, index, work, plan, node, slot, ty, address, path, l);
             }
-            if let Run::Just(_, _) = pairs_of(file, index, node) {
+            if let Some((_, _)) = pairs_of(file, index, node) {
                 return partial(file, index, work, plan, node, ty, address, path, l);
             }
             let ends = w.ends;
@@ -149,16 +146,13 @@ pub fn partial(
     if is_quiet(file, index, node, ty) {
         return l;
     }
-    let mut i: usize = 0;
-    while i < opened.count {
+    for i in 0..opened.count {
         let p = piece_at(file, index, node, ty, opened, i);
-        let pattern = p.pattern;
-        let step = i as u32;
-        i += 1;
-        if let Found::Just(n) = pattern {
-            let q = path.then(step);
-            l = field(file, index, work, plan, n, p.ty, address, q, l);
-        }
+        let Some(n) = p.pattern else {
+            continue;
+        };
+        let q = path.then(i as u32);
+        l = field(file, index, work, plan, n, p.ty, address, q, l);
     }
     l
 }
@@ -187,13 +181,22 @@ pub fn inject(
 {
     let c = choose(file, index, work, plan, node, ty, path, w);
     let open = c.walk;
-    let choice = c.choice;
-    let Choice::Just(disc, n, t) = choice else {
+    let Some(chosen) = c.choice else {
         return open;
     };
-    let q = path.payload(disc);
-    let tagged = open.tag(path, disc, node, plan);
-    let walked = field(file, index, work, plan, n, t, address, q, tagged);
+    let q = path.payload(chosen.disc);
+    let tagged = open.tag(path, chosen.disc, node, plan);
+    let walked = field(
+        file,
+        index,
+        work,
+        plan,
+        chosen.node,
+        chosen.ty,
+        address,
+        q,
+        tagged,
+    );
     walked.closer(node, plan)
 }
 
@@ -218,18 +221,14 @@ fn record_key(
 {
     let opened = pieces(file, index, node, ty);
     let mut l = w;
-    let mut i: usize = 0;
-    while i < opened.count {
+    for i in 0..opened.count {
         let p = piece_at(file, index, node, ty, opened, i);
-        let found = p.pattern;
-        let pattern = walked_pattern(file, index, found, p.ty);
-        let path = FieldPath::field(i as u16);
-        i += 1;
-        if let Found::Just(n) = pattern {
-            l = field(file, index, work, plan, n, p.ty, address, path, l);
-        } else {
+        let Some(n) = walked_pattern(file, index, p.pattern, p.ty) else {
             l = l.skip();
-        }
+            continue;
+        };
+        let path = FieldPath::field(i as u16);
+        l = field(file, index, work, plan, n, p.ty, address, path, l);
     }
     l
 }
@@ -269,10 +268,10 @@ fn whole_field(
 {
     let a = field_slot(file, index, work, node, slot, field.name, w.lists());
     let l = w.listed(a.lists);
-    if a.some {
-        let n = whole_node(node, a.slot);
+    if let Some(found) = a.slot {
+        let n = whole_node(node, found);
         return matched(
-            file, index, work, plan, n, a.slot, field.ty, address, path, l,
+            file, index, work, plan, n, found, field.ty, address, path, l,
         );
     }
     l.skip()
@@ -297,16 +296,14 @@ fn whole_fields(
         let after = walk_state T result work.new plan.new in
         after ≡ WalkRules.whole_fields (ops T) T address.0 node (slot_of slot) 0 (fields_of T ty) before }
 {
-    let Run::Just(n, at) = record_ty(file, index, ty) else {
+    let Some((n, at)) = record_ty(file, index, ty) else {
         return w;
     };
     let mut l = w;
-    let mut i: usize = 0;
-    while i < n {
+    for i in 0..n {
         let f = field_ty_at(file, at, i);
         let path = FieldPath::field(i as u16);
         l = whole_field(file, index, work, plan, node, slot, f, address, path, l);
-        i += 1;
     }
     l
 }
@@ -331,8 +328,8 @@ fn whole_read(
 {
     let a = resolve(file, index, work, node, w.lists());
     let l = w.listed(a.lists);
-    if a.some {
-        return whole_fields(file, index, work, plan, node, a.slot, ty, address, l);
+    if let Some(slot) = a.slot {
+        return whole_fields(file, index, work, plan, node, slot, ty, address, l);
     }
     l.skip()
 }
@@ -356,8 +353,7 @@ fn whole_variable(
         let after = walk_state T result work.new plan.new in
         after ≡ WalkRules.whole_variable (ops T) T address.0 name node ty (fields_of T ty) before }
 {
-    let found = lookup(file, index, work, w.lists(), name);
-    if found.some {
+    if let Some(_) = lookup(file, index, work, w.lists(), name) {
         return whole_read(file, index, work, plan, node, ty, address, w);
     }
     let slot = Slot::plain(SlotKind::Key(address, ty));
@@ -407,11 +403,11 @@ pub fn key(
         let after = walk_state T result work.new plan.new in
         after ≡ WalkRules.key (ops T) T address.0 node ty before }
 {
-    let Run::Just(_, _) = record_ty(file, index, ty) else {
+    let Some((_, _)) = record_ty(file, index, ty) else {
         let path = FieldPath::field(0);
         return field(file, index, work, plan, node, ty, address, path, w);
     };
-    if let Run::Just(_, _) = pairs_of(file, index, node) {
+    if let Some((_, _)) = pairs_of(file, index, node) {
         return record_key(file, index, work, plan, node, ty, address, w);
     }
     whole_key(file, index, work, plan, node, ty, address, w)

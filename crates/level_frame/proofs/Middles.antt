@@ -1,113 +1,128 @@
 -- What a seek holds past its parts, and the places of a level.
-use mathlib.Core.Bool.{Bool, true, false}
+use mathlib.Core.Bool.{true, false}
 use mathlib.Core.List.{List, [], ◌++◌}
 use mathlib.Core.Path.{◌≡◌, refl, sym, ap, ◌∙◌}
 use Prim.Native.Nat.{ℕ, ◌+◌, ◌≤◌, min}
 use native.Mathlib.Omega.{arith}
 use lib.ListN.{length, length-append}
+use Rattle.std.specs.Prelude as Std
+use Rattle.std.specs.Prelude.{None, Some, is_some, ◌||◌, Option}
 use Rattle.rules.specs.Limits.{plan_limit}
 use Rattle.rules.specs.File.{Tables, name_at}
 use Rattle.rules.specs.Constant.{encode_prefix}
-use Rattle.rules.specs.Placement.{Range, RangeEdge}
+use Rattle.rules.specs.Placement.{Range}
 use Rattle.rules.specs.Plan as Plan
 use Rattle.rules.specs.Plan.{u16}
-use Rattle.rules.proofs.Cases.{by-test}
+use Rattle.rules.proofs.Cases.{by-test, true≢false}
 use Rattle.state.specs.State.{joined_bytes}
 use Rattle.state.specs.Levels as StateLevels
-use Rattle.state.specs.Levels.{seek_of, joining, head, range_or_edges, middle, tail, parts_at, nodes_at, middle_at, tail_at}
+use Rattle.state.specs.Levels.{joining, head, range_or_edges, middle, tail, parts_at, nodes_at, middle_at, tail_at}
 use Rattle.paths.specs.Paths.{path_of}
 use Rattle.constant.specs.Sizes.{cap}
 use Rattle.encode.specs.Written.{Wrote}
 use Rattle.encode.proofs.Puts.{wrote_then, wrote_as}
 use Rattle.records.specs.Records.{put}
 use Rattle.records.proofs.Stores.{put-none}
-use Rattle.seek.specs.Seek.{sums_of, counts_of, set_in, kept, guide_of, range_of, edge_of, edges_of, level_of}
+use Rattle.seek.specs.Seek.{sums_of, counts_of, in_rules, kept, guide_of, range_as, range_of, edge_of, edges_of, level_of}
+use Rattle.seek.specs.declared.Edge.{Edge}
+use Rattle.seek.specs.declared.Range as Code
 use Rattle.seek.specs.declared.SeekBuilder.{SeekBuilder}
 use Rattle.level_frame.specs.LevelFrame.{between_of, parts_len, frame_of}
 use Rattle.level_frame.specs.declared.Frame.{Frame}
-use Rattle.level_frame.proofs.Seeks.{seek_bits, edge, seek_is}
 use Rattle.level_frame.proofs.Places as Places
 use Rattle.level_frame.proofs.Places.{tail-is}
 
-module _ (r : Range) (e f : RangeEdge) where
-  bounded : (p b s lo hi : Bool) → seek_bits p (kept b s) lo hi ≡ 3 → range_or_edges (set_in b s r) (edge lo e) (edge hi f) ≡ Plan.edge (edge lo e) ++ Plan.edge (edge hi f)
-  unfolding seek_bits kept set_in range_or_edges
-  bounded p b s true hi q = refl
-  bounded p b s false true q = refl
-  bounded true true s false false q = absurd (omega arith)
-  bounded false true s false false q = absurd (omega arith)
-  bounded p false true false false q = absurd (omega arith)
-  bounded true false false false false q = absurd (omega arith)
-  bounded false false false false false q = absurd (omega arith)
+module _ (T : Tables) (l : SeekBuilder) where
+  edged : (r : Option Range) (lo hi : Std.Option Edge) → (is_some lo || is_some hi) ≡ true
+      → Plan.edge (edge_of T lo) ++ Plan.edge (edge_of T hi) ≡ range_or_edges r (edge_of T lo) (edge_of T hi)
+  unfolding edge_of range_or_edges
+  edged r (Some x) hi h = refl
+  edged r None (Some y) h = refl
+  edged r None None h = absurd (true≢false (sym h))
 
-  ranged : (p b s lo hi : Bool) → seek_bits p (kept b s) lo hi ≡ 2 → range_or_edges (set_in b s r) (edge lo e) (edge hi f) ≡ Plan.text r.prefix ++ Plan.path r.path ++ u16 r.node
-  unfolding seek_bits kept set_in range_or_edges
-  ranged p b s true hi q = absurd (omega arith)
-  ranged p b s false true q = absurd (omega arith)
-  ranged true true s false false q = absurd (omega arith)
-  ranged false true s false false q = absurd (omega arith)
-  ranged p false true false false q = refl
-  ranged true false false false false q = absurd (omega arith)
-  ranged false false false false false q = absurd (omega arith)
+  edgeless : (r : Option Range) (lo hi : Std.Option Edge) → (is_some lo || is_some hi) ≡ false
+      → range_or_edges r None None ≡ range_or_edges r (edge_of T lo) (edge_of T hi)
+  unfolding edge_of
+  edgeless r (Some x) hi h = absurd (true≢false h)
+  edgeless r None (Some y) h = absurd (true≢false h)
+  edgeless r None None h = refl
 
-  bare : (p b s lo hi : Bool) → (seek_bits p (kept b s) lo hi ≡ 3 → ⊥) → (seek_bits p (kept b s) lo hi ≡ 2 → ⊥) → range_or_edges (set_in b s r) (edge lo e) (edge hi f) ≡ []
-  unfolding seek_bits kept set_in range_or_edges
-  bare p b s true hi x y = absurd (x refl)
-  bare p b s false true x y = absurd (x refl)
-  bare true true s false false x y = refl
-  bare false true s false false x y = refl
-  bare p false true false false x y = absurd (y refl)
-  bare true false false false false x y = refl
-  bare false false false false false x y = refl
+  -- the two edges
+  module _ (h : (is_some l.lo || is_some l.hi) ≡ true) where
+    with-edges : Plan.edge (edge_of T l.lo) ++ Plan.edge (edge_of T l.hi) ≡ between_of (level_of T l)
+    unfolding level_of edges_of
+    with-edges = edged (range_of T l) l.lo l.hi h
 
-module _ (T : Tables) (l : SeekBuilder) (n : ℕ) (en : n ≡ seek_of (level_of T l)) where
-  prefix : List ℕ
-  prefix = encode_prefix (name_at T l.range.name)
+    pub edges-size : (a b r : ℕ) → a ≡ min cap (length (Plan.edge (edge_of T l.lo))) → b ≡ min cap (length (Plan.edge (edge_of T l.hi)))
+        → r ≡ min cap (a + b) → r ≡ min cap (length (between_of (level_of T l)))
+    edges-size a b r ea eb er = omega (arith, ea, eb, er, length-append (Plan.edge (edge_of T l.lo)) (Plan.edge (edge_of T l.hi)), ap length with-edges)
 
-  with-edges : n ≡ 3 → Plan.edge (edge_of T l.lo) ++ Plan.edge (edge_of T l.hi) ≡ between_of (level_of T l)
-  unfolding level_of range_of edges_of edge_of
-  with-edges z = sym (bounded _ _ _ l.plain l.building l.range.set l.lo.set l.hi.set (sym (seek_is l T) ∙ sym en ∙ z))
+    pub edges-small : length (between_of (level_of T l)) ≤ cap → (length (Plan.edge (edge_of T l.lo)) ≤ cap) × (length (Plan.edge (edge_of T l.hi)) ≤ cap)
+    edges-small b = omega (arith, b, length-append (Plan.edge (edge_of T l.lo)) (Plan.edge (edge_of T l.hi)), ap length with-edges)
 
-  with-range : n ≡ 2 → Plan.text prefix ++ Plan.path (path_of l.path) ++ u16 l.range.node ≡ between_of (level_of T l)
-  unfolding level_of range_of edges_of edge_of prefix
-  with-range z = sym (ranged _ _ _ l.plain l.building l.range.set l.lo.set l.hi.set (sym (seek_is l T) ∙ sym en ∙ z))
+    pub put-edges : (at p r : ℕ) (w w1 w2 : List ℕ) → Wrote (Plan.edge (edge_of T l.lo)) at w p w1 → Wrote (Plan.edge (edge_of T l.hi)) p w1 r w2
+        → Wrote (between_of (level_of T l)) at w r w2
+    put-edges at p r w w1 w2 a b =
+        wrote_as (Plan.edge (edge_of T l.lo) ++ Plan.edge (edge_of T l.hi)) (between_of (level_of T l)) at r w w2 (wrote_then a b) with-edges
 
-  with_none : (n ≡ 3 → ⊥) → (n ≡ 2 → ⊥) → [] ≡ between_of (level_of T l)
-  unfolding level_of range_of edges_of edge_of
-  with_none x y = sym (bare _ _ _ l.plain l.building l.range.set l.lo.set l.hi.set (λ q. x (en ∙ seek_is l T ∙ q)) (λ q. y (en ∙ seek_is l T ∙ q)))
+  module _ (h : (is_some l.lo || is_some l.hi) ≡ false) where
+    without-edges : range_or_edges (range_of T l) None None ≡ between_of (level_of T l)
+    unfolding level_of edges_of
+    without-edges = edgeless (range_of T l) l.lo l.hi h
 
-  pub edges-size : (a b r : ℕ) → n ≡ 3 → a ≡ min cap (length (Plan.edge (edge_of T l.lo))) → b ≡ min cap (length (Plan.edge (edge_of T l.hi))) → r ≡ min cap (a + b) → r ≡ min cap (length (between_of (level_of T l)))
-  edges-size a b r z ea eb er = omega (arith, ea, eb, er, length-append (Plan.edge (edge_of T l.lo)) (Plan.edge (edge_of T l.hi)), ap length (with-edges z))
+    -- the range
+    module _ (r : Code.Range) (range-kept : kept l.building l.range ≡ Some r) where
+      prefix : List ℕ
+      prefix = encode_prefix (name_at T r.name)
 
-  pub range_size : (a b r : ℕ) → n ≡ 2 → a ≡ length (Plan.text (encode_prefix (name_at T l.range.name))) → b ≡ length (Plan.path (path_of l.path)) → r ≡ min cap (a + (b + 2)) → r ≡ min cap (length (between_of (level_of T l)))
-  unfolding prefix u16
-  range_size a b r z ea eb er =
-      omega (arith, ea, eb, er, length-append (Plan.text prefix) (Plan.path (path_of l.path)), length-append (Plan.text prefix ++ Plan.path (path_of l.path)) (u16 l.range.node), ap length (with-range z))
+      with-range : Plan.text prefix ++ Plan.path (path_of l.path) ++ u16 r.node ≡ between_of (level_of T l)
+      unfolding range_of range_or_edges prefix
+      with-range = ap (λ (o : Std.Option Code.Range). range_or_edges (in_rules (range_as T l.path) o) None None) (sym range-kept) ∙ without-edges
 
-  pub none-size : (n ≡ 3 → ⊥) → (n ≡ 2 → ⊥) → 0 ≡ min cap (length (between_of (level_of T l)))
-  none-size x y = let e : 0 ≡ length (between_of (level_of T l)) = ap length (with_none x y) in omega arith
+      pub range_size : (a b n : ℕ) → a ≡ length (Plan.text (encode_prefix (name_at T r.name))) → b ≡ length (Plan.path (path_of l.path))
+          → n ≡ min cap (a + (b + 2)) → n ≡ min cap (length (between_of (level_of T l)))
+      unfolding prefix u16
+      range_size a b n ea eb en =
+          omega (
+            arith,
+            ea,
+            eb,
+            en,
+            ap length with-range,
+            length-append (Plan.text prefix) (Plan.path (path_of l.path)),
+            length-append (Plan.text prefix ++ Plan.path (path_of l.path)) (u16 r.node),
+          )
 
-  pub edges-small : n ≡ 3 → length (between_of (level_of T l)) ≤ cap → (length (Plan.edge (edge_of T l.lo)) ≤ cap) × (length (Plan.edge (edge_of T l.hi)) ≤ cap)
-  edges-small z h = omega (arith, h, length-append (Plan.edge (edge_of T l.lo)) (Plan.edge (edge_of T l.hi)), ap length (with-edges z))
+      pub range_small : length (between_of (level_of T l)) ≤ cap → length (Plan.text (encode_prefix (name_at T r.name))) ≤ cap
+      unfolding prefix
+      range_small b =
+          omega (
+            arith,
+            b,
+            ap length with-range,
+            length-append (Plan.text prefix) (Plan.path (path_of l.path)),
+            length-append (Plan.text prefix ++ Plan.path (path_of l.path)) (u16 r.node),
+          )
 
-  pub range_small : n ≡ 2 → length (between_of (level_of T l)) ≤ cap → length (Plan.text (encode_prefix (name_at T l.range.name))) ≤ cap
-  unfolding prefix
-  range_small z h =
-      omega (arith, h, length-append (Plan.text prefix) (Plan.path (path_of l.path)), length-append (Plan.text prefix ++ Plan.path (path_of l.path)) (u16 l.range.node), ap length (with-range z))
+      pub put-range : (at p q : ℕ) (w w1 w2 w3 : List ℕ) → Wrote (Plan.text (encode_prefix (name_at T r.name))) at w p w1
+          → q ≡ p + length (Plan.path (path_of l.path)) → w2 ≡ put w1 p (Plan.path (path_of l.path))
+          → w3 ≡ put w2 q (u16 r.node) → Wrote (between_of (level_of T l)) at w (q + 2) w3
+      unfolding prefix u16
+      put-range at p q w w1 w2 w3 a eq e f =
+          wrote_as (Plan.text prefix ++ Plan.path (path_of l.path) ++ u16 r.node) (between_of (level_of T l)) at (q + 2) w w3
+          (wrote_then (wrote_then a (record { place = eq; is = e })) (record { place = refl; is = f })) with-range
 
-  module _ (at : ℕ) (w : List ℕ) where
-    pub put-edges : (p r : ℕ) (w1 w2 : List ℕ) → n ≡ 3 → Wrote (Plan.edge (edge_of T l.lo)) at w p w1 → Wrote (Plan.edge (edge_of T l.hi)) p w1 r w2 → Wrote (between_of (level_of T l)) at w r w2
-    put-edges p r w1 w2 z a b = wrote_as (Plan.edge (edge_of T l.lo) ++ Plan.edge (edge_of T l.hi)) (between_of (level_of T l)) at r w w2 (wrote_then a b) (with-edges z)
+    -- neither
+    module _ (none-kept : kept l.building l.range ≡ None) where
+      with_none : [] ≡ between_of (level_of T l)
+      unfolding range_of range_or_edges
+      with_none = ap (λ (o : Std.Option Code.Range). range_or_edges (in_rules (range_as T l.path) o) None None) (sym none-kept) ∙ without-edges
 
-    pub put-range : (p r : ℕ) (w1 w2 w3 : List ℕ) → n ≡ 2 → Wrote (Plan.text (encode_prefix (name_at T l.range.name))) at w p w1 → r ≡ p + length (Plan.path (path_of l.path)) → w2 ≡ put w1 p (Plan.path (path_of l.path))
-        → w3 ≡ put w2 r (u16 l.range.node) → Wrote (between_of (level_of T l)) at w (r + 2) w3
-    unfolding prefix u16
-    put-range p r w1 w2 w3 z a er e f =
-        wrote_as (Plan.text prefix ++ Plan.path (path_of l.path) ++ u16 l.range.node) (between_of (level_of T l)) at (r + 2) w w3
-        (wrote_then (wrote_then a (record { place = er; is = e })) (record { place = refl; is = f })) (with-range z)
+      pub none-size : 0 ≡ min cap (length (between_of (level_of T l)))
+      none-size = let e : 0 ≡ length (between_of (level_of T l)) = ap length with_none in omega arith
 
-    pub put-bare : (n ≡ 3 → ⊥) → (n ≡ 2 → ⊥) → Wrote (between_of (level_of T l)) at w at w
-    put-bare x y = wrote_as [] (between_of (level_of T l)) at at w w (record { place = omega arith; is = sym (put-none w at) }) (with_none x y)
+      pub put-bare : (at : ℕ) (w : List ℕ) → Wrote (between_of (level_of T l)) at w at w
+      put-bare at w = wrote_as [] (between_of (level_of T l)) at at w w (record { place = omega arith; is = sym (put-none w at) }) with_none
 
 -- the middle
 module _ (T : Tables) (l : SeekBuilder) where

@@ -1,83 +1,92 @@
 -- Which seek a level is, by what is set in it.
 use mathlib.Core.Bool.{Bool, true, false}
-use mathlib.Core.Option.{Option, none, some}
 use mathlib.Core.Path.{◌≡◌, refl, sym, ap, ◌∙◌}
-use Prim.Native.Nat.{ℕ}
 use lib.Dec.{eqb}
+use denote.Enum.Declared.{tag_of}
+use denote.Enum.Bare.{sameb}
+use Rattle.std.specs.Prelude as Std
+use Rattle.std.specs.Prelude.{None, Some, is_some, ◌||◌, Option}
 use Rattle.rules.specs.File.{Tables}
 use Rattle.rules.specs.Placement.{Range, RangeEdge}
+use Rattle.rules.proofs.Cases.{true≢false}
 use Rattle.state.specs.Levels.{seek_number, seek_of, joins, joining}
-use Rattle.seek.specs.Seek.{set_in, kept, range_of, edge_of, edges_of, level_of}
+use Rattle.seek.specs.Seek.{in_rules, kept, range_as, range_of, edge_of, edges_of, level_of}
+use Rattle.seek.specs.declared.Edge.{Edge}
+use Rattle.seek.specs.declared.Range as Code
 use Rattle.seek.specs.declared.SeekBuilder.{SeekBuilder}
+use Rattle.level_frame.specs.LevelFrame.{number_of}
+use Rattle.level_frame.specs.contracts.SeekKind as Kinds
+use Rattle.level_frame.specs.declared.SeekKind.{SeekKind}
+use Rattle.level_frame.specs.declared.SeekKind.TheVariants as Kind
 
--- of a level whose parts are all bytes, that has a range, a lower edge, an upper one
-unfoldable pub seek_bits : Bool → Bool → Bool → Bool → ℕ
-seek_bits plain ranged true hi = 3
-seek_bits plain ranged false true = 3
-seek_bits plain true false false = 2
-seek_bits true false false false = 0
-seek_bits false false false false = 1
+-- a kind as its byte, and whether it is a Prefix
+pub number-is : (k : SeekKind) → tag_of Kinds.the_type k ≡ number_of k
+number-is Kind.Prefix = refl
+number-is Kind.Composite = refl
+number-is Kind.PrefixRange = refl
+number-is Kind.Bounded = refl
 
-abbrev pub edge : Bool → RangeEdge → Option RangeEdge
-edge b e = elim b [ true ↦ some e | false ↦ none ]
+pub prefix_is : (k : SeekKind) → sameb Kinds.the_type k Kind.Prefix ≡ eqb (number_of k) 0
+prefix_is Kind.Prefix = refl
+prefix_is Kind.Composite = refl
+prefix_is Kind.PrefixRange = refl
+prefix_is Kind.Bounded = refl
 
-bits : (p b s lo hi : Bool) (r : Range) (e f : RangeEdge) → seek_number p (set_in b s r) (edge lo e) (edge hi f) ≡ seek_bits p (kept b s) lo hi
-unfolding seek_number set_in kept seek_bits
-bits p b s true hi r e f = refl
-bits p b s false true r e f = refl
-bits true true s false false r e f = refl
-bits false true s false false r e f = refl
-bits p false true false false r e f = refl
-bits true false false false false r e f = refl
-bits false false false false false r e f = refl
+module _ (T : Tables) (p : Bool) (r : Option Range) where
+  edge-bounds : (lo hi : Std.Option Edge) → (is_some lo || is_some hi) ≡ true → 3 ≡ seek_number p r (edge_of T lo) (edge_of T hi)
+  unfolding seek_number edge_of
+  edge-bounds (Some x) hi h = refl
+  edge-bounds None (Some y) h = refl
+  edge-bounds None None h = absurd (true≢false (sym h))
 
-join-bits : (p b s lo hi : Bool) (r : Range) (e f : RangeEdge) → joins p (set_in b s r) (edge lo e) (edge hi f) ≡ eqb (seek_bits p (kept b s) lo hi) 0
-unfolding joins set_in kept seek_bits
-join-bits p b s true hi r e f = refl
-join-bits p b s false true r e f = refl
-join-bits true true s false false r e f = refl
-join-bits false true s false false r e f = refl
-join-bits p false true false false r e f = refl
-join-bits true false false false false r e f = refl
-join-bits false false false false false r e f = refl
+  edgeless : (lo hi : Std.Option Edge) → (is_some lo || is_some hi) ≡ false → seek_number p r (edge_of T lo) (edge_of T hi) ≡ seek_number p r None None
+  unfolding edge_of
+  edgeless (Some x) hi h = absurd (true≢false h)
+  edgeless None (Some y) h = absurd (true≢false h)
+  edgeless None None h = refl
 
-module _ (l : SeekBuilder) where
-  abbrev pub ranged : Bool
-  ranged = kept l.building l.range.set
+module _ (f : Code.Range → Range) where
+  ranged : (p : Bool) (r : Std.Option Code.Range) → is_some r ≡ true → seek_number p (in_rules f r) None None ≡ 2
+  unfolding seek_number
+  ranged p (Some x) h = refl
+  ranged p None h = absurd (true≢false (sym h))
 
-  module _ (T : Tables) where
-    pub seek_is : seek_of (level_of T l) ≡ seek_bits l.plain ranged l.lo.set l.hi.set
-    unfolding seek_of level_of range_of edges_of edge_of
-    seek_is = bits l.plain l.building l.range.set l.lo.set l.hi.set _ _ _
+  unranged : (p : Bool) (r : Std.Option Code.Range) → is_some r ≡ false → seek_number p (in_rules f r) None None ≡ seek_number p None None None
+  unranged p (Some x) h = absurd (true≢false h)
+  unranged p None h = refl
 
-    -- "Prefix (parts joined)"
-    pub joining-is : joining (level_of T l) ≡ eqb (seek_of (level_of T l)) 0
-    unfolding joining level_of range_of edges_of edge_of
-    joining-is = join-bits l.plain l.building l.range.set l.lo.set l.hi.set _ _ _ ∙ ap (λ (n : ℕ). eqb n 0) (sym seek_is)
+joins-is : (p : Bool) (r : Option Range) (lo hi : Option RangeEdge) → joins p r lo hi ≡ eqb (seek_number p r lo hi) 0
+unfolding joins seek_number
+joins-is p r (Some x) hi = refl
+joins-is p r None (Some y) = refl
+joins-is p (Some x) None None = refl
+joins-is true None None None = refl
+joins-is false None None None = refl
 
-    pub with-lo : l.lo.set ≡ true → 3 ≡ seek_of (level_of T l)
-    unfolding seek_bits
-    with-lo e = sym (seek_is ∙ ap (λ (x : Bool). seek_bits l.plain ranged x l.hi.set) e)
+module _ (l : SeekBuilder) (T : Tables) where
+  -- "Prefix (parts joined)"
+  pub joining-is : joining (level_of T l) ≡ eqb (seek_of (level_of T l)) 0
+  unfolding joining seek_of
+  joining-is = joins-is _ _ _ _
 
-    module _ (no-lo : l.lo.set ≡ false) where
-      pub with-hi : l.hi.set ≡ true → 3 ≡ seek_of (level_of T l)
-      unfolding seek_bits
-      with-hi e = sym (seek_is ∙ ap (λ (x : Bool). seek_bits l.plain ranged x l.hi.set) no-lo ∙ ap (seek_bits l.plain ranged false) e)
+  pub bounded : (is_some l.lo || is_some l.hi) ≡ true → 3 ≡ seek_of (level_of T l)
+  unfolding seek_of level_of edges_of
+  bounded h = edge-bounds T l.plain (range_of T l) l.lo l.hi h
 
-      module _ (no-hi : l.hi.set ≡ false) (r : Bool) (er : r ≡ ranged) where
-        edgeless : seek_of (level_of T l) ≡ seek_bits l.plain r false false
-        edgeless =
-            seek_is ∙ ap (λ (x : Bool). seek_bits l.plain ranged x l.hi.set) no-lo ∙ ap (seek_bits l.plain ranged false) no-hi
-            ∙ ap (λ (x : Bool). seek_bits l.plain x false false) (sym er)
+  module _ (h : (is_some l.lo || is_some l.hi) ≡ false) (r : Std.Option Code.Range) (er : r ≡ kept l.building l.range) where
+    bare : seek_of (level_of T l) ≡ seek_number l.plain (in_rules (range_as T l.path) r) None None
+    unfolding seek_of level_of edges_of range_of
+    bare =
+        edgeless T l.plain (range_of T l) l.lo l.hi h
+        ∙ ap (λ (x : Std.Option Code.Range). seek_number l.plain (in_rules (range_as T l.path) x) None None) (sym er)
 
-        pub with-range : r ≡ true → 2 ≡ seek_of (level_of T l)
-        unfolding seek_bits
-        with-range e = sym (edgeless ∙ ap (λ (x : Bool). seek_bits l.plain x false false) e)
+    pub with-range : is_some r ≡ true → 2 ≡ seek_of (level_of T l)
+    with-range e = sym (bare ∙ ranged (range_as T l.path) l.plain r e)
 
-        pub plain-parts : r ≡ false → l.plain ≡ true → 0 ≡ seek_of (level_of T l)
-        unfolding seek_bits
-        plain-parts e f = sym (edgeless ∙ ap (λ (x : Bool). seek_bits l.plain x false false) e ∙ ap (λ (x : Bool). seek_bits x false false false) f)
+    pub plain-parts : is_some r ≡ false → l.plain ≡ true → 0 ≡ seek_of (level_of T l)
+    unfolding seek_number
+    plain-parts e f = sym (bare ∙ unranged (range_as T l.path) l.plain r e ∙ ap (λ (x : Bool). seek_number x None None None) f)
 
-        pub other-parts : r ≡ false → l.plain ≡ false → 1 ≡ seek_of (level_of T l)
-        unfolding seek_bits
-        other-parts e f = sym (edgeless ∙ ap (λ (x : Bool). seek_bits l.plain x false false) e ∙ ap (λ (x : Bool). seek_bits x false false false) f)
+    pub other-parts : is_some r ≡ false → l.plain ≡ false → 1 ≡ seek_of (level_of T l)
+    unfolding seek_number
+    other-parts e f = sym (bare ∙ unranged (range_as T l.path) l.plain r e ∙ ap (λ (x : Bool). seek_number x None None None) f)

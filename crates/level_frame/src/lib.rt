@@ -1,11 +1,11 @@
 // What stands in the plan around a level's parts and residuals: its sizes, and its bytes, from the level as it was measured.
 #![tactic(auto)]
 
-ghost use Rattle.std.specs.Prelude.{◌≡◌, ◌+◌, ◌≤◌, ◌<◌, min, length};
+ghost use Rattle.std.specs.Prelude.{◌≡◌, ◌+◌, ◌≤◌, ◌<◌, ◌||◌, is_some, min, length};
 ghost use Rattle.rules.specs.Limits.{plan_limit};
 ghost use Rattle.rules.specs.File.{Tables};
 ghost use Rattle.rules.specs.Plan as Plan;
-ghost use Rattle.state.specs.Levels.{seek_of, head, middle, tail};
+ghost use Rattle.state.specs.Levels.{seek_of, joining, head, middle, tail};
 ghost use Rattle.state.specs.Levels as StateLevels;
 ghost use Rattle.file.specs.Tables.{tables_of};
 ghost use Rattle.accepted_file.specs.AcceptedFile.{AcceptedFile};
@@ -13,7 +13,7 @@ ghost use Rattle.constant.specs.Sizes.{cap};
 ghost use Rattle.encode.specs.Written.{Wrote};
 ghost use Rattle.records.specs.Records.{put, longest_path};
 ghost use Rattle.seek.specs.Seek.{guide_of, level_of};
-ghost use Rattle.level_frame.specs.LevelFrame.{between_of, parts_len, frame_of};
+ghost use Rattle.level_frame.specs.LevelFrame.{number_of, between_of, parts_len, frame_of};
 
 use constant::capped;
 use records::{anchor_byte, path_size, put_path, put8, put16, wide32};
@@ -31,30 +31,51 @@ pub struct Frame {
     pub end: usize,
 }
 
-// The plan's number for the kind of a level's seek: 0 Prefix, 1 Composite, 2 PrefixRange, 3 Bounded.
-pub fn seek_number(l: SeekBuilder) -> u8
-    ensures { (T : Tables) → result ≡ seek_of (level_of T l) }
+// The kinds of a level's seek, by their numbers in the plan.
+#[derive(Clone, Copy, PartialEq, Eq)]
+pub enum SeekKind {
+    Prefix = 0,
+    Composite = 1,
+    PrefixRange = 2,
+    Bounded = 3,
+}
+
+// Whether a level has an edge.
+fn is_bounded(l: SeekBuilder) -> bool
+    ensures { result ≡ (is_some l.lo || is_some l.hi) }
 {
-    let lo = l.lo;
-    if lo.set {
-        return 3;
+    l.lo.is_some() || l.hi.is_some()
+}
+
+// The kind of a level's seek.
+pub fn seek_kind(l: SeekBuilder) -> SeekKind
+    ensures { (T : Tables) → number_of result ≡ seek_of (level_of T l) }
+{
+    if is_bounded(l) {
+        return SeekKind::Bounded;
     }
-    let hi = l.hi;
-    if hi.set {
-        return 3;
+    if kept(l.building, l.range).is_some() {
+        return SeekKind::PrefixRange;
     }
-    let range = l.range;
-    if kept(l.building, range.set) {
-        return 2;
+    if l.plain {
+        SeekKind::Prefix
+    } else {
+        SeekKind::Composite
     }
-    if l.plain { 0 } else { 1 }
+}
+
+// Whether the plan has a level's parts joined to one text: those of a Prefix.
+pub fn is_joining(l: SeekBuilder) -> bool
+    ensures { (T : Tables) → result ≡ joining (level_of T l) }
+{
+    seek_kind(l) == SeekKind::Prefix
 }
 
 // The bytes before the parts: three counts and the seek, then the length of the text that the parts of a Prefix join to.
 fn head_len(l: SeekBuilder) -> usize
     ensures { ((T : Tables) → result ≡ length (head (level_of T l))) × (result ≤ 9) }
 {
-    if seek_number(l) == 0 { 9 } else { 7 }
+    if is_joining(l) { 9 } else { 7 }
 }
 
 fn put_head(plan: &mut [u8], at: usize, l: SeekBuilder)
@@ -62,13 +83,12 @@ fn put_head(plan: &mut [u8], at: usize, l: SeekBuilder)
     ensures { (T : Tables) → plan.new ≡ put plan.old at (head (level_of T l)) }
 {
     let c = l.counts;
-    let seek = seek_number(l);
     let closers = wide32(c.closers);
     put16(plan, at, wide32(c.narrowings));
     put16(plan, at + 2, closers);
     put16(plan, at + 4, closers + wide32(c.others));
-    put8(plan, at + 6, seek);
-    if seek == 0 {
+    put8(plan, at + 6, seek_kind(l) as u8);
+    if is_joining(l) {
         put16(plan, at + 7, wide32(c.joined));
     }
 }
@@ -79,7 +99,7 @@ fn parts_len(l: SeekBuilder) -> usize
 {
     let c = l.counts;
     let joined = wide32(c.joined);
-    if seek_number(l) == 0 {
+    if is_joining(l) {
         joined + 2 * (wide32(c.closers) + wide32(c.others))
     } else {
         joined + wide32(c.framed)
@@ -90,11 +110,9 @@ fn parts_len(l: SeekBuilder) -> usize
 fn guide_len(l: SeekBuilder) -> usize
     ensures { (result ≡ length (Plan.guide (guide_of l))) × (result ≤ longest_path + 7) }
 {
-    let g = l.guide;
-    if kept(l.building, g.set) {
-        path_size(l.path) + 7
-    } else {
-        1
+    match kept(l.building, l.guide) {
+        Some(_) => path_size(l.path) + 7,
+        None => 1,
     }
 }
 
@@ -102,19 +120,20 @@ fn put_guide(plan: &mut [u8], at: usize, l: SeekBuilder) -> usize
     requires { at ≤ 1048576 }
     ensures { Wrote (Plan.guide (guide_of l)) at plan.old result plan.new }
 {
-    let g = l.guide;
-    if kept(l.building, g.set) {
-        let anchor = g.anchor;
-        put8(plan, at, 1);
-        let p = put_path(plan, at + 1, l.path);
-        put16(plan, p, g.term);
-        put8(plan, p + 2, g.distance);
-        put8(plan, p + 3, anchor_byte(anchor));
-        put16(plan, p + 4, g.node);
-        p + 6
-    } else {
-        put8(plan, at, 0);
-        at + 1
+    match kept(l.building, l.guide) {
+        Some(g) => {
+            put8(plan, at, 1);
+            let p = put_path(plan, at + 1, l.path);
+            put16(plan, p, g.term);
+            put8(plan, p + 2, g.distance);
+            put8(plan, p + 3, anchor_byte(g.anchor));
+            put16(plan, p + 4, g.node);
+            p + 6
+        }
+        None => {
+            put8(plan, at, 0);
+            at + 1
+        }
     }
 }
 
@@ -122,12 +141,7 @@ fn put_guide(plan: &mut [u8], at: usize, l: SeekBuilder) -> usize
 fn folded_count(l: SeekBuilder) -> usize
     ensures { ((T : Tables) → result ≡ length (level_of T l).edges.folded) × (result ≤ 2) }
 {
-    let lo = l.lo;
-    let hi = l.hi;
-    if lo.set {
-        return if hi.set { 2 } else { 1 };
-    }
-    if hi.set { 1 } else { 0 }
+    l.lo.is_some() as usize + l.hi.is_some() as usize
 }
 
 fn tail_len(l: SeekBuilder) -> usize
@@ -159,20 +173,16 @@ fn between_len(file: &[u8], index: &[u16], l: SeekBuilder) -> usize
     requires { AcceptedFile file.now index.now }
     ensures { result ≡ min cap (length (between_of (level_of (tables_of file.now) l))) }
 {
-    let seek = seek_number(l);
-    if seek == 3 {
-        let lo = l.lo;
-        let hi = l.hi;
-        return capped(edge_len(file, index, lo), edge_len(file, index, hi));
+    if is_bounded(l) {
+        return capped(edge_len(file, index, l.lo), edge_len(file, index, l.hi));
     }
-    if seek == 2 {
-        let range = l.range;
-        return capped(
-            prefix_text_len(file, index, range.name as usize),
+    match kept(l.building, l.range) {
+        Some(r) => capped(
+            prefix_text_len(file, index, r.name as usize),
             path_size(l.path) + 2,
-        );
+        ),
+        None => 0,
     }
-    0
 }
 
 fn put_between(file: &[u8], index: &[u16], plan: &mut [u8], at: usize, l: SeekBuilder) -> usize
@@ -180,21 +190,19 @@ fn put_between(file: &[u8], index: &[u16], plan: &mut [u8], at: usize, l: SeekBu
     requires at_le_plan_limit { (at ≤ plan_limit) × (length (between_of (level_of (tables_of file.now) l)) ≤ cap) }
     ensures { Wrote (between_of (level_of (tables_of file.now) l)) at plan.old result plan.new }
 {
-    let seek = seek_number(l);
-    if seek == 3 {
-        let lo = l.lo;
-        let hi = l.hi;
-        let p = put_edge(file, index, plan, at, lo);
-        return put_edge(file, index, plan, p, hi);
+    if is_bounded(l) {
+        let p = put_edge(file, index, plan, at, l.lo);
+        return put_edge(file, index, plan, p, l.hi);
     }
-    if seek == 2 {
-        let range = l.range;
-        let p = put_prefix_text(file, index, plan, at, range.name as usize);
-        let q = put_path(plan, p, l.path);
-        put16(plan, q, range.node);
-        return q + 2;
+    match kept(l.building, l.range) {
+        Some(r) => {
+            let p = put_prefix_text(file, index, plan, at, r.name as usize);
+            let q = put_path(plan, p, l.path);
+            put16(plan, q, r.node);
+            q + 2
+        }
+        None => at,
     }
-    at
 }
 
 // The bytes between parts and residuals, up to the cap.

@@ -3,7 +3,6 @@ use mathlib.Core.Bool.{Bool, true, false}
 use mathlib.Core.List.{List}
 use mathlib.Core.Path.{◌≡◌, refl, sym, ap, ◌∙◌}
 use Prim.Native.Nat.{ℕ, ◌≤◌, ◌<◌}
-use lib.Dec.{eqb}
 use lib.ListN.{length}
 use Rattle.rules.specs.Limits.{plan_limit}
 use Rattle.rules.specs.File.{Tables, predicate_at}
@@ -33,7 +32,6 @@ use Rattle.walk.proofs.Parts.{lists-are}
 use Rattle.walk.specs.declared.Walk.{Walk}
 use Rattle.level_frame.specs.LevelFrame.{frame_of}
 use Rattle.level_frame.specs.declared.Frame.{Frame}
-use Rattle.level_frame.proofs.Seeks.{joining-is}
 use Rattle.level_frame.proofs.Places.{parts_is, nodes-is, rest-is}
 use Rattle.levels.specs.Written.{unleveled}
 
@@ -64,11 +62,6 @@ unfolding state_of
 begun-is T o e b t w p q =
     lists-are T (record { ends = e; level = b }) (with_lists (record { ends = e; level = b }) (record { over = o; ends = e })) (record { over = o; ends = e }) w p refl
     ∙ ap (λ (s : State). state o (ends_of e) s.level s.target w p) q
-
--- a level's place in the plan
-pub target_is : (T : Tables) (l : SeekBuilder) (s parts nodes rest : ℕ) → s ≡ StateLevels.seek_of (level_of T l) → place (eqb s 0) parts nodes rest ≡ place (StateLevels.joining (level_of T l)) parts nodes rest
-target_is T l s parts nodes rest e =
-    ap (λ (j : Bool). place j parts nodes rest) (ap (λ (n : ℕ). eqb n 0) e ∙ sym (joining-is l T))
 
 -- no level is kept of a walk that is done
 pub lists-left : (T : Tables) (r : Walk) (l : Lists) (work plan : List ℕ) → l ≡ lists_of r → state_with l new_level no_target work plan ≡ unleveled (walk_state T r work plan)

@@ -17,7 +17,7 @@ ghost use Rattle.walk.specs.Walk.{walk_state, with_lists};
 ghost use Rattle.levels.specs.Written.{unleveled, between_levels, written_of};
 
 use key::key;
-use level_frame::{Frame, measure, put_frame, seek_number};
+use level_frame::{Frame, is_joining, measure, put_frame};
 use lists::{Ends, Lists};
 use page::{PAGE, is_paged, paging, put_page};
 use plan_lists::{lists_len, put_lists};
@@ -68,7 +68,7 @@ fn writing(f: Frame, l: SeekBuilder) -> Target
         target_of result ≡ record { joining = joining; parts_at = f.parts; nodes_at = f.nodes; rest_at = f.rest } }
 {
     Target {
-        joining: seek_number(l) == 0,
+        joining: is_joining(l),
         parts: f.parts as u32,
         nodes: f.nodes as u32,
         rest: f.rest as u32,
@@ -206,16 +206,13 @@ fn levels(
         after ≡ between_levels (StateLevels.levels T T.levels before) }
     ensures bounded { result.at ≤ plan_limit }
 {
-    let n = count_of(file, index, file::LEVELS);
     let mut w = start;
-    let mut k: usize = 0;
-    while k < n {
+    for k in 0..count_of(file, index, file::LEVELS) {
         let lists = w.lists;
         if lists.over {
             return w;
         }
         w = level(file, index, work, plan, page, k, w);
-        k += 1;
     }
     w
 }

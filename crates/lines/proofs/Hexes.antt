@@ -1,6 +1,6 @@
 -- Digits, hex byte by byte, and hex read back.
 use mathlib.Core.Bool.{true, false}
-use mathlib.Core.List.{List, [], ◌∷◌}
+use mathlib.Core.List.{List, [], ◌∷◌, ◌++◌}
 use mathlib.Core.Path.{◌≡◌, refl, sym, ap, ◌∙◌}
 use Prim.Native.Nat.{ℕ, suc, ◌+◌, ◌-◌, ◌*◌, ◌/◌, ◌%◌, ◌≤◌, ◌<◌}
 use native.Mathlib.Omega.{arith}
@@ -8,7 +8,7 @@ use borrow.Author.Tests.{lt-ltb, le-ltb}
 use lib.Dec.{ltb}
 use native.Mathlib.Nat.{not-suc-le-zero, le_of_suc-le-suc}
 use lib.ListN.{length, get_or, set, drop, drop_of_length-le, length-drop}
-use lib.Seq.{sets, drop-cons}
+use lib.Seq.{sets, sets-eq, drop-cons}
 use Rattle.rules.proofs.Cases.{pick}
 use Rattle.lines.specs.Lines.{digit, hex, decimal, refusal, value, byte, unhex}
 
@@ -29,6 +29,11 @@ pub refusal-two : (n : ℕ) → 10 ≤ n → refusal n ≡ 114 ∷ 101 ∷ 102 �
 unfolding refusal decimal
 refusal-two n h =
     ap (λ (l : List ℕ). 114 ∷ 101 ∷ 102 ∷ 117 ∷ 115 ∷ 101 ∷ 100 ∷ 32 ∷ l) (pick (ltb n 10) false ((48 + n) ∷ []) ((48 + n / 10) ∷ (48 + n % 10) ∷ []) (le-ltb n 10 h))
+
+-- the word before the number, copied to the front
+pub word-front : (out word : List ℕ) → word ≡ 114 ∷ 101 ∷ 102 ∷ 117 ∷ 115 ∷ 101 ∷ 100 ∷ 32 ∷ [] → 8 ≤ length out
+    → word ++ drop 8 out ≡ sets out 0 (114 ∷ 101 ∷ 102 ∷ 117 ∷ 115 ∷ 101 ∷ 100 ∷ 32 ∷ [])
+word-front out word e h = ap (λ (l : List ℕ). l ++ drop 8 out) e ∙ sym (sets-eq (114 ∷ 101 ∷ 102 ∷ 117 ∷ 115 ∷ 101 ∷ 100 ∷ 32 ∷ []) out 0 h)
 
 pub value_low : (c : ℕ) → c < 58 → value c ≡ c - 48
 unfolding value

@@ -23,12 +23,10 @@ fn put_hex(bytes: &[u8], out: &mut [u8])
     requires { length bytes.now * 2 ≤ length out.old }
     ensures { out.new ≡ sets out.old 0 (Lines.hex bytes.now) }
 {
-    let mut i = 0;
-    while i < bytes.len() {
+    for i in 0..bytes.len() {
         let b = bytes[i];
         out[i * 2] = digit(b / 16);
         out[i * 2 + 1] = digit(b % 16);
-        i += 1;
     }
 }
 
@@ -38,14 +36,7 @@ fn put_refusal(n: u8, out: &mut [u8]) -> usize
     ensures gives { result ≡ length (Lines.refusal n) }
     ensures leaves { out.new ≡ sets out.old 0 (Lines.refusal n) }
 {
-    out[0] = b'r';
-    out[1] = b'e';
-    out[2] = b'f';
-    out[3] = b'u';
-    out[4] = b's';
-    out[5] = b'e';
-    out[6] = b'd';
-    out[7] = b' ';
+    out[..8].copy_from_slice(b"refused ");
     if n < 10 {
         out[8] = ZERO + n;
         return 9;
@@ -78,16 +69,10 @@ pub fn put_line(answer: u64, output: &[u8], out: &mut [u8]) -> usize
 fn value(c: u8) -> u8
     ensures { result ≡ Lines.value c }
 {
-    if c < ZERO {
-        return 0;
-    }
     if c <= b'9' {
-        return c - ZERO;
+        return c.saturating_sub(ZERO);
     }
-    if c < BEFORE_A {
-        return 0;
-    }
-    c - BEFORE_A
+    c.saturating_sub(BEFORE_A)
 }
 
 // The byte that two hex digits stand for.
@@ -103,9 +88,7 @@ pub fn unhex(text: &[u8], out: &mut [u8])
     requires { length text.now ≤ length out.old * 2 }
     ensures { out.new ≡ sets out.old 0 (Lines.unhex text.now) }
 {
-    let mut i = 0;
-    while i < text.len() / 2 {
+    for i in 0..text.len() / 2 {
         out[i] = byte(text[i * 2], text[i * 2 + 1]);
-        i += 1;
     }
 }

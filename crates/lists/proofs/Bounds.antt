@@ -7,21 +7,12 @@ use native.Mathlib.Omega.{arith}
 use lib.ListN.{length, get_or}
 use Rattle.rules.specs.Read.{u8, many, several, path, fetched, binding}
 use Rattle.file.specs.Steps.{step_at}
-use Rattle.file.specs.declared.Step.TheVariants.{Next, Refused}
 use Rattle.file.proofs.Readers.{lt-or-le, Needs, needs-bind, needs-first, needs-fixed, fixed-u8, fixed-u16, fixed-bytes, fixed_in, cut_short}
 use Rattle.file.proofs.Leaves.{slot_sizes, binding-cut, binding-in, slot-cut, slot-plain, slot-field, slot-bad, path-in, several-fixed, fetched-fault, fetched-in}
 use Rattle.lists.specs.Lists.{plain_sizes, end_of}
+use Rattle.std.specs.Prelude.{Ok, Err}
 
 -- a size by its kind
-pub size-four : (k : ℕ) → (k ≡ 2 → ⊥) → (k ≡ 5 → ⊥) → 4 ≡ get_or plain_sizes k 4
-size-four zero a b = refl
-size-four (suc zero) a b = refl
-size-four (suc (suc zero)) a b = absurd (a refl)
-size-four (suc (suc (suc zero))) a b = refl
-size-four (suc (suc (suc (suc zero)))) a b = refl
-size-four (suc (suc (suc (suc (suc zero))))) a b = absurd (b refl)
-size-four (suc (suc (suc (suc (suc (suc k)))))) a b = refl
-
 pub size_small : (k : ℕ) → get_or plain_sizes k 4 ≤ 4
 size_small zero = omega arith
 size_small (suc zero) = omega arith
@@ -46,11 +37,11 @@ unfolding fetched path several
 needs-fetched = needs-bind 2 3 fixed-u16 (λ a. needs-first 3 _ (needs-bind 2 1 fixed-u16 (λ b. needs-first 1 _ (needs-first 1 _ (needs-fixed 1 fixed-u8)))))
 
 module _ (f : List ℕ) (p : ℕ) where
-  ends : (q : ℕ) → step_at f binding p ≡ Next q → q ≡ end_of (step_at f binding p)
+  ends : (q : ℕ) → step_at f binding p ≡ Ok q → q ≡ end_of (step_at f binding p)
   unfolding end_of
   ends q e = sym (ap end_of e)
 
-  none : (x : ℕ) → step_at f binding p ≡ Refused x → 0 ≡ end_of (step_at f binding p)
+  none : (x : ℕ) → step_at f binding p ≡ Err x → 0 ≡ end_of (step_at f binding p)
   unfolding end_of
   none x e = sym (ap end_of e)
 
@@ -73,7 +64,7 @@ module _ (f : List ℕ) (p : ℕ) where
       pub plain_in : (q : ℕ) → q ≡ p + 3 + n → q ≤ length f → q ≡ end_of (step_at f binding p)
       plain_in q m l =
           let t : p + 2 + 1 + n ≡ q = omega arith in
-          ends q (plain ∙ fixed_in f n (p + 2 + 1) (fixed-bytes n) (omega arith) ∙ ap Next t)
+          ends q (plain ∙ fixed_in f n (p + 2 + 1) (fixed-bytes n) (omega arith) ∙ ap Ok t)
 
       pub plain-cut : length f < p + 3 + n → 0 ≡ end_of (step_at f binding p)
       plain-cut m = none 3 (plain ∙ cut_short f n (p + 2 + 1) (needs-fixed n (fixed-bytes n)) (omega arith) (omega arith))
@@ -102,7 +93,7 @@ module _ (f : List ℕ) (p : ℕ) where
       pub field_in : (q : ℕ) → q ≡ p + 10 + 4 * n → q ≤ length f → q ≡ end_of (step_at f binding p)
       field_in q m g =
           let t : p + 8 + n * 4 + 2 ≡ q = omega arith in
-          ends q (whole (omega arith) ∙ fixed_in f 2 (p + 8 + n * 4) (fixed-bytes 2) (omega arith) ∙ ap Next t)
+          ends q (whole (omega arith) ∙ fixed_in f 2 (p + 8 + n * 4) (fixed-bytes 2) (omega arith) ∙ ap Ok t)
 
       pub field_cut : length f < p + 10 + 4 * n → 0 ≡ end_of (step_at f binding p)
       field_cut m =

@@ -3,9 +3,8 @@ use Prim.Native.Nat.{ℕ, ◌+◌, ◌≤◌, ◌<◌}
 use mathlib.Core.Path.{◌≡◌, sym, ap, ap₂, ◌∙◌, subst}
 use mathlib.Core.Bool.{Bool, true, false}
 use mathlib.Core.List.{List}
-use mathlib.Core.Option.{Option, none, some}
+use Rattle.std.specs.Prelude.{Option, None, Some}
 use native.Mathlib.Omega.{arith}
-use borrow.Author.Tests.{lt-ltb, le-ltb, le-leb, lt-leb}
 use lib.Dec.{ltb, leb}
 use lib.ListN.{length, get_or}
 use Rattle.rules.specs.Base.{both}
@@ -25,37 +24,26 @@ use Rattle.accepted_file.specs.AcceptedFile.{AcceptedFile}
 use Rattle.accepted_file.proofs.Given.{few-types, sound-tables}
 use Rattle.views.specs.Views as Views
 use Rattle.paths.specs.declared.PredicateId.{PredicateId}
-use Rattle.views.specs.declared.MaybePredicate.{MaybePredicate}
-use Rattle.views.specs.declared.MaybePredicate.TheVariants as Mp
 use Rattle.views.specs.Views.{predicate_option, size_of, byte_at, path_at, long, SlotInside}
 use Rattle.views.specs.declared.SlotView.{SlotView}
 use Rattle.views.specs.declared.SlotView.TheVariants as Sv
 use Rattle.views.proofs.Runs.{length_run}
-use Rattle.slots.specs.Slots.{slot_with, no_path, plain_slot, field_slot, just_slot, no_slot, Stands, IsSlot}
-use Rattle.slots.specs.declared.MaybeSlot.{MaybeSlot}
+use Rattle.slots.specs.Slots.{slot_with, no_path, plain_slot, field_slot, Stands, IsSlot}
 use Rattle.slots.proofs.Tidy.{plain-stands, field-stands, stands-as, just-is, no-slot, slot-as}
 use Rattle.slots.proofs.Clear.{for-cleared}
 use Rattle.slots.specs.declared.SlotKind.{SlotKind}
 use Rattle.slots.specs.declared.Slot.{Slot}
 use Rattle.lists.specs.Lists.{fits_tables, ShortSlot}
 
--- a number and its section's count
-module _ (n k m : ℕ) (e : k ≡ m) where
-  pub in-section : n < k → true ≡ ltb n m
-  in-section h = sym (lt-ltb n m (omega arith))
-
-  pub past-section : k ≤ n → false ≡ ltb n m
-  past-section h = sym (le-ltb n m (omega arith))
-
 -- a predicate, or none
-module _ (T : Tables) (p : MaybePredicate) where
-  pub no-predicate : p ≡ Mp.Nothing → true ≡ none_or (is_predicate T) (predicate_option p)
+module _ (T : Tables) (p : Option PredicateId) where
+  pub no-predicate : p ≡ None → true ≡ none_or (is_predicate T) (predicate_option p)
   unfolding none_or
-  no-predicate e = ap (λ (q : MaybePredicate). none_or (is_predicate T) (predicate_option q)) (sym e)
+  no-predicate e = ap (λ (q : Option PredicateId). none_or (is_predicate T) (predicate_option q)) (sym e)
 
-  pub some-predicate : (id : PredicateId) (n : ℕ) (b : Bool) → p ≡ Mp.Just id → n ≡ id.0 → b ≡ ltb n (length T.predicates) → b ≡ none_or (is_predicate T) (predicate_option p)
+  pub some-predicate : (id : PredicateId) (n : ℕ) (b : Bool) → p ≡ Some id → n ≡ id.0 → b ≡ ltb n (length T.predicates) → b ≡ none_or (is_predicate T) (predicate_option p)
   unfolding none_or is_predicate
-  some-predicate id n b e g h = h ∙ ap (λ (m : ℕ). ltb m (length T.predicates)) g ∙ ap (λ (q : MaybePredicate). none_or (is_predicate T) (predicate_option q)) (sym e)
+  some-predicate id n b e g h = h ∙ ap (λ (m : ℕ). ltb m (length T.predicates)) g ∙ ap (λ (q : Option PredicateId). none_or (is_predicate T) (predicate_option q)) (sym e)
 
 -- how many steps the path at a place has
 steps-at : (f : List ℕ) (at : ℕ) → length (path_at f at).steps ≡ get_or f (at + 2) 0
@@ -81,13 +69,9 @@ module _ (f ix : List ℕ) (r : AcceptedFile f ix) (t : ℕ) (b : Bool) (e : b �
       sum_is : length (path_at g at).steps + depth (tables_of f) t ≡ n + d
       sum_is = ap₂ ◌+◌ (steps-at g at ∙ sym en) (sym (ed ∙ r.depths t (type-known h)))
 
-      pub has_room : n + d ≤ depth_limit → true ≡ both (is_type (tables_of f) t) enough
+      pub room-is : leb (n + d) depth_limit ≡ both (is_type (tables_of f) t) enough
       unfolding is_type
-      has_room k = sym (le-leb (length (path_at g at).steps + depth (tables_of f) t) depth_limit (omega (arith, sum_is))) ∙ ap (λ (c : Bool). both c enough) (sym h ∙ e)
-
-      pub no_room : depth_limit < n + d → false ≡ both (is_type (tables_of f) t) enough
-      unfolding is_type
-      no_room k = sym (lt-leb (length (path_at g at).steps + depth (tables_of f) t) depth_limit (omega (arith, sum_is))) ∙ ap (λ (c : Bool). both c enough) (sym h ∙ e)
+      room-is = ap (λ (k : ℕ). leb k depth_limit) (sym sum_is) ∙ ap (λ (c : Bool). both c enough) (sym h ∙ e)
 
 -- a view of a known kind
 module _ (T : Tables) (f : List ℕ) (v w : SlotView) (e : v ≡ w) where
@@ -122,12 +106,12 @@ module _ (f ix : List ℕ) (r : AcceptedFile f ix) (g : List ℕ) where
 
 -- as the test comes out
 module _ (T : Tables) (s : File.Slot) (b : Bool) (e : b ≡ fits_tables T s) where
-  chosen : (c : Bool) → b ≡ c → ◌≡◌ {A = Option File.Slot} (elim c [ true ↦ some s | false ↦ none ]) (checked_slot T (some s))
+  chosen : (c : Bool) → b ≡ c → ◌≡◌ {A = Option File.Slot} (elim c [ true ↦ Some s | false ↦ None ]) (checked_slot T (Some s))
   unfolding checked_slot
-  chosen c h = ap (λ (t : Bool). elim t as (λ _. Option File.Slot) [ true ↦ some s | false ↦ none ]) (sym h ∙ e)
+  chosen c h = ap (λ (t : Bool). elim t as (λ _. Option File.Slot) [ true ↦ Some s | false ↦ None ]) (sym h ∙ e)
 
-  pub fitted-yes : (r : MaybeSlot) (s' : Slot) → b ≡ true → r ≡ just_slot s' → Stands s s' → IsSlot (checked_slot T (some s)) r
+  pub fitted-yes : (r : Option Slot) (s' : Slot) → b ≡ true → r ≡ Some s' → Stands s s' → IsSlot (checked_slot T (Some s)) r
   fitted-yes r s' h g k = slot-as (just-is g k) (chosen true h)
 
-  pub fitted-no : (r : MaybeSlot) → b ≡ false → r ≡ no_slot → IsSlot (checked_slot T (some s)) r
+  pub fitted-no : (r : Option Slot) → b ≡ false → r ≡ None → IsSlot (checked_slot T (Some s)) r
   fitted-no r h g = slot-as (no-slot g) (chosen false h)

@@ -3,7 +3,6 @@ use Prim.Native.Nat.{ℕ, ◌+◌, ◌≤◌, ◌<◌}
 use mathlib.Core.Path.{◌≡◌, refl, sym, ap, ◌∙◌, subst}
 use mathlib.Core.Bool.{true, false}
 use mathlib.Core.List.{List, []}
-use mathlib.Core.Option.{Option, none, some}
 use native.Mathlib.Omega.{arith}
 use borrow.Author.Tests.{lt-ltb, le-ltb}
 use lib.Dec.{eqb, ltb}
@@ -16,21 +15,17 @@ use Rattle.rules.specs.Read.Read.{got, refused}
 use Rattle.rules.proofs.Cases.{pick, true≢false}
 use Rattle.state.specs.State.{number_at, place_at, word_in, slot_named, made_slot}
 use Rattle.file.specs.Steps.{word, read_at, step_at}
-use Rattle.file.specs.declared.Step.{Step}
-use Rattle.file.specs.declared.Step.TheVariants.{Next, Refused}
 use Rattle.file.proofs.Readers.{bind_inv, needs-fixed, needs-first, fixed-u16}
 use Rattle.file.proofs.Suffix.{Ended, ended, faulted, suffix-binding, suffix-slot, suffix-one}
 use Rattle.file.proofs.Sections.{word-then}
 use Rattle.views.proofs.Runs.{value_of, needs-room}
 use Rattle.views.proofs.Entries.{kind-found}
 use Rattle.views.proofs.Slots.{BindingRead}
-use Rattle.tables.specs.declared.Found.{Found}
-use Rattle.tables.specs.declared.Found.TheVariants as Fo
 use Rattle.tables.specs.Tables.{SeenSlot}
-use Rattle.tables.specs.declared.MaybeSlotView.TheVariants as Ms
 use Rattle.views.specs.Views.{slot_view, slot_viewed, SlotInside}
 use Rattle.views.specs.declared.SlotView.{SlotView}
 use Rattle.lists.specs.Lists.{binding_read, binding_at, slot_at, slot_from, end_of, is_named, named_at, made_place, view_at, Readable, FoundReads, SeenAt, SeenView}
+use Rattle.std.specs.Prelude.{Result, Ok, Err, Option, None, Some}
 
 -- a binding that was read at p: its name, then its slot
 pub binding-read : (f : List ℕ) (p : ℕ) (b : Binding) (rest : List ℕ) → read_at f binding p ≡ got b rest → BindingRead f p b
@@ -49,29 +44,29 @@ module _ (f : List ℕ) (p : ℕ) (x : Readable f p) where
   unfolding slot_at binding_at ◌when_some◌
   seen-view v e i =
       record {
-        is = ap some (e ∙ ap (λ (b : Binding). b.slot) there.is) ∙ sym (ap (λ (r : Read.Read Binding). binding_read r when_some λ b. some b.slot) x.reads);
+        is = ap Some (e ∙ ap (λ (b : Binding). b.slot) there.is) ∙ sym (ap (λ (r : Read.Read Binding). binding_read r when_some λ b. Some b.slot) x.reads);
         inside = i;
       }
 
 -- what was found, as a view
-module _ (f : List ℕ) (o : Option Slot) (r : Found) (s : SeenAt f o r) where
-  pub found-reads : (p : ℕ) → r ≡ Fo.Just p → Readable f p
+module _ (f : List ℕ) (o : Option Slot) (r : Option ℕ) (s : SeenAt f o r) where
+  pub found-reads : (p : ℕ) → r ≡ Some p → Readable f p
   found-reads p e = subst (FoundReads f) e s.reads
 
-  pub found-slot : (p : ℕ) (v : SlotView) → r ≡ Fo.Just p → SeenView f (slot_from f p) v → SeenSlot f o (Ms.Just v)
+  pub found-slot : (p : ℕ) (v : SlotView) → r ≡ Some p → SeenView f (slot_from f p) v → SeenSlot f o (Some v)
   found-slot p v e w = record { is = w.is ∙ ap (slot_at f) (sym e) ∙ s.is; inside = w.inside }
 
-  pub found_none : r ≡ Fo.Nothing → SeenSlot f o Ms.Nothing
+  pub found_none : r ≡ None → SeenSlot f o None
   unfolding slot_at binding_at ◌when_some◌
   found_none e = record { is = ap (slot_at f) (sym e) ∙ s.is; inside = tt }
 
 -- and as the view of its place
-module _ (f : List ℕ) (r last : Found) (e : r ≡ last) where
-  pub view-found : (p : ℕ) (v : SlotView) → r ≡ Fo.Just p → v ≡ slot_view f (p + 2) → Ms.Just v ≡ view_at f last
+module _ (f : List ℕ) (r last : Option ℕ) (e : r ≡ last) where
+  pub view-found : (p : ℕ) (v : SlotView) → r ≡ Some p → v ≡ slot_view f (p + 2) → Some v ≡ view_at f last
   unfolding view_at
-  view-found p v g h = ap Ms.Just h ∙ ap (view_at f) (sym g ∙ e)
+  view-found p v g h = ap Some h ∙ ap (view_at f) (sym g ∙ e)
 
-  pub view-none : r ≡ Fo.Nothing → Ms.Nothing ≡ view_at f last
+  pub view-none : r ≡ None → None ≡ view_at f last
   unfolding view_at
   view-none g = ap (view_at f) (sym g ∙ e)
 
@@ -105,20 +100,20 @@ module _ (f : List ℕ) (p x : ℕ) where
     unfolding is_named read_at end_of
     named_none z = go (step_at f binding p) refl e
       where
-        go : (r : Step) → step_at f binding p ≡ r → q ≡ end_of r → false ≡ named_at f p x
-        go (Next y) g o =
+        go : (r : Result ℕ ℕ) → step_at f binding p ≡ r → q ≡ end_of r → false ≡ named_at f p x
+        go (Ok y) g o =
             let n = ended f binding p y suffix-binding h g in
             absurd (omega (arith, o, z, past-name f p y n.value h n.within n.is))
-        go (Refused k) g o = named-as (refused k) (faulted f binding p k g)
+        go (Err k) g o = named-as (refused k) (faulted f binding p k g)
 
     module _ (z : q ≡ 0 → ⊥) where
       stands : Ended f binding p q
       unfolding end_of
       stands = go (step_at f binding p) refl e
         where
-          go : (r : Step) → step_at f binding p ≡ r → q ≡ end_of r → Ended f binding p q
-          go (Next y) g o = ended f binding p q suffix-binding h (g ∙ ap Next (sym o))
-          go (Refused k) g o = absurd (z o)
+          go : (r : Result ℕ ℕ) → step_at f binding p ≡ r → q ≡ end_of r → Ended f binding p q
+          go (Ok y) g o = ended f binding p q suffix-binding h (g ∙ ap Ok (sym o))
+          go (Err k) g o = absurd (z o)
 
       pub name-inside : p + 2 ≤ length f
       name-inside = omega (arith, stands.within, past-name f p q stands.value h stands.within stands.is)
@@ -130,15 +125,15 @@ module _ (f : List ℕ) (p x : ℕ) where
 
 -- Where the tables lead for the name x; n and p are what the code finds there.
 module _ (f : List ℕ) (count x n : ℕ) (en : n ≡ word_in f (number_at x)) where
-  abbrev pub Place : Found → Type 0
+  abbrev pub Place : Option ℕ → Type 0
   Place r = SeenAt f (made_slot f count x) r × (r ≡ made_place f count x)
 
   -- no binding's number
-  pub place-past : count ≤ n → Place Fo.Nothing
+  pub place-past : count ≤ n → Place None
   unfolding made_slot made_place slot_at binding_at ◌when_some◌
   place-past h =
       let no : ltb (word_in f (number_at x)) count ≡ false = le-ltb (word_in f (number_at x)) count (omega arith) in
-      (record { is = sym (pick (ltb (word_in f (number_at x)) count) false _ none no); reads = tt }, sym (pick (ltb (word_in f (number_at x)) count) false _ Fo.Nothing no))
+      (record { is = sym (pick (ltb (word_in f (number_at x)) count) false _ None no); reads = tt }, sym (pick (ltb (word_in f (number_at x)) count) false _ None no))
 
   module _ (p : ℕ) (ep : p ≡ word_in f (place_at n)) (l : n < count) where
     there-is : word_in f (place_at (word_in f (number_at x))) ≡ p
@@ -147,32 +142,32 @@ module _ (f : List ℕ) (count x n : ℕ) (en : n ≡ word_in f (number_at x)) w
     slot_is : made_slot f count x ≡ slot_named x (read_at f Read.binding p)
     unfolding made_slot read_at
     slot_is =
-        pick (ltb (word_in f (number_at x)) count) true _ none (lt-ltb (word_in f (number_at x)) count (omega arith))
+        pick (ltb (word_in f (number_at x)) count) true _ None (lt-ltb (word_in f (number_at x)) count (omega arith))
         ∙ ap (λ (k : ℕ). slot_named x (Read.binding (drop k f))) there-is
 
-    place_is : made_place f count x ≡ (elim (named_at f p x) as (λ _. Found) [ true ↦ Fo.Just p | false ↦ Fo.Nothing ])
+    place_is : made_place f count x ≡ (elim (named_at f p x) as (λ _. Option ℕ) [ true ↦ Some p | false ↦ None ])
     unfolding made_place
     place_is =
-        pick (ltb (word_in f (number_at x)) count) true _ Fo.Nothing (lt-ltb (word_in f (number_at x)) count (omega arith))
-        ∙ ap (λ (k : ℕ). elim (named_at f k x) as (λ _. Found) [ true ↦ Fo.Just k | false ↦ Fo.Nothing ]) there-is
+        pick (ltb (word_in f (number_at x)) count) true _ None (lt-ltb (word_in f (number_at x)) count (omega arith))
+        ∙ ap (λ (k : ℕ). elim (named_at f k x) as (λ _. Option ℕ) [ true ↦ Some k | false ↦ None ]) there-is
 
     -- a binding of the name, and one of another or none
-    pub place_here : named_at f p x ≡ true → Place (Fo.Just p)
+    pub place_here : named_at f p x ≡ true → Place (Some p)
     unfolding named_at is_named slot_named slot_at binding_at ◌when_some◌
-    place_here t = (go (read_at f Read.binding p) refl t, sym (place_is ∙ pick (named_at f p x) true (Fo.Just p) Fo.Nothing t))
+    place_here t = (go (read_at f Read.binding p) refl t, sym (place_is ∙ pick (named_at f p x) true (Some p) None t))
       where
-        go : (r : Read.Read Binding) → read_at f Read.binding p ≡ r → is_named x r ≡ true → SeenAt f (made_slot f count x) (Fo.Just p)
+        go : (r : Read.Read Binding) → read_at f Read.binding p ≡ r → is_named x r ≡ true → SeenAt f (made_slot f count x) (Some p)
         go (got b rest) e s =
             record {
-              is = ap (λ (r : Read.Read Binding). binding_read r when_some λ b. some b.slot) e ∙ sym (slot_is ∙ ap (slot_named x) e ∙ pick (eqb b.name x) true (some b.slot) none s);
+              is = ap (λ (r : Read.Read Binding). binding_read r when_some λ b. Some b.slot) e ∙ sym (slot_is ∙ ap (slot_named x) e ∙ pick (eqb b.name x) true (Some b.slot) None s);
               reads = record { value = b; rest = rest; reads = e };
             }
         go (refused k) e s = absurd (true≢false (sym s))
 
-    pub place_none : named_at f p x ≡ false → Place Fo.Nothing
+    pub place_none : named_at f p x ≡ false → Place None
     unfolding named_at is_named slot_named slot_at binding_at ◌when_some◌
-    place_none t = (go (read_at f Read.binding p) refl t, sym (place_is ∙ pick (named_at f p x) false (Fo.Just p) Fo.Nothing t))
+    place_none t = (go (read_at f Read.binding p) refl t, sym (place_is ∙ pick (named_at f p x) false (Some p) None t))
       where
-        go : (r : Read.Read Binding) → read_at f Read.binding p ≡ r → is_named x r ≡ false → SeenAt f (made_slot f count x) Fo.Nothing
-        go (got b rest) e s = record { is = sym (slot_is ∙ ap (slot_named x) e ∙ pick (eqb b.name x) false (some b.slot) none s); reads = tt }
+        go : (r : Read.Read Binding) → read_at f Read.binding p ≡ r → is_named x r ≡ false → SeenAt f (made_slot f count x) None
+        go (got b rest) e s = record { is = sym (slot_is ∙ ap (slot_named x) e ∙ pick (eqb b.name x) false (Some b.slot) None s); reads = tt }
         go (refused k) e s = record { is = sym (slot_is ∙ ap (slot_named x) e); reads = tt }

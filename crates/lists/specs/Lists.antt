@@ -1,6 +1,5 @@
 -- What the code's lists stand for in the state that the compiler keeps (crate state).
-use Rattle.std.specs.Prelude.{ℕ, ◌+◌, ◌≤◌, ◌≡◌, Bool, true, false, List, [], ◌∷◌, eqb, ltb, get_or}
-use Rattle.std.proofs.Math.Option.{Option, none, some}
+use Rattle.std.specs.Prelude.{ℕ, ◌+◌, ◌≤◌, ◌≡◌, Bool, true, false, List, [], ◌∷◌, eqb, ltb, get_or, Result, Ok, Err, Option, None, Some}
 use Rattle.rules.specs.Base.{◌when_some◌}
 use Rattle.rules.specs.Limits.{step_limit}
 use Rattle.rules.specs.File.{Tables, Slot, Binding}
@@ -9,17 +8,11 @@ use Rattle.rules.specs.Events as Events
 use Rattle.rules.specs.Read as Read
 use Rattle.rules.specs.Read.Read.{got, refused}
 use Rattle.file.specs.Steps.{read_at}
-use Rattle.file.specs.declared.Step.{Step}
-use Rattle.file.specs.declared.Step.TheVariants.{Next, Refused}
 use Rattle.state.specs.State as InState
 use Rattle.state.specs.State.{Level, Target, State, state, ends, number_at, place_at, word_in}
 use Rattle.views.specs.Views.{slot_view, slot_viewed, SlotInside}
 use Rattle.views.specs.declared.SlotView.{SlotView}
 use Rattle.views.specs.declared.SlotView.TheVariants as Sv
-use Rattle.tables.specs.declared.Found.{Found}
-use Rattle.tables.specs.declared.Found.TheVariants as Fo
-use Rattle.tables.specs.declared.MaybeSlotView.{MaybeSlotView}
-use Rattle.tables.specs.declared.MaybeSlotView.TheVariants as Ms
 use Rattle.lists.specs.declared.Ends.{Ends}
 use Rattle.lists.specs.declared.Lists.{Lists}
 use Rattle.lists.specs.declared.Code.{Code}
@@ -50,28 +43,28 @@ code_of Co.RejectUnresolvedAccess = Events.Code.RejectUnresolvedAccess
 
 -- the binding that is read at a place of the bytes, if one is
 abbrev pub binding_read : Read.Read Binding → Option Binding
-binding_read (got b rest) = some b
-binding_read (refused n) = none
+binding_read (got b rest) = Some b
+binding_read (refused n) = None
 
-unfoldable pub binding_at : List ℕ → Found → Option Binding
-binding_at f Fo.Nothing = none
-binding_at f (Fo.Just p) = binding_read (read_at f Read.binding p)
+unfoldable pub binding_at : List ℕ → Option ℕ → Option Binding
+binding_at f None = None
+binding_at f (Some p) = binding_read (read_at f Read.binding p)
 
-unfoldable pub slot_at : List ℕ → Found → Option Slot
-slot_at f r = binding_at f r when_some λ b. some b.slot
+unfoldable pub slot_at : List ℕ → Option ℕ → Option Slot
+slot_at f r = binding_at f r when_some λ b. Some b.slot
 
 -- the slot of the binding that is read at p
 abbrev pub slot_from : List ℕ → ℕ → Option Slot
-slot_from f p = slot_at f (Fo.Just p)
+slot_from f p = slot_at f (Some p)
 
 -- the bytes after the kind of a slot that is no field
 abbrev pub plain_sizes : List ℕ
 plain_sizes = 4 ∷ 4 ∷ 2 ∷ 4 ∷ 4 ∷ 2 ∷ []
 
 -- where a reading ended, or 0 for a refusal
-unfoldable pub end_of : Step → ℕ
-end_of (Next q) = q
-end_of (Refused n) = 0
+unfoldable pub end_of : Result ℕ ℕ → ℕ
+end_of (Ok q) = q
+end_of (Err n) = 0
 
 -- whether a binding of the name was read
 unfoldable pub is_named : ℕ → Read.Read Binding → Bool
@@ -82,19 +75,19 @@ unfoldable pub named_at : List ℕ → ℕ → ℕ → Bool
 named_at f p x = is_named x (read_at f Read.binding p)
 
 -- where the tables lead for a name, if a binding of the name stands there
-unfoldable pub made_place : List ℕ → ℕ → ℕ → Found
+unfoldable pub made_place : List ℕ → ℕ → ℕ → Option ℕ
 made_place work count x =
     let n = word_in work (number_at x) in
     let p = word_in work (place_at n) in
     elim (ltb n count) [
-      | true ↦ elim (named_at work p x) [ true ↦ Fo.Just p | false ↦ Fo.Nothing ]
-      | false ↦ Fo.Nothing
+      | true ↦ elim (named_at work p x) [ true ↦ Some p | false ↦ None ]
+      | false ↦ None
     ]
 
 -- the slot of the binding at a place: it follows the name's two bytes
-unfoldable pub view_at : List ℕ → Found → MaybeSlotView
-view_at f Fo.Nothing = Ms.Nothing
-view_at f (Fo.Just p) = Ms.Just (slot_view f (p + 2))
+unfoldable pub view_at : List ℕ → Option ℕ → Option SlotView
+view_at f None = None
+view_at f (Some p) = Some (slot_view f (p + 2))
 
 -- a binding is read at p
 pub record Readable (f : List ℕ) (p : ℕ) : Type 0 where
@@ -102,18 +95,18 @@ pub record Readable (f : List ℕ) (p : ℕ) : Type 0 where
   pub rest : List ℕ
   pub reads : read_at f Read.binding p ≡ got value rest
 
-abbrev pub FoundReads : List ℕ → Found → Type 0
-FoundReads f Fo.Nothing = Unit {0}
-FoundReads f (Fo.Just p) = Readable f p
+abbrev pub FoundReads : List ℕ → Option ℕ → Type 0
+FoundReads f None = Unit {0}
+FoundReads f (Some p) = Readable f p
 
 -- a place is that of the slot o, or there is none
-pub record SeenAt (f : List ℕ) (o : Option Slot) (r : Found) : Type 0 where
+pub record SeenAt (f : List ℕ) (o : Option Slot) (r : Option ℕ) : Type 0 where
   pub is : slot_at f r ≡ o
   pub reads : FoundReads f r
 
 -- a view is the slot o
 pub record SeenView (f : List ℕ) (o : Option Slot) (v : SlotView) : Type 0 where
-  pub is : some (slot_viewed f v) ≡ o
+  pub is : Some (slot_viewed f v) ≡ o
   pub inside : SlotInside f v
 
 -- a slot's numbers are the tables', and its path has room

@@ -3,9 +3,7 @@
 // any more. Two tables past the lists tell where a name was bound.
 #![tactic(auto)]
 
-ghost use Rattle.std.specs.Prelude.{◌≡◌, true, false, List, ◌∷◌, ◌++◌, ℕ, ◌+◌, ◌*◌, ◌≤◌, ◌<◌, ltb, leb, length, get_or};
-ghost use Rattle.std.proofs.Math.Option;
-ghost use Rattle.std.proofs.Math.Option.{some};
+ghost use Rattle.std.specs.Prelude.{◌≡◌, true, false, List, ◌∷◌, ◌++◌, ℕ, ◌+◌, ◌*◌, ◌≤◌, ◌<◌, ltb, leb, length, get_or, Some, unwrap_or};
 ghost use Rattle.rules.specs.Base.{both};
 ghost use Rattle.rules.specs.Limits.{depth_limit};
 ghost use Rattle.rules.specs.File.{depth};
@@ -32,9 +30,8 @@ ghost use Rattle.lists.specs.Lists.{slot_from, made_place, view_at, Readable, Se
 use file::{DEPTH_LIMIT, DEPTHS, wide, wide16, word_at};
 use paths::{Address, FieldPath, PredicateId};
 use records::{path_size, put_path, put8, put16, put32, wide32, word_in};
-use slots::{MaybeSlot, Slot, SlotKind, just, nothing};
-use tables::{Found, MaybeSlotView};
-use views::{MaybePredicate, SlotView, count_of, path_at};
+use slots::{Slot, SlotKind};
+use views::{SlotView, count_of, path_at};
 
 // How far each list has come in the work area: where one that grows up ends, where the newest record of one that grows down begins; and how
 // many records the two have whose records differ in length.
@@ -186,12 +183,12 @@ pub fn select(work: &mut [u8], l: Lists, address: Address, path: FieldPath, disc
 }
 
 // A predicate's number, or FFFF for none.
-fn predicate_number(p: MaybePredicate) -> usize
-    ensures { result ≡ Option.get_or (predicate_option p) 65535 }
+fn predicate_number(p: Option<PredicateId>) -> usize
+    ensures { result ≡ unwrap_or (predicate_option p) 65535 }
 {
     match p {
-        MaybePredicate::Nothing => 65535,
-        MaybePredicate::Just(id) => wide16(id.0),
+        None => 65535,
+        Some(id) => wide16(id.0),
     }
 }
 
@@ -200,12 +197,9 @@ fn slot_size(slot: Slot) -> usize
 {
     let kind = slot.kind;
     match kind {
-        SlotKind::Row(_, _) => 5,
-        SlotKind::Key(_, _) => 5,
-        SlotKind::Derived(_) => 3,
+        SlotKind::Row(_, _) | SlotKind::Key(_, _) | SlotKind::Value(_, _) => 5,
+        SlotKind::Derived(_) | SlotKind::Const(_) => 3,
         SlotKind::Field(_, _) => 5 + path_size(slot.path),
-        SlotKind::Value(_, _) => 5,
-        SlotKind::Const(_) => 3,
     }
 }
 
@@ -294,13 +288,10 @@ pub fn bind(work: &mut [u8], l: Lists, name: usize, slot: Slot) -> Lists
 fn plain_size(k: usize) -> usize
     ensures { result ≡ get_or plain_sizes k 4 }
 {
-    if k == 2 {
-        return 2;
+    match k {
+        2 | 5 => 2,
+        _ => 4,
     }
-    if k == 5 {
-        return 2;
-    }
-    4
 }
 
 fn field_end(bytes: &[u8], p: usize) -> usize
@@ -348,27 +339,24 @@ fn named_at(bytes: &[u8], p: usize, name: usize) -> bool
     if bytes.len() < p {
         return false;
     }
-    if end_at(bytes, p) == 0 {
-        return false;
-    }
-    word_at(bytes, p) == name
+    end_at(bytes, p) != 0 && word_at(bytes, p) == name
 }
 
 // Where the record of a name's binding begins, if the walks have bound the name: as the tables have it.
-fn made_place(work: &[u8], count: usize, name: usize) -> Found
+fn made_place(work: &[u8], count: usize, name: usize) -> Option<usize>
     ensures shows { let bytes = work.now in
         SeenAt bytes (made_slot bytes count name) result }
     ensures place { result ≡ made_place work.now count name }
 {
     let n = word_in(work, NAMES + 2 * (name % NAME_LIMIT));
     if n >= count {
-        return Found::Nothing;
+        return None;
     }
     let p = word_in(work, PLACES + 2 * n);
     if named_at(work, p, name) {
-        return Found::Just(p);
+        return Some(p);
     }
-    Found::Nothing
+    None
 }
 
 fn register_at(bytes: &[u8], p: usize) -> Address
@@ -378,15 +366,15 @@ fn register_at(bytes: &[u8], p: usize) -> Address
     Address(word_at(bytes, p) as u16)
 }
 
-fn predicate_from(bytes: &[u8], p: usize) -> MaybePredicate
+fn predicate_from(bytes: &[u8], p: usize) -> Option<PredicateId>
     requires { p + 2 ≤ length bytes.now }
     ensures { result ≡ predicate_maybe (word bytes.now p) }
 {
     let n = word_at(bytes, p);
     if n == 65535 {
-        MaybePredicate::Nothing
+        None
     } else {
-        MaybePredicate::Just(PredicateId(n as u16))
+        Some(PredicateId(n as u16))
     }
 }
 
@@ -417,15 +405,15 @@ fn slot_at(bytes: &[u8], at: usize) -> SlotView
 }
 
 // The slot that the walks have bound a name to.
-fn made_slot(work: &[u8], count: usize, name: usize) -> MaybeSlotView
+fn made_slot(work: &[u8], count: usize, name: usize) -> Option<SlotView>
     ensures shows { let bytes = work.now in
         SeenSlot bytes (made_slot bytes count name) result }
     ensures view { result ≡ view_at work.now (made_place work.now count name) }
 {
-    if let Found::Just(p) = made_place(work, count, name) {
-        MaybeSlotView::Just(slot_at(work, p))
+    if let Some(p) = made_place(work, count, name) {
+        Some(slot_at(work, p))
     } else {
-        MaybeSlotView::Nothing
+        None
     }
 }
 
@@ -435,19 +423,16 @@ fn numbered(file: &[u8], index: &[u16], s: usize, n: usize) -> bool
     requires s_bound { s < 10 }
     ensures { result ≡ ltb n (size_of (tables_of file.now) s) }
 {
-    if n < count_of(file, index, s) {
-        return true;
-    }
-    false
+    n < count_of(file, index, s)
 }
 
-fn predicate_in(file: &[u8], index: &[u16], p: MaybePredicate) -> bool
+fn predicate_in(file: &[u8], index: &[u16], p: Option<PredicateId>) -> bool
     requires { AcceptedFile file.now index.now }
     ensures { result ≡ none_or (is_predicate (tables_of file.now)) (predicate_option p) }
 {
     match p {
-        MaybePredicate::Nothing => true,
-        MaybePredicate::Just(id) => numbered(file, index, 2, wide16(id.0)),
+        None => true,
+        Some(id) => numbered(file, index, 2, wide16(id.0)),
     }
 }
 
@@ -459,14 +444,7 @@ fn path_fits(file: &[u8], index: &[u16], bytes: &[u8], at: usize, t: usize) -> b
         let steps = (path_at bytes.now at).steps in
         result ≡ both (is_type T t) (leb (length steps + depth T t) depth_limit) }
 {
-    if !numbered(file, index, 1, t) {
-        return false;
-    }
-    let n = wide(bytes[at + 2]);
-    if n + wide16(index[DEPTHS + t]) <= DEPTH_LIMIT {
-        return true;
-    }
-    false
+    numbered(file, index, 1, t) && wide(bytes[at + 2]) + wide16(index[DEPTHS + t]) <= DEPTH_LIMIT
 }
 
 // Whether a slot's numbers are the file's, and its path has room.
@@ -478,10 +456,8 @@ fn slot_fits(file: &[u8], index: &[u16], bytes: &[u8], v: SlotView) -> bool
     match v {
         SlotView::Row(_, p) => predicate_in(file, index, p),
         SlotView::Key(_, t) => numbered(file, index, 1, t),
-        SlotView::Derived(_) => true,
         SlotView::Field(_, at, t) => path_fits(file, index, bytes, at, t),
-        SlotView::Value(_, _) => true,
-        SlotView::Const(_) => true,
+        SlotView::Derived(_) | SlotView::Value(_, _) | SlotView::Const(_) => true,
     }
 }
 
@@ -502,34 +478,34 @@ fn slot_of(bytes: &[u8], v: SlotView) -> Slot
 }
 
 // The slot of a view, if it fits.
-fn fitted(file: &[u8], index: &[u16], bytes: &[u8], v: SlotView) -> MaybeSlot
+fn fitted(file: &[u8], index: &[u16], bytes: &[u8], v: SlotView) -> Option<Slot>
     requires accepted_file { AcceptedFile file.now index.now }
     requires slot_inside { SlotInside bytes.now v }
     ensures { let T = tables_of file.now in
-        IsSlot (checked_slot T (some (Views.slot_viewed bytes.now v))) result }
+        IsSlot (checked_slot T (Some (Views.slot_viewed bytes.now v))) result }
 {
     if slot_fits(file, index, bytes, v) {
-        just(slot_of(bytes, v))
+        Some(slot_of(bytes, v))
     } else {
-        nothing()
+        None
     }
 }
 
 // The file's own slot of a name.
-fn own_slot(file: &[u8], index: &[u16], name: usize) -> MaybeSlot
+fn own_slot(file: &[u8], index: &[u16], name: usize) -> Option<Slot>
     requires { AcceptedFile file.now index.now }
     ensures { let T = tables_of file.now in
         IsSlot (checked_slot T (Constant.lookup T.bindings name)) result }
 {
-    if let MaybeSlotView::Just(v) = tables::lookup(file, index, name) {
+    if let Some(v) = tables::lookup(file, index, name) {
         fitted(file, index, file, v)
     } else {
-        nothing()
+        None
     }
 }
 
 // The slot of a name: the one that the walks have bound it to, else the file's own.
-pub fn lookup(file: &[u8], index: &[u16], work: &[u8], l: Lists, name: usize) -> MaybeSlot
+pub fn lookup(file: &[u8], index: &[u16], work: &[u8], l: Lists, name: usize) -> Option<Slot>
     requires { AcceptedFile file.now index.now }
     ensures { (lv : Level) (tg : Target) (p : List ℕ) → (
         let T = tables_of file.now in
@@ -539,7 +515,7 @@ pub fn lookup(file: &[u8], index: &[u16], work: &[u8], l: Lists, name: usize) ->
 {
     let ends = l.ends;
     let count = wide32(ends.binding_count);
-    if let MaybeSlotView::Just(v) = made_slot(work, count, name) {
+    if let Some(v) = made_slot(work, count, name) {
         fitted(file, index, work, v)
     } else {
         own_slot(file, index, name)

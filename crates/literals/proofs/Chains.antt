@@ -4,7 +4,8 @@ use mathlib.Core.Path.{◌≡◌, refl, sym, ap, ◌∙◌, subst}
 use mathlib.Core.Bool.{Bool, true, false}
 use mathlib.Core.List.{List, [], ◌∷◌, ◌++◌}
 use mathlib.Core.Logic.{⊎_elim}
-use mathlib.Core.Option.{Option, none, some}
+use Rattle.std.proofs.lemmas.Option.{some_pair_parts}
+use Rattle.std.specs.Prelude.{Option, None, Some}
 use native.Mathlib.Omega.{arith}
 use native.Mathlib.Numerals.{add-one}
 use lib.ListN.{length, get_or, take, get_or-eq_default}
@@ -26,21 +27,19 @@ use Rattle.resolve.specs.Resolved.{base_of}
 use Rattle.resolve.specs.Chains.{read_of, passing, chain, ending, bottom}
 use Rattle.resolve.specs.declared.Chain.{Chain}
 use Rattle.resolve.specs.declared.Read.{Read}
-use Rattle.resolve.specs.declared.Base.{Base}
-use Rattle.resolve.specs.declared.Base.TheVariants as Bs
 use Rattle.resolve.proofs.Steps.{Lower, constants-length}
 use Rattle.resolve.proofs.Chains.{bottom-stops, chain-kept}
 use Rattle.literals.specs.Chains.{leaf_const, up_by, const_up, climb_const}
 
-nothing-after : (o : Option ℕ) → ◌≡◌ {A = Option ℕ} (o when_some λ c. none) none
+nothing-after : (o : Option ℕ) → ◌≡◌ {A = Option ℕ} (o when_some λ c. None) None
 unfolding ◌when_some◌
-nothing-after none = refl
-nothing-after (some c) = refl
+nothing-after None = refl
+nothing-after (Some c) = refl
 
 -- `folded` by one step: a base is lower than its access, so the bound on the depth is never met.
 module _ (T : Tables) where
   abbrev step_of : Bool → (ℕ → Option ℕ) → ℕ → Node → Option ℕ
-  step_of constant below n node = elim constant [ true ↦ some n | false ↦ folded_node T below n node ]
+  step_of constant below n node = elim constant [ true ↦ Some n | false ↦ folded_node T below n node ]
 
   abbrev step : (ℕ → Option ℕ) → ℕ → Option ℕ
   step below n = step_of (is_constant T n) below n (node_at T n)
@@ -65,7 +64,7 @@ module _ (T : Tables) where
   node-same f g n Node.Arith h = refl
   node-same f g n Node.Error h = refl
 
-  past : (n : ℕ) → length T.nodes ≤ n → (f : ℕ → Option ℕ) → step f n ≡ none
+  past : (n : ℕ) → length T.nodes ≤ n → (f : ℕ → Option ℕ) → step f n ≡ None
   unfolding is_constant node_at folded_node
   past n h f =
       let g : length (constants T) ≤ n = omega (arith, constants-length T) in
@@ -73,7 +72,7 @@ module _ (T : Tables) where
       let e : node_at T n ≡ Node.Error = get_or-eq_default T.nodes Node.Error h in
       ap (λ (b : Bool). step_of b f n (node_at T n)) c ∙ ap (folded_node T f n) e
 
-  past-below : (l n : ℕ) → length T.nodes ≤ n → folded_below T l n ≡ none
+  past-below : (l n : ℕ) → length T.nodes ≤ n → folded_below T l n ≡ None
   unfolding folded_below
   past-below zero n h = refl
   past-below (suc l) n h = past n h (folded_below T l)
@@ -94,7 +93,7 @@ module _ (T : Tables) where
         (λ h. past-below (length T.nodes) n h ∙ sym (past n h (folded T))) (lt-or-le n (length T.nodes))
 
     -- a node that reads of no other is a leaf; one that reads of another goes up from it
-    leaf-same : (node : Node) (n : ℕ) (f : ℕ → Option ℕ) → base_of node ≡ Bs.Nothing → folded_node T f n node ≡ folded_node T (λ base. none) n node
+    leaf-same : (node : Node) (n : ℕ) (f : ℕ → Option ℕ) → base_of node ≡ None → folded_node T f n node ≡ folded_node T (λ base. None) n node
     unfolding base_of folded_node
     leaf-same (Node.Int bytes) n f e = refl
     leaf-same (Node.Str x) n f e = refl
@@ -114,19 +113,19 @@ module _ (T : Tables) where
     leaf-same Node.Arith n f e = refl
     leaf-same Node.Error n f e = refl
 
-    leaf-is : (n : ℕ) → read_of T n ≡ Bs.Nothing → folded T n ≡ leaf_const T n
+    leaf-is : (n : ℕ) → read_of T n ≡ None → folded T n ≡ leaf_const T n
     unfolding read_of leaf_const
     leaf-is n e =
         folded-step n
         ∙ by-test₂ (λ (a b : Option ℕ). a ≡ b) (is_constant T n) (λ c. refl)
-        (λ c. leaf-same (node_at T n) n (folded T) (sym (ap (λ (b : Bool). elim b [ true ↦ Bs.Nothing | false ↦ base_of (node_at T n) ]) c) ∙ e))
+        (λ c. leaf-same (node_at T n) n (folded T) (sym (ap (λ (b : Bool). elim b [ true ↦ None | false ↦ base_of (node_at T n) ]) c) ∙ e))
 
     -- and so is one for which the nodes below it do not count
-    pub other-is : (n : ℕ) → ((f : ℕ → Option ℕ) → folded_node T (λ base. none) n (node_at T n) ≡ folded_node T f n (node_at T n)) → leaf_const T n ≡ folded T n
+    pub other-is : (n : ℕ) → ((f : ℕ → Option ℕ) → folded_node T (λ base. None) n (node_at T n) ≡ folded_node T f n (node_at T n)) → leaf_const T n ≡ folded T n
     unfolding leaf_const
     other-is n h = by-test₂ (λ (a b : Option ℕ). a ≡ b) (is_constant T n) (λ c. refl) (λ c. h (folded T)) ∙ sym (folded-step n)
 
-    up_same : (node : Node) (n : ℕ) (f : ℕ → Option ℕ) (read : Read) (b : ℕ) → base_of node ≡ Bs.Just read b → (f b when_some λ c. up_by T c node) ≡ folded_node T f n node
+    up_same : (node : Node) (n : ℕ) (f : ℕ → Option ℕ) (read : Read) (b : ℕ) → base_of node ≡ Some (read, b) → (f b when_some λ c. up_by T c node) ≡ folded_node T f n node
     unfolding base_of up_by folded_node
     up_same (Node.Int bytes) n f read b e = absurd (let z : ◌≡◌ {A = ℕ} 0 1 = cc in omega arith)
     up_same (Node.Str x) n f read b e = absurd (let z : ◌≡◌ {A = ℕ} 0 1 = cc in omega arith)
@@ -137,7 +136,7 @@ module _ (T : Tables) where
     up_same (Node.Prefix x) n f read b e = absurd (let z : ◌≡◌ {A = ℕ} 0 1 = cc in omega arith)
     up_same (Node.Fuzzy x d a) n f read b e = absurd (let z : ◌≡◌ {A = ℕ} 0 1 = cc in omega arith)
     up_same (Node.Record fs) n f read b e = absurd (let z : ◌≡◌ {A = ℕ} 0 1 = cc in omega arith)
-    up_same (Node.Access x base) n f read b e = let q : base ≡ b = cc in ap (λ (y : ℕ). f y when_some λ c. folded_field T c x) (sym q)
+    up_same (Node.Access x base) n f read b e = ap (λ (y : ℕ). f y when_some λ c. folded_field T c x) (sym (some_pair_parts _ _ _ _ e).1)
     up_same (Node.Value base) n f read b e = nothing-after (f b)
     up_same (Node.Select x base) n f read b e = nothing-after (f b)
     up_same Node.Disjunction n f read b e = absurd (let z : ◌≡◌ {A = ℕ} 0 1 = cc in omega arith)
@@ -146,13 +145,13 @@ module _ (T : Tables) where
     up_same Node.Arith n f read b e = absurd (let z : ◌≡◌ {A = ℕ} 0 1 = cc in omega arith)
     up_same Node.Error n f read b e = absurd (let z : ◌≡◌ {A = ℕ} 0 1 = cc in omega arith)
 
-    reader : (n : ℕ) (read : Read) (b : ℕ) → read_of T n ≡ Bs.Just read b → (is_constant T n ≡ false) × (base_of (node_at T n) ≡ Bs.Just read b)
+    reader : (n : ℕ) (read : Read) (b : ℕ) → read_of T n ≡ Some (read, b) → (is_constant T n ≡ false) × (base_of (node_at T n) ≡ Some (read, b))
     unfolding read_of
     reader n read b =
-        by-test (λ (x : Base). x ≡ Bs.Just read b → (is_constant T n ≡ false) × (base_of (node_at T n) ≡ Bs.Just read b)) (is_constant T n)
+        by-test (λ (x : Option (Read × ℕ)). x ≡ Some (read, b) → (is_constant T n ≡ false) × (base_of (node_at T n) ≡ Some (read, b))) (is_constant T n)
         (λ e g. absurd (let z : ◌≡◌ {A = ℕ} 0 1 = cc in omega arith)) (λ e g. (e, g))
 
-    up_is : (n : ℕ) (read : Read) (b : ℕ) → read_of T n ≡ Bs.Just read b → (folded T b when_some const_up T n) ≡ folded T n
+    up_is : (n : ℕ) (read : Read) (b : ℕ) → read_of T n ≡ Some (read, b) → (folded T b when_some const_up T n) ≡ folded T n
     unfolding const_up
     up_is n read b e =
         let r = reader n read b e in
@@ -163,16 +162,16 @@ module _ (T : Tables) where
     climb-all zero n = refl
     climb-all (suc m) n = go (climb-all m) (read_of T n) refl
       where
-        go : ((b : ℕ) → climb_const T (chain T m b) (folded T (bottom T m b)) ≡ folded T b) → (x : Base) → read_of T n ≡ x → climb_const T (passing n (chain T m) x) (folded T (ending n (bottom T m) x)) ≡ folded T n
-        go rec Bs.Nothing e = refl
-        go rec (Bs.Just read b) e = ap (λ (o : Option ℕ). o when_some const_up T n) (rec b) ∙ up_is n read b e
+        go : ((b : ℕ) → climb_const T (chain T m b) (folded T (bottom T m b)) ≡ folded T b) → (x : Option (Read × ℕ)) → read_of T n ≡ x → climb_const T (passing n (chain T m) x) (folded T (ending n (bottom T m) x)) ≡ folded T n
+        go rec None e = refl
+        go rec (Some (read, b)) e = ap (λ (o : Option ℕ). o when_some const_up T n) (rec b) ∙ up_is n read b e
 
     -- down and up again
     module _ (before : List ℕ) (node : ℕ) {trail : List ℕ} {c : Chain} (d : (c ≡ record { passed = length (chain T (length before) node); node = bottom T (length before) node }) × (trail ≡ sets before 0 (chain T (length before) node)))
         (h : length (chain T (length before) node) < length before) where
-      pub chain-is : (end r : Option ℕ) → end ≡ leaf_const T c.node → r ≡ climb_const T (take c.passed trail) end → r ≡ folded T node
-      chain-is end r e q =
-          q ∙ ap (climb_const T (take c.passed trail)) (e ∙ sym (leaf-is c.node (ap (λ (c : Chain). read_of T c.node) d.0 ∙ bottom-stops T (length before) node h)))
+      pub chain-is : {r : Option ℕ} → r ≡ climb_const T (take c.passed trail) (leaf_const T c.node) → r ≡ folded T node
+      chain-is q =
+          q ∙ ap (climb_const T (take c.passed trail)) (sym (leaf-is c.node (ap (λ (c : Chain). read_of T c.node) d.0 ∙ bottom-stops T (length before) node h)))
           ∙ ap (λ (c : Chain). climb_const T (take c.passed trail) (folded T c.node)) d.0
           ∙ ap (λ (ns : List ℕ). climb_const T ns (folded T (bottom T (length before) node))) (chain-kept T before trail node d.1 (omega arith))
           ∙ climb-all (length before) node
@@ -183,7 +182,7 @@ module _ (T : Tables) where
   climb-last [] n end = refl
   climb-last (m ∷ ms) n end = ap (λ (o : Option ℕ). o when_some const_up T m) (climb-last ms n end)
 
-  climb-none : (ns : List ℕ) → climb_const T ns none ≡ none
+  climb-none : (ns : List ℕ) → climb_const T ns None ≡ None
   unfolding climb_const ◌when_some◌
   climb-none [] = refl
   climb-none (n ∷ ns) = ap (λ (o : Option ℕ). o when_some const_up T n) (climb-none ns)
@@ -196,7 +195,7 @@ module _ (T : Tables) where
   up_first trail passed end = record { is = refl; within = omega arith }
 
   module _ {trail : List ℕ} {passed : ℕ} {end below : Option ℕ} {k : ℕ} (u : Up trail passed end below k) where
-    pub up_more : {j n c : ℕ} {r : Option ℕ} → k ≡ j + 1 → j < length trail → n ≡ get_or trail j 0 → below ≡ some c → r ≡ const_up T n c → Up trail passed end r j
+    pub up_more : {j n c : ℕ} {r : Option ℕ} → k ≡ j + 1 → j < length trail → n ≡ get_or trail j 0 → below ≡ Some c → r ≡ const_up T n c → Up trail passed end r j
     unfolding ◌when_some◌
     up_more {j} {n} {c} {r} e h g b q =
         record {
@@ -206,7 +205,7 @@ module _ (T : Tables) where
           within = omega (arith, u.within);
         }
 
-    pub up_none : below ≡ none → none ≡ climb_const T (take passed trail) end
+    pub up_none : below ≡ None → None ≡ climb_const T (take passed trail) end
     up_none b = sym (u.is ∙ ap (climb_const T (take k trail)) b ∙ climb-none (take k trail))
 
     pub up-end : k ≡ 0 → below ≡ climb_const T (take passed trail) end
@@ -214,21 +213,21 @@ module _ (T : Tables) where
     up-end e = sym (u.is ∙ ap (λ (k : ℕ). climb_const T (take k trail) below) e)
 
   -- a leaf: a constant, or by its form
-  pub leaf-constant : (n : ℕ) → is_constant T n ≡ true → some n ≡ leaf_const T n
+  pub leaf-constant : (n : ℕ) → is_constant T n ≡ true → Some n ≡ leaf_const T n
   unfolding leaf_const
-  leaf-constant n e = ap (λ (b : Bool). step_of b (λ base. none) n (node_at T n)) (sym e)
+  leaf-constant n e = ap (λ (b : Bool). step_of b (λ base. None) n (node_at T n)) (sym e)
 
-  pub leaf-other : (n : ℕ) → is_constant T n ≡ false → (r : Option ℕ) (node : Node) → node ≡ node_at T n → r ≡ folded_node T (λ base. none) n node → r ≡ leaf_const T n
+  pub leaf-other : (n : ℕ) → is_constant T n ≡ false → (r : Option ℕ) (node : Node) → node ≡ node_at T n → r ≡ folded_node T (λ base. None) n node → r ≡ leaf_const T n
   unfolding leaf_const
-  leaf-other n e r node q g = g ∙ ap (folded_node T (λ base. none) n) q ∙ ap (λ (b : Bool). step_of b (λ base. none) n (node_at T n)) (sym e)
+  leaf-other n e r node q g = g ∙ ap (folded_node T (λ base. None) n) q ∙ ap (λ (b : Bool). step_of b (λ base. None) n (node_at T n)) (sym e)
 
   -- What a pattern stands for is a constant.
   module _ (k : Passed T) where
-    bound-constant : (x c : ℕ) → const_bound T.bindings x ≡ some c → is_constant T c ≡ true
+    bound-constant : (x c : ℕ) → const_bound T.bindings x ≡ Some c → is_constant T c ≡ true
     unfolding const_node
     bound-constant x c e = let r = bind-some (lookup T.bindings x) const_node c e in go r.0 (lookup-const T k x r.0 r.1) r.2
       where
-        go : (s : Slot) → ConstOk T s → const_node s ≡ some c → is_constant T c ≡ true
+        go : (s : Slot) → ConstOk T s → const_node s ≡ Some c → is_constant T c ≡ true
         go (Slot.Row a p) o q = absurd (some≢none c (sym q))
         go (Slot.Key a t) o q = absurd (some≢none c (sym q))
         go (Slot.Derived a) o q = absurd (some≢none c (sym q))
@@ -236,14 +235,14 @@ module _ (T : Tables) where
         go (Slot.Value a t) o q = absurd (some≢none c (sym q))
         go (Slot.Const m) o q = subst (λ (y : ℕ). is_constant T y ≡ true) (some-injective m c q) o.1
 
-    pub pattern-constant : (n : ℕ) (fields : List FieldPattern) (x c : ℕ) → is_constant T n ≡ true → record_fields (node_at T n) ≡ some fields → field_pattern fields x ≡ some c → is_constant T c ≡ true
+    pub pattern-constant : (n : ℕ) (fields : List FieldPattern) (x c : ℕ) → is_constant T n ≡ true → record_fields (node_at T n) ≡ Some fields → field_pattern fields x ≡ Some c → is_constant T c ≡ true
     unfolding field_pattern
     pattern-constant n fields x c h e q =
         let r = bind-some (first (λ f. eqb f.name x) fields) _ c q in
         subst (λ (y : ℕ). is_constant T y ≡ true) (some-injective _ c r.2)
         (each_first _ (record-constant T k n fields (constant-in T n h) (record-node (node_at T n) fields e) h) r.0 r.1)
 
-    constant-node : (below : ℕ → Option ℕ) → ((m c : ℕ) → below m ≡ some c → is_constant T c ≡ true) → (n : ℕ) (node : Node) (c : ℕ) → folded_node T below n node ≡ some c → is_constant T c ≡ true
+    constant-node : (below : ℕ → Option ℕ) → ((m c : ℕ) → below m ≡ Some c → is_constant T c ≡ true) → (n : ℕ) (node : Node) (c : ℕ) → folded_node T below n node ≡ Some c → is_constant T c ≡ true
     unfolding folded_node hoisted_const folded_field
     constant-node below B n (Node.Int bytes) c e = absurd (some≢none c (sym e))
     constant-node below B n (Node.Str x) c e = absurd (some≢none c (sym e))
@@ -268,14 +267,14 @@ module _ (T : Tables) where
     constant-node below B n Node.Arith c e = absurd (some≢none c (sym e))
     constant-node below B n Node.Error c e = absurd (some≢none c (sym e))
 
-    constant-below : (limit n c : ℕ) → folded_below T limit n ≡ some c → is_constant T c ≡ true
+    constant-below : (limit n c : ℕ) → folded_below T limit n ≡ Some c → is_constant T c ≡ true
     unfolding folded_below
     constant-below zero n c e = absurd (some≢none c (sym e))
     constant-below (suc limit) n c r =
-        by-test (λ (o : Option ℕ). o ≡ some c → is_constant T c ≡ true) (is_constant T n)
+        by-test (λ (o : Option ℕ). o ≡ Some c → is_constant T c ≡ true) (is_constant T n)
         (λ q e. subst (λ (y : ℕ). is_constant T y ≡ true) (some-injective n c e) q)
         (λ q e. constant-node (folded_below T limit) (constant-below limit) n (node_at T n) c e) r
 
-    pub folded-is-constant : (n c : ℕ) → folded T n ≡ some c → is_constant T c ≡ true
+    pub folded-is-constant : (n c : ℕ) → folded T n ≡ Some c → is_constant T c ≡ true
     unfolding folded
     folded-is-constant n c e = constant-below (length T.nodes) n c e

@@ -1,13 +1,14 @@
 -- Whether a file has a constant: the nodes in turn, and that without one nothing is met anywhere.
-use Prim.Native.Nat.{ℕ, zero, suc, ◌+◌, ◌≤◌, ◌<◌}
+use Prim.Native.Nat.{ℕ, zero, suc, ◌+◌, ◌-◌}
 use mathlib.Core.Path.{◌≡◌, refl, sym, ap, ◌∙◌}
 use mathlib.Core.Bool.{Bool, true, false}
 use mathlib.Core.List.{List, [], ◌∷◌}
-use mathlib.Core.Option.{Option, none, some}
 use native.Mathlib.Omega.{arith}
 use native.Mathlib.Numerals.{add-one}
 use lib.ListN.{length, get_or, drop, length-drop}
 use lib.Seq.{drop-cons}
+use Rattle.std.specs.Prelude.{◌||◌, Option, None, Some}
+use Rattle.std.specs.List.{list_any, range_with_len}
 use Rattle.rules.specs.Base.{either}
 use Rattle.rules.specs.File.{Tables, FieldTy, FieldPattern, Alternative, Ty, LevelEntry, type_at, node_at, predicate_at, constants, is_constant, record_fields, record_ty}
 use Rattle.rules.specs.Constant.{field_pattern, alternative_of, only_field}
@@ -16,33 +17,21 @@ use Rattle.rules.proofs.Sound.{Passed}
 use Rattle.resolve.proofs.Steps.{constants-length}
 use Rattle.literals.specs.Constants.{any_of, has_constant}
 use Rattle.literals.proofs.Chains.{folded-is-constant}
-use Rattle.literals.proofs.Going.{none_left}
+use Rattle.literals.proofs.Going.{none_left, or-either}
 
--- none of the first k nodes is constant
-pub record Seeking (T : Tables) (k : ℕ) : Type 0 where
-  pub is : has_constant T ≡ any_of (drop k (constants T))
-
+-- the nodes in turn, as an iterator's `any` has them
 module _ (T : Tables) where
-  pub seeking-first : Seeking T 0
+  any-from : (n i : ℕ) → length T.nodes ≡ i + n → list_any (is_constant T) (range_with_len i n) ≡ any_of (drop i (constants T))
+  unfolding any_of is_constant
+  any-from zero i e = sym (ap any_of (none_left (drop i (constants T)) (omega (arith, length-drop i (constants T), constants-length T))))
+  any-from (suc n) i e =
+      ap (λ (b : Bool). is_constant T i || b) (ap (λ (j : ℕ). list_any (is_constant T) (range_with_len j n)) (add-one i) ∙ any-from n (suc i) (omega arith))
+      ∙ or-either (is_constant T i) (any_of (drop (suc i) (constants T)))
+      ∙ sym (ap any_of (drop-cons (constants T) i false (omega (arith, constants-length T))))
+
+  pub any-constant : (n : ℕ) → n ≡ length T.nodes → list_any (is_constant T) (range_with_len 0 (n - 0)) ≡ has_constant T
   unfolding has_constant
-  seeking-first = record { is = refl }
-
-  module _ (k : ℕ) (v : Seeking T k) where
-    next : k < length T.nodes → has_constant T ≡ either (is_constant T k) (any_of (drop (k + 1) (constants T)))
-    unfolding any_of is_constant
-    next h =
-        v.is ∙ ap any_of (drop-cons (constants T) k false (omega (arith, constants-length T)))
-        ∙ ap (λ (j : ℕ). either (is_constant T k) (any_of (drop j (constants T)))) (sym (add-one k))
-
-    pub seeking-more : k < length T.nodes → false ≡ is_constant T k → Seeking T (k + 1)
-    seeking-more h e = record { is = next h ∙ ap (λ (b : Bool). either b (any_of (drop (k + 1) (constants T)))) (sym e) }
-
-    pub seeking-found : k < length T.nodes → true ≡ is_constant T k → true ≡ has_constant T
-    seeking-found h e = sym (next h ∙ ap (λ (b : Bool). either b (any_of (drop (k + 1) (constants T)))) (sym e))
-
-    pub seeking-end : length T.nodes ≤ k → false ≡ has_constant T
-    unfolding any_of
-    seeking-end h = sym (v.is ∙ ap any_of (none_left (drop k (constants T)) (omega (arith, length-drop k (constants T), constants-length T))))
+  any-constant n e = any-from (n - 0) 0 (omega arith)
 
 none_of : (l : List Bool) → any_of l ≡ false → (n : ℕ) → get_or l n false ≡ false
 unfolding any_of
@@ -56,9 +45,9 @@ unfolding any_field
 any_none below h fields [] = refl
 any_none below h fields (f ∷ fs) = go (field_pattern fields f.name) ∙ any_none below h fields fs
   where
-    go : (o : Option ℕ) → either (elim o [ none ↦ false | some pattern ↦ below pattern f.type ]) (any_field below fields fs) ≡ any_field below fields fs
-    go none = refl
-    go (some p) = ap (λ (b : Bool). either b (any_field below fields fs)) (h p f.type)
+    go : (o : Option ℕ) → either (elim o [ None ↦ false | Some pattern ↦ below pattern f.type ]) (any_field below fields fs) ≡ any_field below fields fs
+    go None = refl
+    go (Some p) = ap (λ (b : Bool). either b (any_field below fields fs)) (h p f.type)
 
 -- Without a constant nothing is met.
 module _ (T : Tables) (k : Passed T) (without : has_constant T ≡ false) where
@@ -66,25 +55,25 @@ module _ (T : Tables) (k : Passed T) (without : has_constant T ≡ false) where
   unfolding has_constant is_constant
   no-constant n = none_of (constants T) without n
 
-  folded-none : (n : ℕ) → folded T n ≡ none
+  folded-none : (n : ℕ) → folded T n ≡ None
   folded-none n = go (folded T n) refl
     where
-      go : (o : Option ℕ) → folded T n ≡ o → o ≡ none
-      go none e = refl
-      go (some c) e = absurd (let z : ◌≡◌ {A = ℕ} 0 1 = cc (folded-is-constant T k n c e, no-constant c) in omega arith)
+      go : (o : Option ℕ) → folded T n ≡ o → o ≡ None
+      go None e = refl
+      go (Some c) e = absurd (let z : ◌≡◌ {A = ℕ} 0 1 = cc (folded-is-constant T k n c e, no-constant c) in omega arith)
 
   module _ (below : ℕ → ℕ → Bool) (h : (n t : ℕ) → below n t ≡ false) where
     payload-none : (fields : List FieldPattern) (alts : List Alternative) → payload_meets T below fields alts ≡ false
     unfolding payload_meets
     payload-none fields alts = go (only_field fields)
       where
-        chosen : (f : FieldPattern) (o : Option Alternative) → elim o [ none ↦ false | some alt ↦ below f.node alt.type ] ≡ false
-        chosen f none = refl
-        chosen f (some alt) = h f.node alt.type
+        chosen : (f : FieldPattern) (o : Option Alternative) → elim o [ None ↦ false | Some alt ↦ below f.node alt.type ] ≡ false
+        chosen f None = refl
+        chosen f (Some alt) = h f.node alt.type
 
-        go : (o : Option FieldPattern) → elim o [ none ↦ false | some f ↦ elim (alternative_of alts f.name) [ none ↦ false | some alt ↦ below f.node alt.type ] ] ≡ false
-        go none = refl
-        go (some f) = chosen f (alternative_of alts f.name)
+        go : (o : Option FieldPattern) → elim o [ None ↦ false | Some f ↦ elim (alternative_of alts f.name) [ None ↦ false | Some alt ↦ below f.node alt.type ] ] ≡ false
+        go None = refl
+        go (Some f) = chosen f (alternative_of alts f.name)
 
     record-none : (n : ℕ) (fields : List FieldPattern) (t : Ty) → record_meets T below n fields t ≡ false
     unfolding record_meets
@@ -99,9 +88,9 @@ module _ (T : Tables) (k : Passed T) (without : has_constant T ≡ false) where
     unfolding field_meets
     field-none n t = go (record_fields (node_at T n))
       where
-        go : (o : Option (List FieldPattern)) → elim o [ some fields ↦ record_meets T below n fields (type_at T t) | none ↦ elim (folded T n) [ none ↦ false | some c ↦ brought_meets T below c t ] ] ≡ false
-        go (some fields) = record-none n fields (type_at T t)
-        go none = ap (λ (o : Option ℕ). elim o [ none ↦ false | some c ↦ brought_meets T below c t ]) (folded-none n)
+        go : (o : Option (List FieldPattern)) → elim o [ Some fields ↦ record_meets T below n fields (type_at T t) | None ↦ elim (folded T n) [ None ↦ false | Some c ↦ brought_meets T below c t ] ] ≡ false
+        go (Some fields) = record-none n fields (type_at T t)
+        go None = ap (λ (o : Option ℕ). elim o [ None ↦ false | Some c ↦ brought_meets T below c t ]) (folded-none n)
 
   below_none : (limit n t : ℕ) → meets_below T limit n t ≡ false
   unfolding meets_below
@@ -116,13 +105,13 @@ module _ (T : Tables) (k : Passed T) (without : has_constant T ≡ false) where
   unfolding key_meets whole_meets
   key-none n t = go (record_ty (type_at T t))
     where
-      opened : (fs : List FieldTy) (o : Option (List FieldPattern)) → elim o [ some fields ↦ any_field (meets T) fields fs | none ↦ whole_meets T (folded T n) fs ] ≡ false
-      opened fs (some fields) = any_none (meets T) meets-none fields fs
-      opened fs none = ap (λ (o : Option ℕ). whole_meets T o fs) (folded-none n)
+      opened : (fs : List FieldTy) (o : Option (List FieldPattern)) → elim o [ Some fields ↦ any_field (meets T) fields fs | None ↦ whole_meets T (folded T n) fs ] ≡ false
+      opened fs (Some fields) = any_none (meets T) meets-none fields fs
+      opened fs None = ap (λ (o : Option ℕ). whole_meets T o fs) (folded-none n)
 
-      go : (o : Option (List FieldTy)) → elim o [ none ↦ meets T n t | some fs ↦ elim (record_fields (node_at T n)) [ some fields ↦ any_field (meets T) fields fs | none ↦ whole_meets T (folded T n) fs ] ] ≡ false
-      go none = meets-none n t
-      go (some fs) = opened fs (record_fields (node_at T n))
+      go : (o : Option (List FieldTy)) → elim o [ None ↦ meets T n t | Some fs ↦ elim (record_fields (node_at T n)) [ Some fields ↦ any_field (meets T) fields fs | None ↦ whole_meets T (folded T n) fs ] ] ≡ false
+      go None = meets-none n t
+      go (Some fs) = opened fs (record_fields (node_at T n))
 
   pub levels-none : (ls : List LevelEntry) → levels_meet T ls ≡ false
   unfolding levels_meet level_meets

@@ -2,7 +2,7 @@
 use Prim.Native.Nat.{ℕ, zero, suc, ◌<◌}
 use mathlib.Core.Bool.{Bool, true, false}
 use mathlib.Core.List.{List, []}
-use mathlib.Core.Option.{Option, none, some, get_or}
+use Rattle.std.specs.Prelude.{Option, None, Some, unwrap_or}
 use mathlib.Core.Path.{◌≡◌, refl, sym, ap, ap₂, ◌∙◌}
 use native.Mathlib.Omega.{arith}
 use lib.Dec.{eqb}
@@ -24,7 +24,7 @@ use Rattle.literals.specs.Steps.{Met}
 
 module _ (T : Tables) (S : Sound T) where
   abbrev piece : (ℕ → ℕ → Bool) → ℕ → Option ℕ → Bool
-  piece below t o = elim o [ none ↦ false | some pattern ↦ below pattern t ]
+  piece below t o = elim o [ None ↦ false | Some pattern ↦ below pattern t ]
 
   -- two judges that agree at the types below t
   module _ (A B : ℕ → ℕ → Bool) (t : ℕ) (h : (n u : ℕ) → u < t → A n u ≡ B n u) where
@@ -34,23 +34,23 @@ module _ (T : Tables) (S : Sound T) where
     any_same ps (more {x = f} {xs = fs} q qs) = ap₂ either (turn (field_pattern ps f.name)) (any_same ps qs)
       where
         turn : (o : Option ℕ) → piece A f.type o ≡ piece B f.type o
-        turn none = refl
-        turn (some p) = h p f.type q.lower
+        turn None = refl
+        turn (Some p) = h p f.type q.lower
 
     payload_same : (ps : List FieldPattern) {alts : List Alternative} → Each (λ a. Child T t a.type) alts → payload_meets T A ps alts ≡ payload_meets T B ps alts
     unfolding payload_meets alternative_of
     payload_same ps {alts} qs = go (only_field ps)
       where
-        chosen : (f : FieldPattern) (o : Option Alternative) → alternative_of alts f.name ≡ o → ◌≡◌ {A = Bool} (elim o [ none ↦ false | some alt ↦ A f.node alt.type ]) (elim o [ none ↦ false | some alt ↦ B f.node alt.type ])
-        chosen f none e = refl
-        chosen f (some alt) e = h f.node alt.type (each_first _ qs alt e).lower
+        chosen : (f : FieldPattern) (o : Option Alternative) → alternative_of alts f.name ≡ o → ◌≡◌ {A = Bool} (elim o [ None ↦ false | Some alt ↦ A f.node alt.type ]) (elim o [ None ↦ false | Some alt ↦ B f.node alt.type ])
+        chosen f None e = refl
+        chosen f (Some alt) e = h f.node alt.type (each_first _ qs alt e).lower
 
-        go : (o : Option FieldPattern) → ◌≡◌ {A = Bool} (elim o [ none ↦ false | some f ↦ elim (alternative_of alts f.name) [ none ↦ false | some alt ↦ A f.node alt.type ] ]) (elim o [ none ↦ false | some f ↦ elim (alternative_of alts f.name) [ none ↦ false | some alt ↦ B f.node alt.type ] ])
-        go none = refl
-        go (some f) = chosen f (alternative_of alts f.name) refl
+        go : (o : Option FieldPattern) → ◌≡◌ {A = Bool} (elim o [ None ↦ false | Some f ↦ elim (alternative_of alts f.name) [ None ↦ false | Some alt ↦ A f.node alt.type ] ]) (elim o [ None ↦ false | Some f ↦ elim (alternative_of alts f.name) [ None ↦ false | Some alt ↦ B f.node alt.type ] ])
+        go None = refl
+        go (Some f) = chosen f (alternative_of alts f.name) refl
 
     module _ (l : t < length T.types) where
-      fields-of : (fs : List FieldTy) → record_ty (type_at T t) ≡ some fs → Each (λ f. Child T t f.type) fs
+      fields-of : (fs : List FieldTy) → record_ty (type_at T t) ≡ Some fs → Each (λ f. Child T t f.type) fs
       fields-of fs e = record-children (Child T t) (type_at T t) fs (S.children t l) e
 
       record_same : (n : ℕ) (ps : List FieldPattern) → record_meets T A n ps (type_at T t) ≡ record_meets T B n ps (type_at T t)
@@ -70,21 +70,21 @@ module _ (T : Tables) (S : Sound T) where
       brought-same c = go (record_fields (node_at T c)) (record_ty (type_at T t)) refl
         where
           go : (ps : Option (List FieldPattern)) (fs : Option (List FieldTy)) → record_ty (type_at T t) ≡ fs → brought_by T A c t ps fs ≡ brought_by T B c t ps fs
-          go none fs e = refl
-          go (some ps) none e = refl
-          go (some ps) (some fs) e = any_same ps (fields-of fs e)
+          go None fs e = refl
+          go (Some ps) None e = refl
+          go (Some ps) (Some fs) e = any_same ps (fields-of fs e)
 
       field-same : (n : ℕ) → field_meets T A n t ≡ field_meets T B n t
       unfolding field_meets
       field-same n = go (record_fields (node_at T n)) (folded T n)
         where
-          stands : (o : Option ℕ) → ◌≡◌ {A = Bool} (elim o [ none ↦ false | some c ↦ brought_meets T A c t ]) (elim o [ none ↦ false | some c ↦ brought_meets T B c t ])
-          stands none = refl
-          stands (some c) = brought-same c
+          stands : (o : Option ℕ) → ◌≡◌ {A = Bool} (elim o [ None ↦ false | Some c ↦ brought_meets T A c t ]) (elim o [ None ↦ false | Some c ↦ brought_meets T B c t ])
+          stands None = refl
+          stands (Some c) = brought-same c
 
-          go : (ps : Option (List FieldPattern)) (o : Option ℕ) → ◌≡◌ {A = Bool} (elim ps [ some fields ↦ record_meets T A n fields (type_at T t) | none ↦ elim o [ none ↦ false | some c ↦ brought_meets T A c t ] ]) (elim ps [ some fields ↦ record_meets T B n fields (type_at T t) | none ↦ elim o [ none ↦ false | some c ↦ brought_meets T B c t ] ])
-          go none o = stands o
-          go (some fields) o = record_same n fields
+          go : (ps : Option (List FieldPattern)) (o : Option ℕ) → ◌≡◌ {A = Bool} (elim ps [ Some fields ↦ record_meets T A n fields (type_at T t) | None ↦ elim o [ None ↦ false | Some c ↦ brought_meets T A c t ] ]) (elim ps [ Some fields ↦ record_meets T B n fields (type_at T t) | None ↦ elim o [ None ↦ false | Some c ↦ brought_meets T B c t ] ])
+          go None o = stands o
+          go (Some fields) o = record_same n fields
 
   meets-same : (a b n t : ℕ) → t < length T.types → t < a → t < b → meets_below T a n t ≡ meets_below T b n t
   unfolding meets_below
@@ -98,23 +98,23 @@ module _ (T : Tables) (S : Sound T) where
     unfolding brought_meets brought_by patterns_of fields_for open_fields
     opened-by below = go (record_fields (node_at T n)) (record_ty (type_at T t)) open-here
       where
-        go : (ps : Option (List FieldPattern)) (fs : Option (List FieldTy)) → 0 < length (open_fields ps fs) → brought_by T below n t ps fs ≡ any_field below (get_or ps []) (open_fields ps fs)
-        go none fs h = absurd (omega arith)
-        go (some ps) none h = absurd (omega arith)
-        go (some ps) (some fs) h = refl
+        go : (ps : Option (List FieldPattern)) (fs : Option (List FieldTy)) → 0 < length (open_fields ps fs) → brought_by T below n t ps fs ≡ any_field below (unwrap_or ps []) (open_fields ps fs)
+        go None fs h = absurd (omega arith)
+        go (Some ps) None h = absurd (omega arith)
+        go (Some ps) (Some fs) h = refl
 
     opened-field : (below : ℕ → ℕ → Bool) → field_meets T below n t ≡ any_field below (patterns_of T n) (fields_for T n t)
     unfolding field_meets record_meets patterns_of fields_for open_fields record_ty
     opened-field below = go (record_fields (node_at T n)) (type_at T t) open-here
       where
-        go : (ps : Option (List FieldPattern)) (ty : Ty) → 0 < length (open_fields ps (record_ty ty)) → ◌≡◌ {A = Bool} (elim ps [ some fields ↦ record_meets T below n fields ty | none ↦ elim (folded T n) [ none ↦ false | some c ↦ brought_meets T below c t ] ]) (any_field below (get_or ps []) (open_fields ps (record_ty ty)))
-        go none ty h = absurd (omega arith)
-        go (some ps) Ty.Int h = absurd (omega arith)
-        go (some ps) Ty.Str h = absurd (omega arith)
-        go (some ps) Ty.Bytes h = absurd (omega arith)
-        go (some ps) (Ty.Fact p) h = absurd (omega arith)
-        go (some ps) (Ty.Record fs) h = refl
-        go (some ps) (Ty.Union alts) h = absurd (omega arith)
+        go : (ps : Option (List FieldPattern)) (ty : Ty) → 0 < length (open_fields ps (record_ty ty)) → ◌≡◌ {A = Bool} (elim ps [ Some fields ↦ record_meets T below n fields ty | None ↦ elim (folded T n) [ None ↦ false | Some c ↦ brought_meets T below c t ] ]) (any_field below (unwrap_or ps []) (open_fields ps (record_ty ty)))
+        go None ty h = absurd (omega arith)
+        go (Some ps) Ty.Int h = absurd (omega arith)
+        go (Some ps) Ty.Str h = absurd (omega arith)
+        go (Some ps) Ty.Bytes h = absurd (omega arith)
+        go (Some ps) (Ty.Fact p) h = absurd (omega arith)
+        go (Some ps) (Ty.Record fs) h = refl
+        go (Some ps) (Ty.Union alts) h = absurd (omega arith)
 
     opened-meets : (limit : ℕ) → meets_below T (suc limit) n t ≡ any_field (meets_below T limit) (patterns_of T n) (fields_for T n t)
     unfolding meets_below
@@ -131,8 +131,8 @@ module _ (T : Tables) (S : Sound T) where
         brought-by false false = refl
 
         go : (o : Option Const) → constant T n t ≡ o → eqb (fate_by (lacks_bytes o) (brought_meets T (meets_below T (length T.types)) n t) (heard T n t)) fate_met ≡ any_field (meets_below T (length T.types)) (patterns_of T n) (fields_for T n t)
-        go none e = brought-by (brought_meets T (meets_below T (length T.types)) n t) (heard T n t) ∙ opened-by (meets_below T (length T.types))
-        go (some k) e = sym (fine-below T S (suc (length T.types)) n t k l e) ∙ opened-meets (length T.types)
+        go None e = brought-by (brought_meets T (meets_below T (length T.types)) n t) (heard T n t) ∙ opened-by (meets_below T (length T.types))
+        go (Some k) e = sym (fine-below T S (suc (length T.types)) n t k l e) ∙ opened-meets (length T.types)
 
     pub opened-met : (d : ℕ) → d ≡ fate T n t → Met T t (λ below. any_field below (patterns_of T n) (fields_for T n t)) (eqb d fate_met)
     unfolding meets
@@ -144,5 +144,5 @@ module _ (T : Tables) (S : Sound T) where
         }
 
 -- what the index remembers of a Record that is opened
-pub recalled-met : (f ix : List ℕ) → AcceptedFile f ix → (n t d : ℕ) → n < length (tables_of f).nodes → t < length (tables_of f).types → 0 < length (fields_for (tables_of f) n t) → recalled ix n t ≡ some d → Met (tables_of f) t (λ below. any_field below (patterns_of (tables_of f) n) (fields_for (tables_of f) n t)) (eqb d fate_met)
+pub recalled-met : (f ix : List ℕ) → AcceptedFile f ix → (n t d : ℕ) → n < length (tables_of f).nodes → t < length (tables_of f).types → 0 < length (fields_for (tables_of f) n t) → recalled ix n t ≡ Some d → Met (tables_of f) t (λ below. any_field below (patterns_of (tables_of f) n) (fields_for (tables_of f) n t)) (eqb d fate_met)
 recalled-met f ix a n t d h l o e = opened-met (tables_of f) (sound-tables f ix a) n t l o d (a.remembered n t d h l e)

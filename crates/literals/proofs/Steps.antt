@@ -3,13 +3,13 @@ use Prim.Native.Nat.{ℕ, zero, suc, ◌<◌}
 use mathlib.Core.Path.{◌≡◌, refl, sym, ap, ◌∙◌, subst}
 use mathlib.Core.Bool.{Bool, false}
 use mathlib.Core.List.{List, []}
-use mathlib.Core.Option.{Option, none, some, get_or}
+use Rattle.std.specs.Prelude.{Option, None, Some, unwrap_or}
 use native.Mathlib.Omega.{arith}
 use lib.ListN.{length}
 use Rattle.rules.specs.File.{Tables, FieldTy, Alternative, Ty, FieldPattern, type_at, node_at, record_fields, record_ty, union_ty}
 use Rattle.rules.specs.Constant.{alternative_of, only_field}
 use Rattle.rules.specs.Literals as Literals
-use Rattle.rules.specs.Literals.{folded, any_field, lacks_bytes, brought_meets, payload_meets, record_meets, field_meets, meets_below, meets, whole_meets}
+use Rattle.rules.specs.Literals.{folded, any_field, brought_meets, payload_meets, record_meets, field_meets, meets_below, meets}
 use Rattle.rules.proofs.Each.{each_first}
 use Rattle.rules.proofs.Sound.{Sound, Child}
 use Rattle.rules.proofs.Keeps.{union-children}
@@ -20,11 +20,11 @@ use Rattle.literals.specs.declared.Step.TheVariants as St
 
 module _ (T : Tables) where
   -- a Record at a Record
-  pub open_is : (below : ℕ → ℕ → Bool) (c t : ℕ) (fields : List FieldPattern) (fs : List FieldTy) → record_fields (node_at T c) ≡ some fields → record_ty (type_at T t) ≡ some fs → any_field below (patterns_of T c) (fields_for T c t) ≡ any_field below fields fs
+  pub open_is : (below : ℕ → ℕ → Bool) (c t : ℕ) (fields : List FieldPattern) (fs : List FieldTy) → record_fields (node_at T c) ≡ Some fields → record_ty (type_at T t) ≡ Some fs → any_field below (patterns_of T c) (fields_for T c t) ≡ any_field below fields fs
   unfolding patterns_of fields_for open_fields
   open_is below c t fields fs p q =
-      ap (λ (o : Option (List FieldPattern)). any_field below (get_or o []) (open_fields o (record_ty (type_at T t)))) p
-      ∙ ap (λ (o : Option (List FieldTy)). any_field below fields (open_fields (some fields) o)) q
+      ap (λ (o : Option (List FieldPattern)). any_field below (unwrap_or o []) (open_fields o (record_ty (type_at T t)))) p
+      ∙ ap (λ (o : Option (List FieldTy)). any_field below fields (open_fields (Some fields) o)) q
 
   module _ (below : ℕ → ℕ → Bool) where
     went-brought : (c t : ℕ) → went T below t (brought_step T c t) ≡ brought_meets T below c t
@@ -32,23 +32,23 @@ module _ (T : Tables) where
     went-brought c t = go (record_fields (node_at T c)) (record_ty (type_at T t)) refl refl
       where
         go : (ps : Option (List FieldPattern)) (fs : Option (List FieldTy)) → record_fields (node_at T c) ≡ ps → record_ty (type_at T t) ≡ fs → went T below t (brought_by T c t ps fs) ≡ Literals.brought_by T below c t ps fs
-        go none fs p q = refl
-        go (some fields) none p q = refl
-        go (some fields) (some fs) p q = open_is below c t fields fs p q
+        go None fs p q = refl
+        go (Some fields) None p q = refl
+        go (Some fields) (Some fs) p q = open_is below c t fields fs p q
 
     went-payload : (t : ℕ) (fields : List FieldPattern) (alts : List Alternative) → went T below t (payload_step fields alts) ≡ payload_meets T below fields alts
     unfolding payload_step chosen_step payload_meets went
     went-payload t fields alts = go (only_field fields)
       where
-        chosen : (f : FieldPattern) (o : Option Alternative) → went T below t (chosen_step f o) ≡ elim o [ none ↦ false | some alt ↦ below f.node alt.type ]
-        chosen f none = refl
-        chosen f (some alt) = refl
+        chosen : (f : FieldPattern) (o : Option Alternative) → went T below t (chosen_step f o) ≡ elim o [ None ↦ false | Some alt ↦ below f.node alt.type ]
+        chosen f None = refl
+        chosen f (Some alt) = refl
 
-        go : (o : Option FieldPattern) → went T below t (elim o [ none ↦ St.Known false | some f ↦ chosen_step f (alternative_of alts f.name) ]) ≡ elim o [ none ↦ false | some f ↦ elim (alternative_of alts f.name) [ none ↦ false | some alt ↦ below f.node alt.type ] ]
-        go none = refl
-        go (some f) = chosen f (alternative_of alts f.name)
+        go : (o : Option FieldPattern) → went T below t (elim o [ None ↦ St.Known false | Some f ↦ chosen_step f (alternative_of alts f.name) ]) ≡ elim o [ None ↦ false | Some f ↦ elim (alternative_of alts f.name) [ None ↦ false | Some alt ↦ below f.node alt.type ] ]
+        go None = refl
+        go (Some f) = chosen f (alternative_of alts f.name)
 
-    went-record : (n t : ℕ) (fields : List FieldPattern) → record_fields (node_at T n) ≡ some fields → (ty : Ty) → type_at T t ≡ ty → went T below t (record_step T n fields ty) ≡ record_meets T below n fields ty
+    went-record : (n t : ℕ) (fields : List FieldPattern) → record_fields (node_at T n) ≡ Some fields → (ty : Ty) → type_at T t ≡ ty → went T below t (record_step T n fields ty) ≡ record_meets T below n fields ty
     unfolding record_step record_meets record_ty went
     went-record n t fields p Ty.Int e = refl
     went-record n t fields p Ty.Str e = refl
@@ -57,18 +57,18 @@ module _ (T : Tables) where
     went-record n t fields p (Ty.Record fs) e = open_is below n t fields fs p (ap record_ty e)
     went-record n t fields p (Ty.Union alts) e = went-payload t fields alts
 
-    went-standing : (t : ℕ) (o : Option ℕ) → went T below t (standing_step T t o) ≡ elim o [ none ↦ false | some c ↦ brought_meets T below c t ]
+    went-standing : (t : ℕ) (o : Option ℕ) → went T below t (standing_step T t o) ≡ elim o [ None ↦ false | Some c ↦ brought_meets T below c t ]
     unfolding standing_step went
-    went-standing t none = refl
-    went-standing t (some c) = went-brought c t
+    went-standing t None = refl
+    went-standing t (Some c) = went-brought c t
 
     pub went-field : (n t : ℕ) → went T below t (field_step T n t) ≡ field_meets T below n t
     unfolding field_step field_meets
     went-field n t = go (record_fields (node_at T n)) refl
       where
-        go : (ps : Option (List FieldPattern)) → record_fields (node_at T n) ≡ ps → went T below t (elim ps [ some fields ↦ record_step T n fields (type_at T t) | none ↦ standing_step T t (folded T n) ]) ≡ elim ps [ some fields ↦ record_meets T below n fields (type_at T t) | none ↦ elim (folded T n) [ none ↦ false | some c ↦ brought_meets T below c t ] ]
-        go none p = went-standing t (folded T n)
-        go (some fields) p = went-record n t fields p (type_at T t) refl
+        go : (ps : Option (List FieldPattern)) → record_fields (node_at T n) ≡ ps → went T below t (elim ps [ Some fields ↦ record_step T n fields (type_at T t) | None ↦ standing_step T t (folded T n) ]) ≡ elim ps [ Some fields ↦ record_meets T below n fields (type_at T t) | None ↦ elim (folded T n) [ None ↦ false | Some c ↦ brought_meets T below c t ] ]
+        go None p = went-standing t (folded T n)
+        go (Some fields) p = went-record n t fields p (type_at T t) refl
 
   -- Payloads stand lower.
   module _ (S : Sound T) (t : ℕ) (h : t < length T.types) where
@@ -77,21 +77,21 @@ module _ (T : Tables) where
     brought-in c = go (record_fields (node_at T c)) (record_ty (type_at T t))
       where
         go : (ps : Option (List FieldPattern)) (fs : Option (List FieldTy)) → StepIn T t (brought_by T c t ps fs)
-        go none fs = tt
-        go (some fields) none = tt
-        go (some fields) (some fs) = tt
+        go None fs = tt
+        go (Some fields) None = tt
+        go (Some fields) (Some fs) = tt
 
-    payload-in : (fields : List FieldPattern) (alts : List Alternative) → union_ty (type_at T t) ≡ some alts → StepIn T t (payload_step fields alts)
+    payload-in : (fields : List FieldPattern) (alts : List Alternative) → union_ty (type_at T t) ≡ Some alts → StepIn T t (payload_step fields alts)
     unfolding payload_step chosen_step alternative_of
     payload-in fields alts u = go (only_field fields)
       where
-        chosen : (f : FieldPattern) (o : Option Alternative) → ((a : Alternative) → o ≡ some a → Child T t a.type) → StepIn T t (chosen_step f o)
-        chosen f none k = tt
-        chosen f (some alt) k = let c = k alt refl in (c.lower, c.in-types)
+        chosen : (f : FieldPattern) (o : Option Alternative) → ((a : Alternative) → o ≡ Some a → Child T t a.type) → StepIn T t (chosen_step f o)
+        chosen f None k = tt
+        chosen f (Some alt) k = let c = k alt refl in (c.lower, c.in-types)
 
-        go : (o : Option FieldPattern) → StepIn T t (elim o [ none ↦ St.Known false | some f ↦ chosen_step f (alternative_of alts f.name) ])
-        go none = tt
-        go (some f) = chosen f (alternative_of alts f.name) (λ a q. each_first _ (union-children (Child T t) (type_at T t) alts (S.children t h) u) a q)
+        go : (o : Option FieldPattern) → StepIn T t (elim o [ None ↦ St.Known false | Some f ↦ chosen_step f (alternative_of alts f.name) ])
+        go None = tt
+        go (Some f) = chosen f (alternative_of alts f.name) (λ a q. each_first _ (union-children (Child T t) (type_at T t) alts (S.children t h) u) a q)
 
     pub field_in : (n : ℕ) → StepIn T t (field_step T n t)
     unfolding field_step record_step standing_step union_ty
@@ -106,12 +106,12 @@ module _ (T : Tables) where
         typed fields (Ty.Union alts) e = payload-in fields alts (ap union_ty e)
 
         standing : (o : Option ℕ) → StepIn T t (standing_step T t o)
-        standing none = tt
-        standing (some c) = brought-in c
+        standing None = tt
+        standing (Some c) = brought-in c
 
-        go : (ps : Option (List FieldPattern)) → StepIn T t (elim ps [ some fields ↦ record_step T n fields (type_at T t) | none ↦ standing_step T t (folded T n) ])
-        go none = standing (folded T n)
-        go (some fields) = typed fields (type_at T t) refl
+        go : (ps : Option (List FieldPattern)) → StepIn T t (elim ps [ Some fields ↦ record_step T n fields (type_at T t) | None ↦ standing_step T t (folded T n) ])
+        go None = standing (folded T n)
+        go (Some fields) = typed fields (type_at T t) refl
 
   -- What the cycle's members give.
   pub met-known : (t : ℕ) (b : Bool) (s : Step) → s ≡ St.Known b → Met T t (λ below. went T below t s) b

@@ -1,6 +1,5 @@
 -- The constant that a node stands for, along a chain of reads (crate resolve, specs/Chains.antt).
-use Rattle.std.specs.Prelude.{ℕ, true, false, List, [], ◌∷◌}
-use Rattle.std.proofs.Math.Option.{Option, none, some}
+use Rattle.std.specs.Prelude.{ℕ, true, false, List, [], ◌∷◌, Option, None, Some}
 use Rattle.rules.specs.Base.{◌when_some◌}
 use Rattle.rules.specs.File.{Tables, Node, node_at, is_constant}
 use Rattle.rules.specs.Lookup.{folded_field}
@@ -8,27 +7,27 @@ use Rattle.rules.specs.Literals.{folded_node}
 
 -- of a node that reads of no other
 unfoldable pub leaf_const : Tables → ℕ → Option ℕ
-leaf_const T n = elim (is_constant T n) [ true ↦ some n | false ↦ folded_node T (λ base. none) n (node_at T n) ]
+leaf_const T n = elim (is_constant T n) [ true ↦ Some n | false ↦ folded_node T (λ base. None) n (node_at T n) ]
 
 -- what a node gives of the constant c that the node below it stands for
 unfoldable pub up_by : Tables → ℕ → Node → Option ℕ
-up_by T c (Node.Int bytes) = none
-up_by T c (Node.Str x) = none
-up_by T c (Node.Bytes bytes) = none
-up_by T c (Node.Var x) = none
-up_by T c Node.Wildcard = none
-up_by T c Node.Never = none
-up_by T c (Node.Prefix x) = none
-up_by T c (Node.Fuzzy x d a) = none
-up_by T c (Node.Record fs) = none
+up_by T c (Node.Int bytes) = None
+up_by T c (Node.Str x) = None
+up_by T c (Node.Bytes bytes) = None
+up_by T c (Node.Var x) = None
+up_by T c Node.Wildcard = None
+up_by T c Node.Never = None
+up_by T c (Node.Prefix x) = None
+up_by T c (Node.Fuzzy x d a) = None
+up_by T c (Node.Record fs) = None
 up_by T c (Node.Access x base) = folded_field T c x
-up_by T c (Node.Value base) = none
-up_by T c (Node.Select x base) = none
-up_by T c Node.Disjunction = none
-up_by T c Node.Subquery = none
-up_by T c (Node.Fact p key) = none
-up_by T c Node.Arith = none
-up_by T c Node.Error = none
+up_by T c (Node.Value base) = None
+up_by T c (Node.Select x base) = None
+up_by T c Node.Disjunction = None
+up_by T c Node.Subquery = None
+up_by T c (Node.Fact p key) = None
+up_by T c Node.Arith = None
+up_by T c Node.Error = None
 
 unfoldable pub const_up : Tables → ℕ → ℕ → Option ℕ
 const_up T n c = up_by T c (node_at T n)

@@ -1,6 +1,5 @@
 -- The pass of specs/Literals.antt (crate rules) in steps: what a pattern comes to at a type, and how it goes on from there.
-use Rattle.std.specs.Prelude.{ℕ, ◌≤◌, ◌<◌, Bool, false, List, ◌≡◌, length}
-use Rattle.std.proofs.Math.Option.{Option, none, some}
+use Rattle.std.specs.Prelude.{ℕ, ◌≤◌, ◌<◌, Bool, false, List, ◌≡◌, length, Option, None, Some}
 use Rattle.rules.specs.File.{Tables, FieldTy, Alternative, Ty, FieldPattern, type_at, node_at, is_constant, record_fields, record_ty}
 use Rattle.rules.specs.Constant.{alternative_of, only_field, constant}
 use Rattle.rules.specs.Literals.{folded, any_field, lacks_bytes, meets_below}
@@ -10,20 +9,20 @@ use Rattle.literals.specs.declared.Step.TheVariants.{Known, Fields, Payload}
 
 -- a constant that is brought to a type
 unfoldable pub brought_by : Tables → ℕ → ℕ → Option (List FieldPattern) → Option (List FieldTy) → Step
-brought_by T c t none fs = Known (lacks_bytes (constant T c t))
-brought_by T c t (some fields) none = Known (lacks_bytes (constant T c t))
-brought_by T c t (some fields) (some fs) = Fields c
+brought_by T c t None fs = Known (lacks_bytes (constant T c t))
+brought_by T c t (Some fields) None = Known (lacks_bytes (constant T c t))
+brought_by T c t (Some fields) (Some fs) = Fields c
 
 unfoldable pub brought_step : Tables → ℕ → ℕ → Step
 brought_step T c t = brought_by T c t (record_fields (node_at T c)) (record_ty (type_at T t))
 
 -- a Record written at a Union
 unfoldable pub chosen_step : FieldPattern → Option Alternative → Step
-chosen_step f none = Known false
-chosen_step f (some alt) = Payload f.node alt.type
+chosen_step f None = Known false
+chosen_step f (Some alt) = Payload f.node alt.type
 
 unfoldable pub payload_step : List FieldPattern → List Alternative → Step
-payload_step fields alts = elim (only_field fields) [ none ↦ Known false | some f ↦ chosen_step f (alternative_of alts f.name) ]
+payload_step fields alts = elim (only_field fields) [ None ↦ Known false | Some f ↦ chosen_step f (alternative_of alts f.name) ]
 
 -- a Record written at a type
 unfoldable pub record_step : Tables → ℕ → List FieldPattern → Ty → Step
@@ -36,12 +35,12 @@ record_step T n fields (Ty.Union alts) = payload_step fields alts
 
 -- a pattern that stands for a constant, or for none
 unfoldable pub standing_step : Tables → ℕ → Option ℕ → Step
-standing_step T t none = Known false
-standing_step T t (some c) = brought_step T c t
+standing_step T t None = Known false
+standing_step T t (Some c) = brought_step T c t
 
 unfoldable pub field_step : Tables → ℕ → ℕ → Step
 field_step T n t =
-    elim (record_fields (node_at T n)) [ some fields ↦ record_step T n fields (type_at T t) | none ↦ standing_step T t (folded T n) ]
+    elim (record_fields (node_at T n)) [ Some fields ↦ record_step T n fields (type_at T t) | None ↦ standing_step T t (folded T n) ]
 
 -- what a step at type t comes to, the types below by `below`
 unfoldable pub went : Tables → (ℕ → ℕ → Bool) → ℕ → Step → Bool

@@ -2,8 +2,7 @@
 // list.
 #![tactic(auto)]
 
-ghost use Rattle.std.specs.Prelude.{◌≡◌, true, [], ℕ, ◌+◌, ◌*◌, ◌≤◌, ◌<◌, length, take};
-ghost use Rattle.std.proofs.Math.Option.{get_or, some};
+ghost use Rattle.std.specs.Prelude.{◌≡◌, true, [], ℕ, ◌+◌, ◌*◌, ◌≤◌, ◌<◌, length, take, Some, unwrap_or};
 ghost use Rattle.rules.specs.File.{type_at, is_constant, record_ty};
 ghost use Rattle.rules.specs.Literals.{hoisted_const, folded, any_field, lacks_bytes, brought_meets, meets};
 ghost use Rattle.rules.specs.Literals.{whole_meets, key_meets, level_meets, levels_meet};
@@ -11,7 +10,6 @@ ghost use Rattle.rules.specs.Constant.{constant};
 ghost use Rattle.file.specs.Tables.{Indexed, tables_of};
 ghost use Rattle.views.specs.Views.{run, pattern_at, alternative_at, level_entry_at};
 ghost use Rattle.accepted_file.specs.AcceptedFile.{AcceptedFile};
-ghost use Rattle.tables.specs.Tables.{found_option};
 ghost use Rattle.field_cases.specs.Pieces.{patterns_of, fields_for};
 ghost use Rattle.literals.specs.Constants.{has_constant};
 ghost use Rattle.literals.specs.Chains.{leaf_const, const_up, climb_const};
@@ -19,12 +17,10 @@ ghost use Rattle.literals.specs.Steps.{brought_step, payload_step, record_step, 
 
 use constant::has_bytes;
 use field_cases::{pairs_of, piece_at, pieces};
-use fields::{MaybeName, folded_field, hoisted_name};
-use file::wide16;
-use resolve::{Base, constant_node, descend, read_of};
-use tables::{
-    Found, MET, MaybeAlternative, Run, alternative_of, const_of, is_constant, recall_any, record_ty,
-};
+use fields::{folded_field, hoisted_name};
+use file::{NODE_LIMIT, wide16};
+use resolve::{Chain, SHORT_TRAIL, constant_node, descend, read_of};
+use tables::{MET, alternative_of, const_of, is_constant, recall_any, record_ty};
 use views::{
     NodeView, TypeView, count_of, field_pattern_at, level_at, node_of, predicate_of, type_at,
 };
@@ -38,91 +34,104 @@ pub enum Step {
 }
 
 // The Const that a hoisted node's name is bound to.
-fn hoisted_const(file: &[u8], index: &[u16], node: usize) -> Found
+fn hoisted_const(file: &[u8], index: &[u16], node: usize) -> Option<usize>
     requires { AcceptedFile file.now index.now }
-    ensures { found_option result ≡ hoisted_const (tables_of file.now) node }
+    ensures { result ≡ hoisted_const (tables_of file.now) node }
 {
     match hoisted_name(file, index, node) {
-        MaybeName::Nothing => Found::Nothing,
-        MaybeName::Just(x) => const_of(file, index, x),
+        None => None,
+        Some(x) => const_of(file, index, x),
     }
 }
 
 // The constant that a node stands for, if it reads of no other node.
-fn leaf_const(file: &[u8], index: &[u16], node: usize) -> Found
+fn leaf_const(file: &[u8], index: &[u16], node: usize) -> Option<usize>
     requires { AcceptedFile file.now index.now }
-    ensures { found_option result ≡ leaf_const (tables_of file.now) node }
+    ensures { result ≡ leaf_const (tables_of file.now) node }
 {
     if constant_node(file, index, node) {
-        return Found::Just(node);
+        return Some(node);
     }
     match node_of(file, index, node) {
         NodeView::Var(x) => const_of(file, index, x),
         NodeView::Fact(p, n) => hoisted_const(file, index, node),
-        _ => Found::Nothing,
+        _ => None,
     }
 }
 
 // What a node gives of the constant that the node below it stands for: its field, where it is a key Access.
-fn const_up(file: &[u8], index: &[u16], node: usize, below: usize) -> Found
+fn const_up(file: &[u8], index: &[u16], node: usize, below: usize) -> Option<usize>
     requires { Indexed file.now index.now }
-    ensures { found_option result ≡ const_up (tables_of file.now) node below }
+    ensures { result ≡ const_up (tables_of file.now) node below }
 {
     if let NodeView::Access(x, n) = node_of(file, index, node) {
         folded_field(file, index, below, x)
     } else {
-        Found::Nothing
+        None
     }
 }
 
 // Goes up a chain of reads again, from the constant at its end.
-fn climb(file: &[u8], index: &[u16], trail: &[u16], passed: usize, end: Found) -> Found
+fn climb(
+    file: &[u8],
+    index: &[u16],
+    trail: &[u16],
+    passed: usize,
+    end: Option<usize>,
+) -> Option<usize>
     requires indexed { Indexed file.now index.now }
     requires passed_in_bounds { passed ≤ length trail.now }
     ensures { let T = tables_of file.now in
-        found_option result ≡ climb_const T (take passed trail.now) (found_option end) }
+        result ≡ climb_const T (take passed trail.now) (end) }
 {
     let mut below = end;
-    let mut k = passed;
-    while k > 0 {
-        k -= 1;
-        let Found::Just(c) = below else {
-            return Found::Nothing;
+    for k in (0..passed).rev() {
+        let Some(c) = below else {
+            return None;
         };
         below = const_up(file, index, wide16(trail[k]), c);
     }
     below
 }
 
-// A chain of any length: a file has no more nodes than the trail has places.
-fn folded_long(file: &[u8], index: &[u16], node: usize) -> Found
-    requires { AcceptedFile file.now index.now }
-    ensures { found_option result ≡ folded (tables_of file.now) node }
+// The constant at a chain's end, and up again from there.
+fn folded_up(file: &[u8], index: &[u16], trail: &[u16], chain: Chain) -> Option<usize>
+    requires accepted_file { AcceptedFile file.now index.now }
+    requires passed_in_bounds { chain.passed ≤ length trail.now }
+    ensures { let T = tables_of file.now in
+        result ≡ climb_const T (take chain.passed trail.now) (leaf_const T chain.node) }
 {
-    let mut trail = [0u16; 2048];
-    let chain = descend(file, index, node, &mut trail);
     let end = leaf_const(file, index, chain.node);
-    climb(file, index, &trail, chain.passed, end)
+    climb(file, index, trail, chain.passed, end)
+}
+
+// A chain of any length: a file has no more nodes than the trail has places.
+fn folded_long(file: &[u8], index: &[u16], node: usize) -> Option<usize>
+    requires { AcceptedFile file.now index.now }
+    ensures { result ≡ folded (tables_of file.now) node }
+{
+    let mut trail = [0u16; NODE_LIMIT];
+    let chain = descend(file, index, node, &mut trail);
+    folded_up(file, index, &trail, chain)
 }
 
 // The constant that a read stands for. Nearly every chain of reads is short, and is done with a short trail.
-fn folded_read(file: &[u8], index: &[u16], node: usize) -> Found
+fn folded_read(file: &[u8], index: &[u16], node: usize) -> Option<usize>
     requires { AcceptedFile file.now index.now }
-    ensures { found_option result ≡ folded (tables_of file.now) node }
+    ensures { result ≡ folded (tables_of file.now) node }
 {
-    let mut trail = [0u16; 8];
+    let mut trail = [0u16; SHORT_TRAIL];
     let chain = descend(file, index, node, &mut trail);
-    if chain.passed == 8 {
+    if chain.passed == SHORT_TRAIL {
         return folded_long(file, index, node);
     }
-    let end = leaf_const(file, index, chain.node);
-    climb(file, index, &trail, chain.passed, end)
+    folded_up(file, index, &trail, chain)
 }
 
 // The constant that a pattern stands for: of all patterns only an Access has that of another node.
-fn folded(file: &[u8], index: &[u16], node: usize) -> Found
+fn folded(file: &[u8], index: &[u16], node: usize) -> Option<usize>
     requires { AcceptedFile file.now index.now }
-    ensures { found_option result ≡ folded (tables_of file.now) node }
+    ensures { result ≡ folded (tables_of file.now) node }
 {
     if let NodeView::Access(x, n) = node_of(file, index, node) {
         folded_read(file, index, node)
@@ -148,10 +157,10 @@ fn brought(file: &[u8], index: &[u16], node: usize, ty: usize) -> Step
     requires ty_in_bounds { ty < length (tables_of file.now).types }
     ensures { result ≡ brought_step (tables_of file.now) node ty }
 {
-    let Run::Just(n, at) = pairs_of(file, index, node) else {
+    let Some((n, at)) = pairs_of(file, index, node) else {
         return Step::Known(lacks_bytes(file, index, node, ty));
     };
-    let Run::Just(k, from) = record_ty(file, index, ty) else {
+    let Some((k, from)) = record_ty(file, index, ty) else {
         return Step::Known(lacks_bytes(file, index, node, ty));
     };
     Step::Fields(node)
@@ -168,8 +177,8 @@ fn payload(file: &[u8], n: usize, at: usize, k: usize, from: usize) -> Step
     }
     let p = field_pattern_at(file, at, 0);
     match alternative_of(file, from, k, p.name) {
-        MaybeAlternative::Nothing => Step::Known(false),
-        MaybeAlternative::Just(a) => Step::Payload(p.node, a.ty),
+        None => Step::Known(false),
+        Some(a) => Step::Payload(p.node, a.ty),
     }
 }
 
@@ -183,25 +192,22 @@ fn written(file: &[u8], index: &[u16], node: usize, ty: usize, n: usize, at: usi
         result ≡ record_step T node (run (pattern_at f) 4 n at) (type_at T ty) }
 {
     match type_at(file, index, ty) {
-        TypeView::Int => Step::Known(constant_node(file, index, node)),
-        TypeView::Str => Step::Known(constant_node(file, index, node)),
-        TypeView::Bytes => Step::Known(constant_node(file, index, node)),
-        TypeView::Fact(p) => Step::Known(constant_node(file, index, node)),
         TypeView::Record(k, from) => Step::Fields(node),
         TypeView::Union(k, from) => payload(file, n, at, k, from),
+        _ => Step::Known(constant_node(file, index, node)),
     }
 }
 
 // A pattern that is no Record, by the constant that it stands for.
-fn standing(file: &[u8], index: &[u16], found: Found, ty: usize) -> Step
+fn standing(file: &[u8], index: &[u16], found: Option<usize>, ty: usize) -> Step
     requires accepted_file { AcceptedFile file.now index.now }
-    requires by_index { (c : ℕ) → found_option found ≡ some c → is_constant (tables_of file.now) c ≡ true }
+    requires by_index { (c : ℕ) → found ≡ Some c → is_constant (tables_of file.now) c ≡ true }
     requires ty_in_bounds { ty < length (tables_of file.now).types }
-    ensures { result ≡ standing_step (tables_of file.now) ty (found_option found) }
+    ensures { result ≡ standing_step (tables_of file.now) ty (found) }
 {
     match found {
-        Found::Nothing => Step::Known(false),
-        Found::Just(c) => brought(file, index, c, ty),
+        None => Step::Known(false),
+        Some(c) => brought(file, index, c, ty),
     }
 }
 
@@ -246,19 +252,17 @@ fn any_field(file: &[u8], index: &[u16], node: usize, ty: usize) -> bool
     if opened.count == 0 {
         return false;
     }
-    if let Found::Just(fate) = recall_any(file, index, node, ty) {
+    if let Some(fate) = recall_any(file, index, node, ty) {
         return fate == MET;
     }
-    let mut i: usize = 0;
-    while i < opened.count {
+    for i in 0..opened.count {
         let p = piece_at(file, index, node, ty, opened, i);
-        let pattern = p.pattern;
         let t = p.ty;
-        i += 1;
-        if let Found::Just(n) = pattern {
-            if go_on(file, index, step_at(file, index, n, t), t) {
-                return true;
-            }
+        let Some(n) = p.pattern else {
+            continue;
+        };
+        if go_on(file, index, step_at(file, index, n, t), t) {
+            return true;
         }
     }
     false
@@ -284,16 +288,14 @@ fn any_brought(file: &[u8], index: &[u16], node: usize, ty: usize) -> bool
         result ≡ any_field (brought_meets T (meets T)) (patterns_of T node) (fields_for T node ty) }
 {
     let opened = pieces(file, index, node, ty);
-    let mut i: usize = 0;
-    while i < opened.count {
+    for i in 0..opened.count {
         let p = piece_at(file, index, node, ty, opened, i);
-        let pattern = p.pattern;
         let t = p.ty;
-        i += 1;
-        if let Found::Just(n) = pattern {
-            if go_on(file, index, brought(file, index, n, t), t) {
-                return true;
-            }
+        let Some(n) = p.pattern else {
+            continue;
+        };
+        if go_on(file, index, brought(file, index, n, t), t) {
+            return true;
         }
     }
     false
@@ -304,12 +306,12 @@ fn whole(file: &[u8], index: &[u16], node: usize, ty: usize) -> bool
     requires accepted_file { AcceptedFile file.now index.now }
     requires ty_in_bounds { ty < length (tables_of file.now).types }
     ensures { let T = tables_of file.now in
-        result ≡ whole_meets T (folded T node) (get_or (record_ty (type_at T ty)) []) }
+        result ≡ whole_meets T (folded T node) (unwrap_or (record_ty (type_at T ty)) []) }
 {
-    let Found::Just(c) = folded(file, index, node) else {
+    let Some(c) = folded(file, index, node) else {
         return false;
     };
-    if let Run::Just(n, at) = pairs_of(file, index, c) {
+    if let Some((n, at)) = pairs_of(file, index, c) {
         any_brought(file, index, c, ty)
     } else {
         true
@@ -322,10 +324,10 @@ fn key(file: &[u8], index: &[u16], node: usize, ty: usize) -> bool
     requires ty_in_bounds { ty < length (tables_of file.now).types }
     ensures { result ≡ key_meets (tables_of file.now) node ty }
 {
-    let Run::Just(k, from) = record_ty(file, index, ty) else {
+    let Some((k, from)) = record_ty(file, index, ty) else {
         return go_on(file, index, step_at(file, index, node, ty), ty);
     };
-    if let Run::Just(n, at) = pairs_of(file, index, node) {
+    if let Some((n, at)) = pairs_of(file, index, node) {
         any_field(file, index, node, ty)
     } else {
         whole(file, index, node, ty)
@@ -349,15 +351,7 @@ fn has_constant(file: &[u8], index: &[u16]) -> bool
     requires { AcceptedFile file.now index.now }
     ensures { result ≡ has_constant (tables_of file.now) }
 {
-    let n = count_of(file, index, file::NODES);
-    let mut k: usize = 0;
-    while k < n {
-        if is_constant(file, index, k) {
-            return true;
-        }
-        k += 1;
-    }
-    false
+    (0..count_of(file, index, file::NODES)).any(|k| is_constant(file, index, k))
 }
 
 // Whether any level does: where no node is constant, no constant is brought anywhere.
@@ -369,13 +363,5 @@ pub fn levels_meet(file: &[u8], index: &[u16]) -> bool
     if !has_constant(file, index) {
         return false;
     }
-    let n = count_of(file, index, file::LEVELS);
-    let mut k: usize = 0;
-    while k < n {
-        if level_meets(file, index, k) {
-            return true;
-        }
-        k += 1;
-    }
-    false
+    (0..count_of(file, index, file::LEVELS)).any(|k| level_meets(file, index, k))
 }

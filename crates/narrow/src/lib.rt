@@ -21,7 +21,7 @@ use seek::SeekBuilder;
 pub fn narrow_by(
     file: &[u8],
     index: &[u16],
-    constant: Const,
+    constant: Option<Const>,
     path: FieldPath,
     node: usize,
     level: &mut SeekBuilder,
@@ -59,7 +59,7 @@ pub fn narrow_by_tag(
 pub fn narrowed(
     file: &[u8],
     index: &[u16],
-    constant: Const,
+    constant: Option<Const>,
     path: FieldPath,
     node: usize,
     level: SeekBuilder,

@@ -26,30 +26,43 @@ joined-one n page p t m plan plan₁ plan₂ size to es et e₁ e₂ =
 
 -- n parts, of which i are joined
 module _ (page : List ℕ) (n : ℕ) (plan₀ : List ℕ) (text node : ℕ) where
-  pub record Joining (i p t m : ℕ) (plan : List ℕ) : Type 0 where
-    pub left : join_parts (n - i) page p t m plan ≡ join_parts n page 0 text node plan₀
+  pub record Joining (i p t : ℕ) (plan : List ℕ) : Type 0 where
+    pub left : join_parts (n - i) page p t (node + 2 * i) plan ≡ join_parts n page 0 text node plan₀
     pub near : p ≤ 65540 * i
     pub texts : t ≤ text + 65535 * i
-    pub nodes : m ≡ node + 2 * i
     pub size : length plan ≡ length plan₀
 
-  pub joining-start : Joining 0 0 text node plan₀
-  joining-start = record { left = ap (λ (k : ℕ). join_parts k page 0 text node plan₀) (let z : n - 0 ≡ n = omega arith in z); near = omega arith; texts = omega arith; nodes = omega arith; size = refl }
-
-  pub joining-more : (i p t m : ℕ) (plan : List ℕ) → Joining i p t m plan → i < n → (size to : ℕ) (plan₁ plan₂ : List ℕ) → (size ≡ word_in page (p + 1)) × (size < 65536) → to ≡ p + 3 + size → plan₁ ≡ put plan m (slice to (to + 2) page) → plan₂ ≡ put plan₁ t (slice (p + 3) to page) → length plan₂ ≡ length plan → Joining (i + 1) (to + 2) (t + size) (m + 2) plan₂
-  joining-more i p t m plan j h size to plan₁ plan₂ es et e₁ e₂ el =
-      let more : n - i ≡ suc (n - (i + 1)) = omega (arith, h) in
+  pub joining-start : Joining 0 0 text plan₀
+  joining-start =
+      let none : n - 0 ≡ n = omega arith in
+      let first : node + 2 * 0 ≡ node = omega arith in
       record {
-        left = joined-one (n - (i + 1)) page p t m plan plan₁ plan₂ size to es.0 et e₁ e₂ ∙ ap (λ (k : ℕ). join_parts k page p t m plan) (sym more) ∙ j.left;
+        left = ap (λ (k : ℕ). join_parts (n - 0) page 0 text k plan₀) first ∙ ap (λ (k : ℕ). join_parts k page 0 text node plan₀) none;
+        near = omega arith;
+        texts = omega arith;
+        size = refl;
+      }
+
+  pub joining-more : (i p t : ℕ) (plan : List ℕ) → Joining i p t plan → i < n → (size to : ℕ) (plan₁ plan₂ : List ℕ)
+      → (size ≡ word_in page (p + 1)) × (size < 65536) → to ≡ p + 3 + size → plan₁ ≡ put plan (node + 2 * i) (slice to (to + 2) page)
+      → plan₂ ≡ put plan₁ t (slice (p + 3) to page) → length plan₂ ≡ length plan → Joining (i + 1) (to + 2) (t + size) plan₂
+  joining-more i p t plan j h size to plan₁ plan₂ es et e₁ e₂ el =
+      let more : n - i ≡ suc (n - (i + 1)) = omega (arith, h) in
+      let next : node + 2 * (i + 1) ≡ node + 2 * i + 2 = omega arith in
+      record {
+        left =
+            ap (λ (k : ℕ). join_parts (n - (i + 1)) page (to + 2) (t + size) k plan₂) next
+            ∙ joined-one (n - (i + 1)) page p t (node + 2 * i) plan plan₁ plan₂ size to es.0 et e₁ e₂
+            ∙ ap (λ (k : ℕ). join_parts k page p t (node + 2 * i) plan) (sym more) ∙ j.left;
         near = omega (arith, j.near, es.1, et);
         texts = omega (arith, j.texts, es.1);
-        nodes = omega (arith, j.nodes);
         size = el ∙ j.size;
       }
 
-  pub joining-end : (i p t m : ℕ) (plan : List ℕ) → Joining i p t m plan → n ≤ i → plan ≡ join_parts n page 0 text node plan₀
+  pub joining-end : (i p t : ℕ) (plan : List ℕ) → Joining i p t plan → n ≤ i → plan ≡ join_parts n page 0 text node plan₀
   unfolding join_parts
-  joining-end i p t m plan j h = let none : 0 ≡ n - i = omega (arith, h) in ap (λ (k : ℕ). join_parts k page p t m plan) none ∙ j.left
+  joining-end i p t plan j h =
+      let none : 0 ≡ n - i = omega (arith, h) in ap (λ (k : ℕ). join_parts k page p t (node + 2 * i) plan) none ∙ j.left
 
 -- whether there is room
 pub no_room : (c : Counts) → page_rest < c.parted → false ≡ paged c

@@ -32,10 +32,8 @@ pub fn paging() -> Target
 pub fn is_paged(c: Counts) -> bool
     ensures { result ≡ paged (counts_of c) }
 {
-    if wide32(c.joined) + wide32(c.framed) > PAGE_REST {
-        return false;
-    }
-    wide32(c.rest) <= PAGE - PAGE_REST
+    let parts = wide32(c.joined) + wide32(c.framed);
+    parts <= PAGE_REST && wide32(c.rest) <= PAGE - PAGE_REST
 }
 
 // The first n parts of the page, all of them bytes, joined in the plan: their texts from `text` on, their nodes from `node` on.
@@ -45,17 +43,13 @@ fn join_parts(page: &[u8], n: usize, plan: &mut [u8], text: usize, node: usize)
 {
     let mut p: usize = 0;
     let mut t = text;
-    let mut m = node;
-    let mut i: usize = 0;
-    while i < n {
+    for i in 0..n {
         let size = word_in(page, p + 1);
         let to = p + 3 + size;
-        copy_run(page, to, to + 2, plan, m);
+        copy_run(page, to, to + 2, plan, node + 2 * i);
         copy_run(page, p + 3, to, plan, t);
         p = to + 2;
         t += size;
-        m += 2;
-        i += 1;
     }
 }
 

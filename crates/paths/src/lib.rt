@@ -7,10 +7,10 @@ ghost use Rattle.rules.specs.File.{field_path, then, payload};
 ghost use Rattle.rules.specs.Lookup.{same_path};
 ghost use Rattle.paths.specs.Paths.{path_of, path_for, stepped, Holds};
 
-#[derive(Clone, Copy)]
+#[derive(Clone, Copy, PartialEq, Eq)]
 pub struct Address(pub u16);
 
-#[derive(Clone, Copy)]
+#[derive(Clone, Copy, PartialEq, Eq)]
 pub struct PredicateId(pub u16);
 
 // The steps past `count` are of no meaning.
@@ -64,22 +64,8 @@ impl FieldPath {
         requires { (self.count ≤ step_limit) × (other.count ≤ step_limit) }
         ensures { result ≡ same_path (path_of self) (path_of other) }
     {
-        if self.field != other.field {
-            return false;
-        }
-        if self.count != other.count {
-            return false;
-        }
-        let a = self.steps;
-        let b = other.steps;
-        let n = self.count as usize;
-        let mut i = 0;
-        while i < n {
-            if a[i] != b[i] {
-                return false;
-            }
-            i += 1;
-        }
-        true
+        let a = &self.steps[..self.count as usize];
+        let b = &other.steps[..other.count as usize];
+        self.field == other.field && a == b
     }
 }

@@ -3,7 +3,6 @@ use Prim.Native.Nat.{ℕ, zero, suc, ◌+◌, ◌*◌, ◌≤◌, ◌<◌}
 use mathlib.Core.Path.{◌≡◌, refl, sym, ap, ◌∙◌}
 use mathlib.Core.Bool.{Bool, true, false}
 use mathlib.Core.List.{List, [], ◌∷◌}
-use mathlib.Core.Option.{Option, none}
 use mathlib.Core.Logic.{⊎_elim}
 use native.Mathlib.Omega.{arith}
 use borrow.Author.Tests.{le-leb, lt-leb}
@@ -17,23 +16,22 @@ use Rattle.rules.specs.Read.Read.{got, refused}
 use Rattle.rules.specs.Read as Read
 use Rattle.rules.specs.Reader as Reader
 use Rattle.file.specs.Steps.{word, read_at, step_at, skim}
-use Rattle.file.specs.declared.Step.{Step}
-use Rattle.file.specs.declared.Step.TheVariants.{Next, Refused}
 use Rattle.file.proofs.Readers.{lt-or-le, then-got, then-refused, byte-in, step-refused, step_same, Fixed, fixed-as, fixed-pure, fixed-many, fixed-u8, fixed-u16, fixed-u32, fixed-bytes, fixed_in, fixed_then, needs-fixed, needs-first, needs-bind, needs-kind, cut_short, SameSteps, alike_refl, alike-step, alike-value, alike-pure, alike-map, alike-fixed}
 use Rattle.file.proofs.Suffix.{Suffix, ended, faulted}
 use Rattle.file.proofs.Leaves.{slot_readers, kinded, kind-cut, kind-bad, kind-fixed}
 use Rattle.file.proofs.Sections.{word-then}
-use Rattle.plan_form.specs.Pieces.{EndsIn, then_at}
+use Rattle.plan_form.specs.Pieces.{then_at}
 use Rattle.plan_form.proofs.Forward.{suffix-path, suffix-register_part, suffix-key, suffix-op, suffix-fuzzy_node}
+use Rattle.std.specs.Prelude.{Result, Ok, Err, Option, None}
 
 -- one reading after another
 module _ {A B C : Type 0} (f : List ℕ) (p : ℕ) (r : Reader A) (k : A → Reader B) where
-  pub seq-next : (s : Reader C) (q : ℕ) → Suffix r → ((a : A) → SameSteps (k a) s) → p ≤ length f → step_at f r p ≡ Next q → step_at f (r >>= k) p ≡ step_at f s q
+  pub seq-next : (s : Reader C) (q : ℕ) → Suffix r → ((a : A) → SameSteps (k a) s) → p ≤ length f → step_at f r p ≡ Ok q → step_at f (r >>= k) p ≡ step_at f s q
   seq-next s q x y h e =
       let w = ended f r p q x h e in
       step_same f _ _ _ _ (then-got f r k p w.value q w.is) ∙ alike-step f (y w.value) q
 
-pub seq-fault : {A B : Type 0} (f : List ℕ) (p : ℕ) (r : Reader A) (k : A → Reader B) (x : ℕ) → step_at f r p ≡ Refused x → step_at f (r >>= k) p ≡ Refused x
+pub seq-fault : {A B : Type 0} (f : List ℕ) (p : ℕ) (r : Reader A) (k : A → Reader B) (x : ℕ) → step_at f r p ≡ Err x → step_at f (r >>= k) p ≡ Err x
 seq-fault f p r k x e = step-refused f _ p x (then-refused f r k p x (faulted f r p x e))
 
 -- the same by how the first one ended
@@ -42,22 +40,18 @@ module _ {A B C : Type 0} (f : List ℕ) (p : ℕ) (r : Reader A) (k : A → Rea
   unfolding then_at
   seq-step = go (step_at f r p) refl
     where
-      go : (z : Step) → step_at f r p ≡ z → step_at f (r >>= k) p ≡ then_at f s z
-      go (Next q) e = seq-next f p r k s q x y h e
-      go (Refused n) e = seq-fault f p r k n e
+      go : (z : Result ℕ ℕ) → step_at f r p ≡ z → step_at f (r >>= k) p ≡ then_at f s z
+      go (Ok q) e = seq-next f p r k s q x y h e
+      go (Err n) e = seq-fault f p r k n e
 
-pub within : {A : Type 0} (f : List ℕ) {r : Reader A} → Suffix r → (p q : ℕ) → p ≤ length f → step_at f r p ≡ Next q → q ≤ length f
+pub within : {A : Type 0} (f : List ℕ) {r : Reader A} → Suffix r → (p q : ℕ) → p ≤ length f → step_at f r p ≡ Ok q → q ≤ length f
 within f {r} x p q h e = (ended f r p q x h e).within
 
-pub ends-in : {A : Type 0} (f : List ℕ) {r : Reader A} → Suffix r → (p : ℕ) (z : Step) → p ≤ length f → z ≡ step_at f r p → EndsIn f z
-ends-in f x p (Next q) h e = within f x p q h (sym e)
-ends-in f x p (Refused n) h e = tt
-
-pub then-fault : {A : Type 0} (f : List ℕ) (r : Reader A) (z : Step) (n : ℕ) → z ≡ Refused n → Refused n ≡ then_at f r z
+pub then-fault : {A : Type 0} (f : List ℕ) (r : Reader A) (z : Result ℕ ℕ) (n : ℕ) → z ≡ Err n → Err n ≡ then_at f r z
 unfolding then_at
 then-fault f r z n e = ap (then_at f r) (sym e)
 
-pub then_next : {A : Type 0} (f : List ℕ) (r : Reader A) (z : Step) (q : ℕ) → z ≡ Next q → step_at f r q ≡ then_at f r z
+pub then_next : {A : Type 0} (f : List ℕ) (r : Reader A) (z : Result ℕ ℕ) (q : ℕ) → z ≡ Ok q → step_at f r q ≡ then_at f r z
 unfolding then_at
 then_next f r z q e = ap (then_at f r) (sym e)
 
@@ -91,7 +85,7 @@ bytes-alike f n x p = alike-step f (alike-fixed n x (fixed-bytes n)) p
 
 -- a count, then as many
 module _ {A : Type 0} (f : List ℕ) (r : Reader A) (p : ℕ) where
-  pub counted-cut : p ≤ length f → length f < p + 2 → step_at f (Reader.counted r) p ≡ Refused 3
+  pub counted-cut : p ≤ length f → length f < p + 2 → step_at f (Reader.counted r) p ≡ Err 3
   unfolding Reader.counted
   counted-cut h g = cut_short f 2 p (needs-first 2 _ (needs-fixed 2 fixed-u16)) h g
 
@@ -100,7 +94,7 @@ module _ {A : Type 0} (f : List ℕ) (r : Reader A) (p : ℕ) where
   counted-in n h e = step_same f _ _ _ _ (word-then f p _ h) ∙ ap (λ (j : ℕ). step_at f (many j r) (p + 2)) (sym e)
 
 module _ (f : List ℕ) (p : ℕ) where
-  pub text-cut : p ≤ length f → length f < p + 2 → step_at f Reader.text p ≡ Refused 3
+  pub text-cut : p ≤ length f → length f < p + 2 → step_at f Reader.text p ≡ Err 3
   unfolding Reader.text
   text-cut h g = counted-cut f u8 p h g
 
@@ -111,10 +105,10 @@ module _ (f : List ℕ) (p : ℕ) where
   words-fixed : (n : ℕ) → Fixed (2 * n) (many n u16)
   words-fixed n = fixed-as (n * 2) (2 * n) (omega arith) (fixed-many 2 fixed-u16 n)
 
-  pub numbers-in : (n : ℕ) → p + 2 * n ≤ length f → step_at f (many n u16) p ≡ Next (p + 2 * n)
+  pub numbers-in : (n : ℕ) → p + 2 * n ≤ length f → step_at f (many n u16) p ≡ Ok (p + 2 * n)
   numbers-in n g = fixed_in f (2 * n) p (words-fixed n) g
 
-  pub numbers-short : (n : ℕ) → p ≤ length f → length f < p + 2 * n → step_at f (many n u16) p ≡ Refused 3
+  pub numbers-short : (n : ℕ) → p ≤ length f → length f < p + 2 * n → step_at f (many n u16) p ≡ Err 3
   numbers-short n h g = cut_short f (2 * n) p (needs-fixed (2 * n) (words-fixed n)) h g
 
   -- a path: its count of steps is judged first
@@ -129,7 +123,7 @@ module _ (f : List ℕ) (p : ℕ) where
   unfolding Reader.steps
   steps-over n h = ap (λ (b : Bool). elim b as (λ _. Reader (List ℕ)) [ true ↦ many n u32 | false ↦ refuse 5 ]) (lt-leb _ _ h)
 
-  pub path-cut : p ≤ length f → length f < p + 3 → step_at f Reader.path p ≡ Refused 3
+  pub path-cut : p ≤ length f → length f < p + 3 → step_at f Reader.path p ≡ Err 3
   unfolding Reader.path
   path-cut h g = cut_short f 3 p (needs-bind 2 1 fixed-u16 (λ a. needs-first 1 _ (needs-fixed 1 fixed-u8))) h g
 
@@ -142,7 +136,7 @@ module _ (f : List ℕ) (p : ℕ) where
       ∙ ap (λ (j : ℕ). step_at f (Reader.steps j) (p + 2 + 1)) (sym e)
       ∙ ap (λ (j : ℕ). step_at f (Reader.steps n) j) g
 
-  pub path-over : (n : ℕ) → p + 3 ≤ length f → n ≡ get_or f (p + 2) 0 → step_limit < n → step_at f Reader.path p ≡ Refused 5
+  pub path-over : (n : ℕ) → p + 3 ≤ length f → n ≡ get_or f (p + 2) 0 → step_limit < n → step_at f Reader.path p ≡ Err 5
   unfolding refuse read_at
   path-over n h e g = path-steps n h e ∙ ap (λ (r : Reader (List ℕ)). step_at f r (p + 3)) (steps-over n g) ∙ step-refused f (refuse 5) (p + 3) 5 refl
 
@@ -153,10 +147,10 @@ module _ (f : List ℕ) (p : ℕ) where
   word_first : {B C : Type 0} (k : ℕ → Reader B) (r : Reader C) → ((a : ℕ) → SameSteps (k a) r) → p + 2 ≤ length f → step_at f (u16 >>= k) p ≡ step_at f r (p + 2)
   word_first k r x h = step_same f _ _ _ _ (fixed_then f 2 p fixed-u16 k h) ∙ alike-step f (x _) (p + 2)
 
-  word_cut : {B : Type 0} (k : ℕ → Reader B) → p ≤ length f → length f < p + 2 → step_at f (u16 >>= k) p ≡ Refused 3
+  word_cut : {B : Type 0} (k : ℕ → Reader B) → p ≤ length f → length f < p + 2 → step_at f (u16 >>= k) p ≡ Err 3
   word_cut k h g = cut_short f 2 p (needs-first 2 k (needs-fixed 2 fixed-u16)) h g
 
-  pub register-cut : p ≤ length f → length f < p + 2 → step_at f Reader.register_part p ≡ Refused 3
+  pub register-cut : p ≤ length f → length f < p + 2 → step_at f Reader.register_part p ≡ Err 3
   unfolding Reader.register_part
   register-cut h g = word_cut _ h g
 
@@ -164,7 +158,7 @@ module _ (f : List ℕ) (p : ℕ) where
   unfolding Reader.register_part
   register-in h = word_first _ _ (λ a. alike-map _ (alike_refl Reader.path)) h
 
-  pub binding-cut : p ≤ length f → length f < p + 2 → step_at f Reader.binding p ≡ Refused 3
+  pub binding-cut : p ≤ length f → length f < p + 2 → step_at f Reader.binding p ≡ Err 3
   unfolding Reader.binding
   binding-cut h g = word_cut _ h g
 
@@ -208,10 +202,10 @@ abbrev key_readers : List (Reader SeekKeyPart)
 key_readers = Reader.bytes_part ∷ Reader.register_part ∷ Reader.fact_part ∷ []
 
 abbrev edge_readers : List (Reader (Option RangeEdge))
-edge_readers = pure none ∷ Reader.edge_that false ∷ Reader.edge_that true ∷ []
+edge_readers = pure None ∷ Reader.edge_that false ∷ Reader.edge_that true ∷ []
 
 abbrev guide_readers : List (Reader (Option Guide))
-guide_readers = pure none ∷ Reader.guide_that ∷ []
+guide_readers = pure None ∷ Reader.guide_that ∷ []
 
 abbrev op_readers : List (Reader Narrowing)
 op_readers = Reader.bytes_op ∷ Reader.prefix_op ∷ Reader.register_op ∷ Reader.fact_op ∷ Reader.tag_op ∷ Reader.fuzzy_op ∷ Reader.own_op ∷ []
@@ -246,31 +240,31 @@ alike-fuzzy = alike-value u16 (λ x. alike-value u8 (λ d. alike-value anchor (�
 
 -- what begins with a kind
 module _ (f : List ℕ) (p : ℕ) where
-  pub slot-cut : length f ≤ p → step_at f Reader.slot p ≡ Refused 3
+  pub slot-cut : length f ≤ p → step_at f Reader.slot p ≡ Err 3
   unfolding Reader.slot
   slot-cut h = kind-cut f p plan_slots h
 
-  pub key-cut : length f ≤ p → step_at f Reader.part_key p ≡ Refused 3
+  pub key-cut : length f ≤ p → step_at f Reader.part_key p ≡ Err 3
   unfolding Reader.part_key
   key-cut h = kind-cut f p key_readers h
 
-  pub edge-cut : length f ≤ p → step_at f Reader.edge p ≡ Refused 3
+  pub edge-cut : length f ≤ p → step_at f Reader.edge p ≡ Err 3
   unfolding Reader.edge
   edge-cut h = kind-cut f p edge_readers h
 
-  pub guide-cut : length f ≤ p → step_at f Reader.guide p ≡ Refused 3
+  pub guide-cut : length f ≤ p → step_at f Reader.guide p ≡ Err 3
   unfolding Reader.guide
   guide-cut h = kind-cut f p guide_readers h
 
-  pub op-cut : length f ≤ p → step_at f Reader.op p ≡ Refused 3
+  pub op-cut : length f ≤ p → step_at f Reader.op p ≡ Err 3
   unfolding Reader.op
   op-cut h = kind-cut f p op_readers h
 
   -- a kind that holds nothing further
-  plain : {A : Type 0} (rs : List (Reader A)) (k : ℕ) → p < length f → k ≡ get_or f p 0 → Fixed 0 (get_or rs k (refuse 5)) → step_at f (kind rs) p ≡ Next (p + 1)
+  plain : {A : Type 0} (rs : List (Reader A)) (k : ℕ) → p < length f → k ≡ get_or f p 0 → Fixed 0 (get_or rs k (refuse 5)) → step_at f (kind rs) p ≡ Ok (p + 1)
   plain rs k h e x =
       let g : p + 1 + 0 ≡ p + 1 = omega arith in
-      kind-fixed f p rs k 0 h e x ∙ fixed_in f 0 (p + 1) (fixed-bytes 0) (omega arith) ∙ ap Next g
+      kind-fixed f p rs k 0 h e x ∙ fixed_in f 0 (p + 1) (fixed-bytes 0) (omega arith) ∙ ap Ok g
 
   -- one that holds what another reader reads
   holds : {A B : Type 0} (rs : List (Reader A)) (k : ℕ) {s : Reader B} → p < length f → k ≡ get_or f p 0 → SameSteps (get_or rs k (refuse 5)) s
@@ -301,13 +295,13 @@ module _ (f : List ℕ) (p : ℕ) where
     unfolding Reader.part_key Reader.fact_part
     key-fact e = holds key_readers 2 h (sym e) (alike-map _ (alike-fixed 2 fixed-u16 (fixed-bytes 2)))
 
-    pub key-bad : 2 < get_or f p 0 → step_at f Reader.part_key p ≡ Refused 5
+    pub key-bad : 2 < get_or f p 0 → step_at f Reader.part_key p ≡ Err 5
     unfolding Reader.part_key
     key-bad g = kind-bad f p key_readers (get_or f p 0) h refl g
 
-    pub edge_none : get_or f p 0 ≡ 0 → step_at f Reader.edge p ≡ Next (p + 1)
+    pub edge_none : get_or f p 0 ≡ 0 → step_at f Reader.edge p ≡ Ok (p + 1)
     unfolding Reader.edge
-    edge_none e = plain edge_readers 0 h (sym e) (fixed-pure none)
+    edge_none e = plain edge_readers 0 h (sym e) (fixed-pure None)
 
     edge-exclusive : get_or f p 0 ≡ 1 → step_at f Reader.edge p ≡ step_at f Reader.text (p + 1)
     unfolding Reader.edge Reader.edge_that
@@ -320,19 +314,19 @@ module _ (f : List ℕ) (p : ℕ) where
     pub edge-some : 0 < get_or f p 0 → get_or f p 0 ≤ 2 → step_at f Reader.edge p ≡ step_at f Reader.text (p + 1)
     edge-some a b = ⊎_elim (λ g. edge-exclusive (omega arith)) (λ g. edge-inclusive (omega arith)) (lt-or-le (get_or f p 0) 2)
 
-    pub edge-bad : 2 < get_or f p 0 → step_at f Reader.edge p ≡ Refused 5
+    pub edge-bad : 2 < get_or f p 0 → step_at f Reader.edge p ≡ Err 5
     unfolding Reader.edge
     edge-bad g = kind-bad f p edge_readers (get_or f p 0) h refl g
 
-    pub guide-none : get_or f p 0 ≡ 0 → step_at f Reader.guide p ≡ Next (p + 1)
+    pub guide-none : get_or f p 0 ≡ 0 → step_at f Reader.guide p ≡ Ok (p + 1)
     unfolding Reader.guide
-    guide-none e = plain guide_readers 0 h (sym e) (fixed-pure none)
+    guide-none e = plain guide_readers 0 h (sym e) (fixed-pure None)
 
     pub guide-some : get_or f p 0 ≡ 1 → step_at f Reader.guide p ≡ step_at f Reader.guide_that (p + 1)
     unfolding Reader.guide
     guide-some e = holds guide_readers 1 h (sym e) (alike_refl Reader.guide_that)
 
-    pub guide-bad : 1 < get_or f p 0 → step_at f Reader.guide p ≡ Refused 5
+    pub guide-bad : 1 < get_or f p 0 → step_at f Reader.guide p ≡ Err 5
     unfolding Reader.guide
     guide-bad g = kind-bad f p guide_readers (get_or f p 0) h refl g
 
@@ -367,13 +361,13 @@ module _ (f : List ℕ) (p : ℕ) where
     unfolding Reader.op Reader.own_op
     op-own e = holds op_readers 6 h (sym e) (alike-map _ (alike_refl Reader.path))
 
-    pub op-bad : 6 < get_or f p 0 → step_at f Reader.op p ≡ Refused 5
+    pub op-bad : 6 < get_or f p 0 → step_at f Reader.op p ≡ Err 5
     unfolding Reader.op
     op-bad g = kind-bad f p op_readers (get_or f p 0) h refl g
 
 -- diagnostics
 module _ (f : List ℕ) (p : ℕ) where
-  pub diagnostic-cut : p ≤ length f → length f < p + 3 → step_at f Reader.diagnostic p ≡ Refused 3
+  pub diagnostic-cut : p ≤ length f → length f < p + 3 → step_at f Reader.diagnostic p ≡ Err 3
   unfolding Reader.diagnostic Reader.code
   diagnostic-cut h g = cut_short f 3 p (needs-bind 2 1 fixed-u16 (λ n. needs-first 1 _ (needs-kind code_readers))) h g
 
@@ -382,39 +376,39 @@ module _ (f : List ℕ) (p : ℕ) where
     unfolding Reader.diagnostic
     diagnostic-code = step_same f _ _ _ _ (fixed_then f 2 p fixed-u16 _ (omega arith)) ∙ alike-step f (alike-map _ (alike_refl Reader.code)) (p + 2)
 
-    pub diagnostic-zero : get_or f (p + 2) 0 ≡ 0 → step_at f Reader.diagnostic p ≡ Refused 5
+    pub diagnostic-zero : get_or f (p + 2) 0 ≡ 0 → step_at f Reader.diagnostic p ≡ Err 5
     unfolding Reader.code refuse read_at
     diagnostic-zero e = diagnostic-code ∙ kinded f (p + 2) code_readers 0 (omega arith) (sym e) ∙ step-refused f (refuse 5) (p + 2 + 1) 5 refl
 
-    pub diagnostic-bad : 11 < get_or f (p + 2) 0 → step_at f Reader.diagnostic p ≡ Refused 5
+    pub diagnostic-bad : 11 < get_or f (p + 2) 0 → step_at f Reader.diagnostic p ≡ Err 5
     unfolding Reader.code
     diagnostic-bad g = diagnostic-code ∙ kind-bad f (p + 2) code_readers (get_or f (p + 2) 0) (omega arith) refl g
 
-    pub diagnostic-in : 0 < get_or f (p + 2) 0 → get_or f (p + 2) 0 ≤ 11 → step_at f Reader.diagnostic p ≡ Next (p + 3)
+    pub diagnostic-in : 0 < get_or f (p + 2) 0 → get_or f (p + 2) 0 ≤ 11 → step_at f Reader.diagnostic p ≡ Ok (p + 3)
     unfolding Reader.code
     diagnostic-in a b =
         let g : p + 2 + 1 ≡ p + 3 = omega arith in
-        diagnostic-code ∙ plain f (p + 2) code_readers (get_or f (p + 2) 0) (omega arith) refl (code_fixed (get_or f (p + 2) 0) a (omega arith)) ∙ ap Next g
+        diagnostic-code ∙ plain f (p + 2) code_readers (get_or f (p + 2) 0) (omega arith) refl (code_fixed (get_or f (p + 2) 0) a (omega arith)) ∙ ap Ok g
 
 -- what begins with a path and ends in a node
 module _ (f : List ℕ) (p : ℕ) where
-  pub guide_that-next : (q : ℕ) → p ≤ length f → step_at f Reader.path p ≡ Next q → step_at f Reader.guide_that p ≡ then_at f (many 2 u8) (step_at f fuzzy_node q)
+  pub guide_that-next : (q : ℕ) → p ≤ length f → step_at f Reader.path p ≡ Ok q → step_at f Reader.guide_that p ≡ then_at f (many 2 u8) (step_at f fuzzy_node q)
   unfolding Reader.guide_that fuzzy_node
   guide_that-next q h e =
       seq-next f p Reader.path _ (fuzzy_node >>= λ n. many 2 u8) q suffix-path
       (λ t. alike_then u16 _ _ (λ x. alike_then u8 _ _ (λ d. alike_then anchor _ _ (λ a. alike-made _ _ (alike-number _))))) h e
       ∙ seq-step f q fuzzy_node _ (many 2 u8) suffix-fuzzy_node (λ n. alike_refl _) (within f suffix-path p q h e)
 
-  pub guide_that-fault : (x : ℕ) → step_at f Reader.path p ≡ Refused x → step_at f Reader.guide_that p ≡ Refused x
+  pub guide_that-fault : (x : ℕ) → step_at f Reader.path p ≡ Err x → step_at f Reader.guide_that p ≡ Err x
   unfolding Reader.guide_that
   guide_that-fault x e = seq-fault f p Reader.path _ x e
 
-  pub residual-next : (q : ℕ) → p ≤ length f → step_at f Reader.path p ≡ Next q → step_at f Reader.residual p ≡ then_at f (many 2 u8) (step_at f Reader.op q)
+  pub residual-next : (q : ℕ) → p ≤ length f → step_at f Reader.path p ≡ Ok q → step_at f Reader.residual p ≡ then_at f (many 2 u8) (step_at f Reader.op q)
   unfolding Reader.residual
   residual-next q h e =
       seq-next f p Reader.path _ (Reader.op >>= λ o. many 2 u8) q suffix-path (λ t. alike-value Reader.op (λ o. alike-number _)) h e
       ∙ seq-step f q Reader.op _ (many 2 u8) suffix-op (λ o. alike_refl _) (within f suffix-path p q h e)
 
-  pub residual-fault : (x : ℕ) → step_at f Reader.path p ≡ Refused x → step_at f Reader.residual p ≡ Refused x
+  pub residual-fault : (x : ℕ) → step_at f Reader.path p ≡ Err x → step_at f Reader.residual p ≡ Err x
   unfolding Reader.residual
   residual-fault x e = seq-fault f p Reader.path _ x e

@@ -11,7 +11,6 @@ use Rattle.rules.specs.Read.{Reader, follow, ◌>>=◌, pure, u8, u16, many, end
 use Rattle.rules.specs.Read.Read.{got}
 use Rattle.rules.specs.Reader as Reader
 use Rattle.file.specs.Steps.{word, read_at, step_at, skim}
-use Rattle.file.specs.declared.Step.TheVariants.{Next, Refused}
 use Rattle.file.proofs.Readers.{down, step-got, step-refused, step_same, step-skim, many_more, many-fault, fixed-u16, needs-fixed, needs-first, needs-bind, cut_short, SameSteps, alike_refl, alike-step, alike-skim, alike-bind, alike-value, alike-pure, alike-many, alike-map}
 use Rattle.file.proofs.Suffix.{Suffix, suffix-many, ended, faulted}
 use Rattle.file.proofs.Leaves.{kinded, kind-cut, kind-bad}
@@ -19,15 +18,16 @@ use Rattle.file.proofs.Sections.{word-then}
 use Rattle.plan_form.specs.Pieces.{then_at, item_of, range, edges, after_guide, after_seek, list_of, lists}
 use Rattle.plan_form.proofs.Forward.{suffix-counted, suffix-text, suffix-path, suffix-edge, suffix-guide, suffix-seek, suffix-item, suffix-list}
 use Rattle.plan_form.proofs.Cases.{seq-next, seq-fault, seq-step, within, alike-number}
+use Rattle.std.specs.Prelude.{Ok, Err}
 
 -- n times the same reading, by where each ends
 module _ {A : Type 0} (f : List ℕ) {r : Reader A} (x : Suffix r) (n p : ℕ) (h : p ≤ length f) where
-  pub each_more : (q : ℕ) → 0 < n → step_at f r p ≡ Next q → step_at f (many n r) p ≡ step_at f (many (n - 1) r) q
-  each_more q k e =
+  pub each_more : (m q : ℕ) → n ≡ m + 1 → step_at f r p ≡ Ok q → step_at f (many n r) p ≡ step_at f (many m r) q
+  each_more m q k e =
       let w = ended f r p q x h e in
-      many_more f r n p w.value q k w.is
+      many_more f r n p w.value q (omega arith) w.is ∙ ap (λ (j : ℕ). step_at f (many j r) q) (omega arith)
 
-  pub each-fault : (y : ℕ) → 0 < n → step_at f r p ≡ Refused y → step_at f (many n r) p ≡ Refused y
+  pub each-fault : (y : ℕ) → 0 < n → step_at f r p ≡ Err y → step_at f (many n r) p ≡ Err y
   each-fault y k e = many-fault f r n p y k (faulted f r p y e)
 
 -- an item by its number
@@ -76,21 +76,21 @@ module _ (f : List ℕ) (p s : ℕ) where
 
 -- what a seek holds
 module _ (f : List ℕ) (p : ℕ) where
-  pub range-next : (q : ℕ) → p ≤ length f → step_at f Reader.text p ≡ Next q → step_at f range p ≡ then_at f (many 2 u8) (step_at f Reader.path q)
+  pub range-next : (q : ℕ) → p ≤ length f → step_at f Reader.text p ≡ Ok q → step_at f range p ≡ then_at f (many 2 u8) (step_at f Reader.path q)
   unfolding range
   range-next q h e =
       seq-next f p Reader.text _ (Reader.path >>= λ t. many 2 u8) q suffix-text (λ t. alike-value Reader.path (λ o. alike-number _)) h e
       ∙ seq-step f q Reader.path _ (many 2 u8) suffix-path (λ o. alike_refl _) (within f suffix-text p q h e)
 
-  pub range-fault : (x : ℕ) → step_at f Reader.text p ≡ Refused x → step_at f range p ≡ Refused x
+  pub range-fault : (x : ℕ) → step_at f Reader.text p ≡ Err x → step_at f range p ≡ Err x
   unfolding range
   range-fault x e = seq-fault f p Reader.text _ x e
 
-  pub edges-next : (q : ℕ) → p ≤ length f → step_at f Reader.edge p ≡ Next q → step_at f edges p ≡ step_at f Reader.edge q
+  pub edges-next : (q : ℕ) → p ≤ length f → step_at f Reader.edge p ≡ Ok q → step_at f edges p ≡ step_at f Reader.edge q
   unfolding edges
   edges-next q h e = seq-next f p Reader.edge _ Reader.edge q suffix-edge (λ t. alike-map _ (alike_refl Reader.edge)) h e
 
-  pub edges-fault : (x : ℕ) → step_at f Reader.edge p ≡ Refused x → step_at f edges p ≡ Refused x
+  pub edges-fault : (x : ℕ) → step_at f Reader.edge p ≡ Err x → step_at f edges p ≡ Err x
   unfolding edges
   edges-fault x e = seq-fault f p Reader.edge _ x e
 
@@ -117,27 +117,27 @@ module _ (n : ℕ) where
   seek_readers = Reader.prefix_seek n ∷ Reader.composite_seek n ∷ Reader.range_seek n ∷ Reader.bounded_seek n ∷ []
 
 module _ (f : List ℕ) (n p : ℕ) where
-  pub prefix_seek-next : (q : ℕ) → p ≤ length f → step_at f Reader.text p ≡ Next q → step_at f (Reader.prefix_seek n) p ≡ step_at f (many n u16) q
+  pub prefix_seek-next : (q : ℕ) → p ≤ length f → step_at f Reader.text p ≡ Ok q → step_at f (Reader.prefix_seek n) p ≡ step_at f (many n u16) q
   unfolding Reader.prefix_seek
   prefix_seek-next q h e = seq-next f p Reader.text _ (many n u16) q suffix-text (λ t. alike-map _ (alike_refl (many n u16))) h e
 
-  pub prefix_seek-fault : (x : ℕ) → step_at f Reader.text p ≡ Refused x → step_at f (Reader.prefix_seek n) p ≡ Refused x
+  pub prefix_seek-fault : (x : ℕ) → step_at f Reader.text p ≡ Err x → step_at f (Reader.prefix_seek n) p ≡ Err x
   unfolding Reader.prefix_seek
   prefix_seek-fault x e = seq-fault f p Reader.text _ x e
 
-  pub range_seek-next : (q : ℕ) → p ≤ length f → step_at f (many n (item_of 0)) p ≡ Next q → step_at f (Reader.range_seek n) p ≡ step_at f range q
+  pub range_seek-next : (q : ℕ) → p ≤ length f → step_at f (many n (item_of 0)) p ≡ Ok q → step_at f (Reader.range_seek n) p ≡ step_at f range q
   range_seek-next q h e = alike-step f (alike-range_seek n) p ∙ seq-next f p (many n (item_of 0)) _ range q (suffix-parts n) (λ us. alike_refl range) h e
 
-  pub range_seek-fault : (x : ℕ) → step_at f (many n (item_of 0)) p ≡ Refused x → step_at f (Reader.range_seek n) p ≡ Refused x
+  pub range_seek-fault : (x : ℕ) → step_at f (many n (item_of 0)) p ≡ Err x → step_at f (Reader.range_seek n) p ≡ Err x
   range_seek-fault x e = alike-step f (alike-range_seek n) p ∙ seq-fault f p (many n (item_of 0)) _ x e
 
-  pub bounded_seek-next : (q : ℕ) → p ≤ length f → step_at f (many n (item_of 0)) p ≡ Next q → step_at f (Reader.bounded_seek n) p ≡ step_at f edges q
+  pub bounded_seek-next : (q : ℕ) → p ≤ length f → step_at f (many n (item_of 0)) p ≡ Ok q → step_at f (Reader.bounded_seek n) p ≡ step_at f edges q
   bounded_seek-next q h e = alike-step f (alike-bounded_seek n) p ∙ seq-next f p (many n (item_of 0)) _ edges q (suffix-parts n) (λ us. alike_refl edges) h e
 
-  pub bounded_seek-fault : (x : ℕ) → step_at f (many n (item_of 0)) p ≡ Refused x → step_at f (Reader.bounded_seek n) p ≡ Refused x
+  pub bounded_seek-fault : (x : ℕ) → step_at f (many n (item_of 0)) p ≡ Err x → step_at f (Reader.bounded_seek n) p ≡ Err x
   bounded_seek-fault x e = alike-step f (alike-bounded_seek n) p ∙ seq-fault f p (many n (item_of 0)) _ x e
 
-  pub seek-cut : length f ≤ p → step_at f (Reader.seek n) p ≡ Refused 3
+  pub seek-cut : length f ≤ p → step_at f (Reader.seek n) p ≡ Err 3
   unfolding Reader.seek
   seek-cut h = kind-cut f p (seek_readers n) h
 
@@ -158,7 +158,7 @@ module _ (f : List ℕ) (n p : ℕ) where
     unfolding Reader.seek
     seek-bounded e = kinded f p (seek_readers n) 3 h (sym e)
 
-    pub seek-bad : 3 < get_or f p 0 → step_at f (Reader.seek n) p ≡ Refused 5
+    pub seek-bad : 3 < get_or f p 0 → step_at f (Reader.seek n) p ≡ Err 5
     unfolding Reader.seek
     seek-bad g = kind-bad f p (seek_readers n) (get_or f p 0) h refl g
 
@@ -168,23 +168,23 @@ module _ (f : List ℕ) (p : ℕ) where
   unfolding after_guide
   alike-after_guide = alike-bind (alike-counted alike-residual) (λ rs us. alike-map _ (alike_refl (Reader.counted u16)))
 
-  pub after_guide-next : (q : ℕ) → p ≤ length f → step_at f (Reader.counted (item_of 1)) p ≡ Next q → step_at f after_guide p ≡ step_at f (Reader.counted u16) q
+  pub after_guide-next : (q : ℕ) → p ≤ length f → step_at f (Reader.counted (item_of 1)) p ≡ Ok q → step_at f after_guide p ≡ step_at f (Reader.counted u16) q
   after_guide-next q h e =
       alike-step f alike-after_guide p
       ∙ seq-next f p (Reader.counted (item_of 1)) _ (Reader.counted u16) q suffix-residuals (λ us. alike_refl _) h e
 
-  pub after_guide-fault : (x : ℕ) → step_at f (Reader.counted (item_of 1)) p ≡ Refused x → step_at f after_guide p ≡ Refused x
+  pub after_guide-fault : (x : ℕ) → step_at f (Reader.counted (item_of 1)) p ≡ Err x → step_at f after_guide p ≡ Err x
   after_guide-fault x e = alike-step f alike-after_guide p ∙ seq-fault f p (Reader.counted (item_of 1)) _ x e
 
-  pub after_seek-next : (q : ℕ) → p ≤ length f → step_at f Reader.guide p ≡ Next q → step_at f after_seek p ≡ step_at f after_guide q
+  pub after_seek-next : (q : ℕ) → p ≤ length f → step_at f Reader.guide p ≡ Ok q → step_at f after_seek p ≡ step_at f after_guide q
   unfolding after_seek
   after_seek-next q h e = seq-next f p Reader.guide _ after_guide q suffix-guide (λ g. alike_refl after_guide) h e
 
-  pub after_seek-fault : (x : ℕ) → step_at f Reader.guide p ≡ Refused x → step_at f after_seek p ≡ Refused x
+  pub after_seek-fault : (x : ℕ) → step_at f Reader.guide p ≡ Err x → step_at f after_seek p ≡ Err x
   unfolding after_seek
   after_seek-fault x e = seq-fault f p Reader.guide _ x e
 
-  pub level-cut : p ≤ length f → length f < p + 6 → step_at f Reader.level p ≡ Refused 3
+  pub level-cut : p ≤ length f → length f < p + 6 → step_at f Reader.level p ≡ Err 3
   unfolding Reader.level
   level-cut h g = cut_short f 6 p (needs-bind 2 4 fixed-u16 (λ a. needs-bind 2 2 fixed-u16 (λ b. needs-first 2 _ (needs-fixed 2 fixed-u16)))) h g
 
@@ -203,10 +203,10 @@ module _ (f : List ℕ) (p : ℕ) where
         ∙ ap (λ (j : ℕ). step_at f (Reader.seek j >>= λ s. after_seek) (p + 4 + 2)) (sym g)
         ∙ ap (λ (j : ℕ). step_at f (Reader.seek n >>= λ s. after_seek) j) b
 
-    pub level-next : (q : ℕ) → step_at f (Reader.seek n) (p + 6) ≡ Next q → step_at f Reader.level p ≡ step_at f after_seek q
+    pub level-next : (q : ℕ) → step_at f (Reader.seek n) (p + 6) ≡ Ok q → step_at f Reader.level p ≡ step_at f after_seek q
     level-next q e = level-seek ∙ seq-next f (p + 6) (Reader.seek n) _ after_seek q (suffix-seek n) (λ s. alike_refl after_seek) h e
 
-    pub level-fault : (x : ℕ) → step_at f (Reader.seek n) (p + 6) ≡ Refused x → step_at f Reader.level p ≡ Refused x
+    pub level-fault : (x : ℕ) → step_at f (Reader.seek n) (p + 6) ≡ Err x → step_at f Reader.level p ≡ Err x
     level-fault x e = level-seek ∙ seq-fault f (p + 6) (Reader.seek n) _ x e
 
 -- a plan's lists
@@ -237,21 +237,21 @@ module _ (f : List ℕ) (p s : ℕ) where
 
 -- the whole plan: n lists from list s on, and the end
 module _ (f : List ℕ) (n s p : ℕ) where
-  pub lists-more : (m q : ℕ) → s < 5 → p ≤ length f → n ≡ m + 1 → step_at f (list_of s) p ≡ Next q → step_at f (lists n s) p ≡ step_at f (lists m (s + 1)) q
+  pub lists-more : (m q : ℕ) → s < 5 → p ≤ length f → n ≡ m + 1 → step_at f (list_of s) p ≡ Ok q → step_at f (lists n s) p ≡ step_at f (lists m (s + 1)) q
   unfolding lists
   lists-more m q h g k e =
       ap (λ (j : ℕ). step_at f (lists j s) p) (k ∙ add-one m)
       ∙ seq-next f p (list_of s) _ (lists m (s + 1)) q (suffix-list s h) (λ a. alike_refl (lists m (s + 1))) g e
 
-  pub lists-fault : (x : ℕ) → 0 < n → step_at f (list_of s) p ≡ Refused x → step_at f (lists n s) p ≡ Refused x
+  pub lists-fault : (x : ℕ) → 0 < n → step_at f (list_of s) p ≡ Err x → step_at f (lists n s) p ≡ Err x
   unfolding lists
   lists-fault x h e = ap (λ (j : ℕ). step_at f (lists j s) p) (down n h) ∙ seq-fault f p (list_of s) _ x e
 
-  pub lists-over : n ≡ 0 → p < length f → step_at f (lists n s) p ≡ Refused 7
+  pub lists-over : n ≡ 0 → p < length f → step_at f (lists n s) p ≡ Err 7
   unfolding lists end read_at
   lists-over h g = ap (λ (j : ℕ). step_at f (lists j s) p) h ∙ step-refused f (end tt) p 7 (ap (end tt) (drop-cons f p 0 g))
 
-  pub lists-whole : n ≡ 0 → p ≤ length f → length f ≤ p → step_at f (lists n s) p ≡ Next p
+  pub lists-whole : n ≡ 0 → p ≤ length f → length f ≤ p → step_at f (lists n s) p ≡ Ok p
   unfolding lists end read_at
   lists-whole h k g =
       let e : drop p f ≡ [] = drop_of_length-le f g in

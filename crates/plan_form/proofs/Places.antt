@@ -12,19 +12,19 @@ use Rattle.rules.specs.Read.{Reader, ◌>>=◌, pure, u16, many, end}
 use Rattle.rules.specs.Read.Read.{got}
 use Rattle.rules.specs.Reader as Reader
 use Rattle.file.specs.Steps.{word, read_at, step_at}
-use Rattle.file.specs.declared.Step.TheVariants.{Next}
 use Rattle.file.proofs.Readers.{lt-or-le, refused-got, bind_inv, step-got, fixed-u16}
 use Rattle.file.proofs.Suffix.{Suffix, suffix-u16}
 use Rattle.file.proofs.Sections.{word_in}
 use Rattle.plan_form.specs.Places.{plan_of, Opened, place_of}
 use Rattle.plan_form.proofs.Forward.{suffix-binding, suffix-select, suffix-diagnostic, suffix-level}
+use Rattle.std.specs.Prelude.{Ok}
 
 -- a is what r reads at p, and it ends inside f
 pub record Stands {A : Type 0} (f : List ℕ) (r : Reader A) (p : ℕ) (a : A) (rest : List ℕ) : Type 0 where
   pub stop : ℕ
   pub within : stop ≤ length f
   pub reads : read_at f r p ≡ got a (drop stop f)
-  pub steps : step_at f r p ≡ Next stop
+  pub steps : step_at f r p ≡ Ok stop
   pub left : rest ≡ drop stop f
 
 pub stands : {A : Type 0} (f : List ℕ) {r : Reader A} → Suffix r → (p : ℕ) (a : A) (rest : List ℕ) → p ≤ length f → read_at f r p ≡ got a rest → Stands f r p a rest
@@ -36,7 +36,7 @@ stands f {r} x p a rest h e =
     let g : read_at f r p ≡ got a (drop (p + w.skipped) f) = e ∙ ap (got a) z in
     record { stop = p + w.skipped; within = n; reads = g; steps = step-got f r p a (p + w.skipped) n g; left = z }
 
-place-next : {A : Type 0} (f : List ℕ) (r : Reader A) (p k q : ℕ) → step_at f r p ≡ Next q → place_of f r p (suc k) ≡ place_of f r q k
+place-next : {A : Type 0} (f : List ℕ) (r : Reader A) (p k q : ℕ) → step_at f r p ≡ Ok q → place_of f r p (suc k) ≡ place_of f r q k
 unfolding place_of
 place-next f r p k q e = simp (place_of, e)
 
@@ -76,10 +76,10 @@ pub record ItemAt {A : Type 0} (f : List ℕ) (r : Reader A) (p k : ℕ) (a : A)
   pub before : place_of f r p k ≤ length f
   pub within : place_of f r p (k + 1) ≤ length f
   pub reads : read_at f r (place_of f r p k) ≡ got a (drop (place_of f r p (k + 1)) f)
-  pub steps : step_at f r (place_of f r p k) ≡ Next (place_of f r p (k + 1))
+  pub steps : step_at f r (place_of f r p k) ≡ Ok (place_of f r p (k + 1))
 
 -- the places before and after it, from a place further on
-item_from : {A : Type 0} (f : List ℕ) (r : Reader A) (p q k : ℕ) (a : A) → step_at f r p ≡ Next q → ItemAt f r q k a → ItemAt f r p (suc k) a
+item_from : {A : Type 0} (f : List ℕ) (r : Reader A) (p q k : ℕ) (a : A) → step_at f r p ≡ Ok q → ItemAt f r q k a → ItemAt f r p (suc k) a
 item_from f r p q k a e x =
     let b : place_of f r p (suc k) ≡ place_of f r q k = place-next f r p k q e in
     let c : place_of f r p (suc k + 1) ≡ place_of f r q (k + 1) = ap (place_of f r p) (add-one (suc k)) ∙ place-next f r p (suc k) q e ∙ ap (place_of f r q) (sym (add-one k)) in
@@ -87,7 +87,7 @@ item_from f r p q k a e x =
       before = subst (λ (j : ℕ). j ≤ length f) (sym b) x.before;
       within = subst (λ (j : ℕ). j ≤ length f) (sym c) x.within;
       reads = ap (read_at f r) b ∙ x.reads ∙ ap (λ (j : ℕ). got a (drop j f)) (sym c);
-      steps = ap (step_at f r) b ∙ x.steps ∙ ap Next (sym c);
+      steps = ap (step_at f r) b ∙ x.steps ∙ ap Ok (sym c);
     }
 
 item-here : {A : Type 0} (f : List ℕ) (r : Reader A) (p : ℕ) (a : A) (rest : List ℕ) → p ≤ length f → Stands f r p a rest → ItemAt f r p 0 a
@@ -98,7 +98,7 @@ item-here f r p a rest h s =
       before = h;
       within = subst (λ (j : ℕ). j ≤ length f) (sym c) s.within;
       reads = s.reads ∙ ap (λ (j : ℕ). got a (drop j f)) (sym c);
-      steps = s.steps ∙ ap Next (sym c);
+      steps = s.steps ∙ ap Ok (sym c);
     }
 
 module _ {A : Type 0} (f : List ℕ) {r : Reader A} (x : Suffix r) where
@@ -139,7 +139,7 @@ pub record ListAt {A : Type 0} (f : List ℕ) (r : Reader A) (p : ℕ) (xs : Lis
   pub reads : read_at f (many (word f p) r) (p + 2) ≡ got xs (drop (place_of f r (p + 2) (word f p)) f)
   pub items : (k : ℕ) → k < length xs → (d : A) → ItemAt f r (p + 2) k (get_or xs k d)
   pub within : place_of f r (p + 2) (word f p) ≤ length f
-  pub steps : step_at f (Reader.counted r) p ≡ Next (place_of f r (p + 2) (word f p))
+  pub steps : step_at f (Reader.counted r) p ≡ Ok (place_of f r (p + 2) (word f p))
 
 -- a list that was read, and what was left
 pub record Listed {A : Type 0} (f : List ℕ) (r : Reader A) (p : ℕ) (xs : List A) (rest : List ℕ) : Type 0 where
@@ -182,11 +182,11 @@ pub record Laid (f : List ℕ) (P : Plan) : Type 0 where
   pub constrained : ℕ
   pub selects : ℕ
   pub diagnostics : ℕ
-  pub levels-end : step_at f (Reader.counted Reader.level) 0 ≡ Next bindings
-  pub bindings-end : step_at f (Reader.counted Reader.binding) bindings ≡ Next constrained
-  pub constrained-end : step_at f (Reader.counted u16) constrained ≡ Next selects
-  pub selects-end : step_at f (Reader.counted Reader.select) selects ≡ Next diagnostics
-  pub diagnostics-end : step_at f (Reader.counted Reader.diagnostic) diagnostics ≡ Next (length f)
+  pub levels-end : step_at f (Reader.counted Reader.level) 0 ≡ Ok bindings
+  pub bindings-end : step_at f (Reader.counted Reader.binding) bindings ≡ Ok constrained
+  pub constrained-end : step_at f (Reader.counted u16) constrained ≡ Ok selects
+  pub selects-end : step_at f (Reader.counted Reader.select) selects ≡ Ok diagnostics
+  pub diagnostics-end : step_at f (Reader.counted Reader.diagnostic) diagnostics ≡ Ok (length f)
   pub levels-at : ListAt f Reader.level 0 P.levels
   pub bindings-at : ListAt f Reader.binding bindings P.bindings
   pub constrained-at : ListAt f u16 constrained P.constrained
@@ -238,7 +238,7 @@ laid f P e =
       bindings-end = b.list.steps;
       constrained-end = c.list.steps;
       selects-end = d.list.steps;
-      diagnostics-end = g.list.steps ∙ ap Next (at-end f _ g.list.within (end_empty _ P _ g.then));
+      diagnostics-end = g.list.steps ∙ ap Ok (at-end f _ g.list.within (end_empty _ P _ g.then));
       levels-at = subst (ListAt f Reader.level 0) (ap (λ (y : Plan). y.levels) v) a.list;
       bindings-at = subst (ListAt f Reader.binding _) (ap (λ (y : Plan). y.bindings) v) b.list;
       constrained-at = subst (ListAt f u16 _) (ap (λ (y : Plan). y.constrained) v) c.list;

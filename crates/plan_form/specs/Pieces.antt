@@ -1,20 +1,13 @@
 -- Request [1]: the readers that the walk over a plan goes by, where the written rules have no name for them.
-use Rattle.std.specs.Prelude.{ℕ, zero, suc, ◌+◌, ◌≤◌, List, [], ◌∷◌, length, get_or}
+use Rattle.std.specs.Prelude.{ℕ, zero, suc, ◌+◌, ◌≤◌, List, [], ◌∷◌, get_or, Result, Ok, Err}
 use Rattle.rules.specs.Read.{Reader, ◌>>=◌, pure, refuse, u16, end}
 use Rattle.rules.specs.Reader.{counted, text, path, binding, select, diagnostic, part, edge, guide, residual, level}
 use Rattle.file.specs.Steps.{step_at, skim}
-use Rattle.file.specs.declared.Step.{Step}
-use Rattle.file.specs.declared.Step.TheVariants.{Next, Refused}
-
--- an item that met no fault ended inside f
-abbrev pub EndsIn : List ℕ → Step → Type 0
-EndsIn f (Next q) = q ≤ length f
-EndsIn f (Refused x) = Unit {0}
 
 -- where what reader r reads behind an item ends; a fault of the item stays one
-unfoldable pub then_at : {A : Type 0} → List ℕ → Reader A → Step → Step
-then_at f r (Next q) = step_at f r q
-then_at f r (Refused x) = Refused x
+unfoldable pub then_at : {A : Type 0} → List ℕ → Reader A → Result ℕ ℕ → Result ℕ ℕ
+then_at f r (Ok q) = step_at f r q
+then_at f r (Err x) = Err x
 
 -- the items of a plan that hold no list of their own, by number: parts, residuals, bindings, selects, diagnostics
 abbrev pub item_readers : List (Reader (Unit {0}))

@@ -1,11 +1,10 @@
 -- Request [1]: what stands in a plan, and where. A plan has no index: an item is found by its position, which the one before it hands out.
-use Rattle.std.specs.Prelude.{ℕ, zero, suc, ◌≡◌, List, []}
+use Rattle.std.specs.Prelude.{ℕ, zero, suc, ◌≡◌, List, [], Ok, Err}
 use Rattle.rules.specs.Plan.{Plan}
 use Rattle.rules.specs.Read.{Read, Reader}
 use Rattle.rules.specs.Read.Read.{got, refused}
 use Rattle.rules.specs.Reader as Reader
 use Rattle.file.specs.Steps.{read_at, step_at}
-use Rattle.file.specs.declared.Step.TheVariants.{Next, Refused}
 
 abbrev pub no_plan : Plan
 no_plan = record { levels = []; bindings = []; constrained = []; selects = []; diagnostics = [] }
@@ -31,4 +30,4 @@ pub record Found {A : Type 0} (f : List ℕ) (r : Reader A) (p : ℕ) : Type 0 w
 -- where item k begins of those that reader r reads one after another from p on
 unfoldable pub place_of : {A : Type 0} → List ℕ → Reader A → ℕ → ℕ → ℕ
 place_of f r p zero = p
-place_of f r p (suc k) = elim (step_at f r p) [ Next q ↦ place_of f r q k | Refused x ↦ p ]
+place_of f r p (suc k) = elim (step_at f r p) [ Ok q ↦ place_of f r q k | Err x ↦ p ]

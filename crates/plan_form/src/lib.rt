@@ -5,11 +5,12 @@
 ghost use Rattle.std.specs.Prelude.{◌≡◌, ◌≤◌, ◌<◌, length};
 ghost use Rattle.rules.specs.Read.{u8, u16, many};
 ghost use Rattle.rules.specs.Reader as Reader;
+ghost use Rattle.file.specs.Refusals.{numbered};
 ghost use Rattle.file.specs.Steps.{step_at};
-ghost use Rattle.plan_form.specs.Pieces.{EndsIn, then_at, item_kinds, item_of, range, edges, after_guide, after_seek};
+ghost use Rattle.plan_form.specs.Pieces.{item_kinds, item_of, range, edges, after_guide, after_seek};
 ghost use Rattle.plan_form.specs.Pieces.{list_count, list_of};
 
-use file::{Step, fixed, fuzzy_end, wide, word_at};
+use file::{Refusal, fixed, fuzzy_end, wide, word_at};
 use paths::FieldPath;
 
 // The items by number: those of a seek and of a level, and those of the lists after all levels.
@@ -37,94 +38,83 @@ const LISTS: usize = 5;
 // The last code that a diagnostic may have; the first is 1.
 const LAST_CODE: u8 = 11;
 
-// Where n bytes end that stand behind an item which ended at `before`.
-fn fixed_after(plan: &[u8], before: Step, n: usize) -> Step
-    requires { EndsIn plan.now before × (n ≤ 4) }
-    ensures { result ≡ then_at plan.now (many n u8) before }
-{
-    match before {
-        Step::Next(q) => fixed(plan, n, q),
-        Step::Refused(x) => Step::Refused(x),
-    }
-}
-
 // Where n numbers of two bytes from p on end.
-fn numbers_end(plan: &[u8], n: usize, p: usize) -> Step
+fn numbers_end(plan: &[u8], n: usize, p: usize) -> Result<usize, Refusal>
     requires { p ≤ length plan.now }
-    ensures { result ≡ step_at plan.now (many n u16) p }
+    ensures { numbered result ≡ step_at plan.now (many n u16) p }
 {
     if n <= (plan.len() - p) / 2 {
-        Step::Next(p + 2 * n)
+        Ok(p + 2 * n)
     } else {
-        Step::Refused(3)
+        Err(Refusal::Ends)
     }
 }
 
 // Where the text at p ends: a count, then as many bytes.
-pub fn text_end(plan: &[u8], p: usize) -> Step
+pub fn text_end(plan: &[u8], p: usize) -> Result<usize, Refusal>
     requires { p ≤ length plan.now }
-    ensures { result ≡ step_at plan.now Reader.text p }
+    ensures { numbered result ≡ step_at plan.now Reader.text p }
 {
     if plan.len() - p < 2 {
-        return Step::Refused(3);
+        return Err(Refusal::Ends);
     }
     let n = word_at(plan, p);
     fixed(plan, n, p + 2)
 }
 
 // Where the folded or constrained numbers at p end: a count, then two bytes for each.
-pub fn words_end(plan: &[u8], p: usize) -> Step
+pub fn words_end(plan: &[u8], p: usize) -> Result<usize, Refusal>
     requires { p ≤ length plan.now }
-    ensures { result ≡ step_at plan.now (Reader.counted u16) p }
+    ensures { numbered result ≡ step_at plan.now (Reader.counted u16) p }
 {
     if plan.len() - p < 2 {
-        return Step::Refused(3);
+        return Err(Refusal::Ends);
     }
     let n = word_at(plan, p);
     numbers_end(plan, n, p + 2)
 }
 
 // Where the path at p ends: its field, a count, and as many steps. More steps than a path holds are a fault of the count.
-pub fn path_end(plan: &[u8], p: usize) -> Step
+pub fn path_end(plan: &[u8], p: usize) -> Result<usize, Refusal>
     requires { p ≤ length plan.now }
-    ensures { result ≡ step_at plan.now Reader.path p }
+    ensures { numbered result ≡ step_at plan.now Reader.path p }
 {
     if plan.len() - p < 3 {
-        return Step::Refused(3);
+        return Err(Refusal::Ends);
     }
     let n = wide(plan[p + 2]);
     if n > FieldPath::STEP_LIMIT {
-        return Step::Refused(5);
+        return Err(Refusal::Kind);
     }
     fixed(plan, 4 * n, p + 3)
 }
 
 // Where an address and a path end: a part and an op have them after their kind, a select and a Field slot at their beginning.
-pub fn register_end(plan: &[u8], p: usize) -> Step
+pub fn register_end(plan: &[u8], p: usize) -> Result<usize, Refusal>
     requires { p ≤ length plan.now }
-    ensures { result ≡ step_at plan.now Reader.register_part p }
+    ensures { numbered result ≡ step_at plan.now Reader.register_part p }
 {
     if plan.len() - p < 2 {
-        return Step::Refused(3);
+        return Err(Refusal::Ends);
     }
     path_end(plan, p + 2)
 }
 
 // Where a Field slot ends that has its address at p: address, path, type.
-pub fn field_slot_end(plan: &[u8], p: usize) -> Step
+pub fn field_slot_end(plan: &[u8], p: usize) -> Result<usize, Refusal>
     requires { p ≤ length plan.now }
-    ensures { result ≡ step_at plan.now Reader.field_slot p }
+    ensures { numbered result ≡ step_at plan.now Reader.field_slot p }
 {
-    fixed_after(plan, register_end(plan, p), 2)
+    fixed(plan, 2, register_end(plan, p)?)
 }
 
 // Where the slot at p ends. A Field slot's path is a plan's; every other slot is as in a rule file.
-pub fn slot_end(plan: &[u8], p: usize) -> Step
+pub fn slot_end(plan: &[u8], p: usize) -> Result<usize, Refusal>
     requires { p ≤ length plan.now }
-    ensures { result ≡ step_at plan.now Reader.slot p }
+    ensures { numbered result ≡ step_at plan.now Reader.slot p }
 {
     if p >= plan.len() {
-        return Step::Refused(3);
+        return Err(Refusal::Ends);
     }
     if plan[p] == 3 {
         return field_slot_end(plan, p + 1);
@@ -133,113 +123,111 @@ pub fn slot_end(plan: &[u8], p: usize) -> Step
 }
 
 // Where the binding at p ends: a name and a slot.
-pub fn binding_end(plan: &[u8], p: usize) -> Step
+pub fn binding_end(plan: &[u8], p: usize) -> Result<usize, Refusal>
     requires { p ≤ length plan.now }
-    ensures { result ≡ step_at plan.now Reader.binding p }
+    ensures { numbered result ≡ step_at plan.now Reader.binding p }
 {
     if plan.len() - p < 2 {
-        return Step::Refused(3);
+        return Err(Refusal::Ends);
     }
     slot_end(plan, p + 2)
 }
 
 // Where the select at p ends: address, path, disc.
-pub fn select_end(plan: &[u8], p: usize) -> Step
+pub fn select_end(plan: &[u8], p: usize) -> Result<usize, Refusal>
     requires { p ≤ length plan.now }
-    ensures { result ≡ step_at plan.now Reader.select p }
+    ensures { numbered result ≡ step_at plan.now Reader.select p }
 {
-    fixed_after(plan, register_end(plan, p), 4)
+    fixed(plan, 4, register_end(plan, p)?)
 }
 
 // Where the diagnostic at p ends: a node and a code, which is not 0.
-pub fn diagnostic_end(plan: &[u8], p: usize) -> Step
+pub fn diagnostic_end(plan: &[u8], p: usize) -> Result<usize, Refusal>
     requires { p ≤ length plan.now }
-    ensures { result ≡ step_at plan.now Reader.diagnostic p }
+    ensures { numbered result ≡ step_at plan.now Reader.diagnostic p }
 {
     if plan.len() - p < 3 {
-        return Step::Refused(3);
+        return Err(Refusal::Ends);
     }
     if plan[p + 2] < 1 {
-        return Step::Refused(5);
+        return Err(Refusal::Kind);
     }
     if plan[p + 2] > LAST_CODE {
-        return Step::Refused(5);
+        return Err(Refusal::Kind);
     }
-    Step::Next(p + 3)
+    Ok(p + 3)
 }
 
 // Where the key of the part at p ends: its kind says whether bytes, address and path or an address follow.
-fn key_end(plan: &[u8], p: usize) -> Step
+fn key_end(plan: &[u8], p: usize) -> Result<usize, Refusal>
     requires { p ≤ length plan.now }
-    ensures { result ≡ step_at plan.now Reader.part_key p }
+    ensures { numbered result ≡ step_at plan.now Reader.part_key p }
 {
     if p >= plan.len() {
-        return Step::Refused(3);
+        return Err(Refusal::Ends);
     }
     match plan[p] {
         0 => text_end(plan, p + 1),
         1 => register_end(plan, p + 1),
         2 => fixed(plan, 2, p + 1),
-        _ => Step::Refused(5),
+        _ => Err(Refusal::Kind),
     }
 }
 
 // Where the part at p ends: its key and its node.
-pub fn part_end(plan: &[u8], p: usize) -> Step
+pub fn part_end(plan: &[u8], p: usize) -> Result<usize, Refusal>
     requires { p ≤ length plan.now }
-    ensures { result ≡ step_at plan.now Reader.part p }
+    ensures { numbered result ≡ step_at plan.now Reader.part p }
 {
-    fixed_after(plan, key_end(plan, p), 2)
+    fixed(plan, 2, key_end(plan, p)?)
 }
 
 // Where the edge at p ends: none, or a text, exclusive or inclusive.
-pub fn edge_end(plan: &[u8], p: usize) -> Step
+pub fn edge_end(plan: &[u8], p: usize) -> Result<usize, Refusal>
     requires { p ≤ length plan.now }
-    ensures { result ≡ step_at plan.now Reader.edge p }
+    ensures { numbered result ≡ step_at plan.now Reader.edge p }
 {
     if p >= plan.len() {
-        return Step::Refused(3);
+        return Err(Refusal::Ends);
     }
     match plan[p] {
-        0 => Step::Next(p + 1),
+        0 => Ok(p + 1),
         1 | 2 => text_end(plan, p + 1),
-        _ => Step::Refused(5),
+        _ => Err(Refusal::Kind),
     }
 }
 
 // Where a guide ends that has its path at p: path, name, distance, anchor, node.
-pub fn guide_that_end(plan: &[u8], p: usize) -> Step
+pub fn guide_that_end(plan: &[u8], p: usize) -> Result<usize, Refusal>
     requires { p ≤ length plan.now }
-    ensures { result ≡ step_at plan.now Reader.guide_that p }
+    ensures { numbered result ≡ step_at plan.now Reader.guide_that p }
 {
-    match path_end(plan, p) {
-        Step::Next(q) => fixed_after(plan, fuzzy_end(plan, q), 2),
-        Step::Refused(x) => Step::Refused(x),
-    }
+    let q = path_end(plan, p)?;
+    fixed(plan, 2, fuzzy_end(plan, q)?)
 }
 
 // Where the guide at p ends, or the byte that says there is none.
-pub fn guide_end(plan: &[u8], p: usize) -> Step
+pub fn guide_end(plan: &[u8], p: usize) -> Result<usize, Refusal>
     requires { p ≤ length plan.now }
-    ensures { result ≡ step_at plan.now Reader.guide p }
+    ensures { numbered result ≡ step_at plan.now Reader.guide p }
 {
     if p >= plan.len() {
-        return Step::Refused(3);
+        return Err(Refusal::Ends);
     }
     match plan[p] {
-        0 => Step::Next(p + 1),
+        0 => Ok(p + 1),
         1 => guide_that_end(plan, p + 1),
-        _ => Step::Refused(5),
+        _ => Err(Refusal::Kind),
     }
 }
 
 // Where the op at p ends: bytes, prefix, address and path, address, disc, name, distance and anchor, or a path of the same row.
-pub fn op_end(plan: &[u8], p: usize) -> Step
+pub fn op_end(plan: &[u8], p: usize) -> Result<usize, Refusal>
     requires { p ≤ length plan.now }
-    ensures { result ≡ step_at plan.now Reader.op p }
+    ensures { numbered result ≡ step_at plan.now Reader.op p }
 {
     if p >= plan.len() {
-        return Step::Refused(3);
+        return Err(Refusal::Ends);
     }
     match plan[p] {
         0 | 1 => text_end(plan, p + 1),
@@ -248,25 +236,23 @@ pub fn op_end(plan: &[u8], p: usize) -> Step
         4 => fixed(plan, 4, p + 1),
         5 => fuzzy_end(plan, p + 1),
         6 => path_end(plan, p + 1),
-        _ => Step::Refused(5),
+        _ => Err(Refusal::Kind),
     }
 }
 
 // Where the residual at p ends: a path, an op and a node.
-pub fn residual_end(plan: &[u8], p: usize) -> Step
+pub fn residual_end(plan: &[u8], p: usize) -> Result<usize, Refusal>
     requires { p ≤ length plan.now }
-    ensures { result ≡ step_at plan.now Reader.residual p }
+    ensures { numbered result ≡ step_at plan.now Reader.residual p }
 {
-    match path_end(plan, p) {
-        Step::Next(q) => fixed_after(plan, op_end(plan, q), 2),
-        Step::Refused(x) => Step::Refused(x),
-    }
+    let q = path_end(plan, p)?;
+    fixed(plan, 2, op_end(plan, q)?)
 }
 
 // Where item s at p ends.
-pub fn item_end(plan: &[u8], s: usize, p: usize) -> Step
+pub fn item_end(plan: &[u8], s: usize, p: usize) -> Result<usize, Refusal>
     requires { (p ≤ length plan.now) × (s < item_kinds) }
-    ensures { result ≡ step_at plan.now (item_of s) p }
+    ensures { numbered result ≡ step_at plan.now (item_of s) p }
 {
     match s {
         PARTS => part_end(plan, p),
@@ -278,184 +264,150 @@ pub fn item_end(plan: &[u8], s: usize, p: usize) -> Step
 }
 
 // Where n items s from `at` on end.
-pub fn items_end(plan: &[u8], s: usize, n: usize, at: usize) -> Step
+pub fn items_end(plan: &[u8], s: usize, n: usize, at: usize) -> Result<usize, Refusal>
     requires { (at ≤ length plan.now) × (s < item_kinds) }
-    ensures { result ≡ step_at plan.now (many n (item_of s)) at }
+    ensures { numbered result ≡ step_at plan.now (many n (item_of s)) at }
 {
     let mut p = at;
-    let mut left = n;
-    while left > 0 {
-        match item_end(plan, s, p) {
-            Step::Next(q) => {
-                p = q;
-                left -= 1;
-            }
-            Step::Refused(x) => {
-                return Step::Refused(x);
-            }
-        }
+    for _ in 0..n {
+        p = item_end(plan, s, p)?;
     }
-    Step::Next(p)
+    Ok(p)
 }
 
 // Where a count at p and as many items s end.
-pub fn list_end(plan: &[u8], s: usize, p: usize) -> Step
+pub fn list_end(plan: &[u8], s: usize, p: usize) -> Result<usize, Refusal>
     requires { (p ≤ length plan.now) × (s < item_kinds) }
-    ensures { result ≡ step_at plan.now (Reader.counted (item_of s)) p }
+    ensures { numbered result ≡ step_at plan.now (Reader.counted (item_of s)) p }
 {
     if plan.len() - p < 2 {
-        return Step::Refused(3);
+        return Err(Refusal::Ends);
     }
     let n = word_at(plan, p);
     items_end(plan, s, n, p + 2)
 }
 
 // Where a range's text, path and node end.
-fn range_end(plan: &[u8], p: usize) -> Step
+fn range_end(plan: &[u8], p: usize) -> Result<usize, Refusal>
     requires { p ≤ length plan.now }
-    ensures { result ≡ step_at plan.now range p }
+    ensures { numbered result ≡ step_at plan.now range p }
 {
-    match text_end(plan, p) {
-        Step::Next(q) => fixed_after(plan, path_end(plan, q), 2),
-        Step::Refused(x) => Step::Refused(x),
-    }
+    let q = text_end(plan, p)?;
+    fixed(plan, 2, path_end(plan, q)?)
 }
 
 // Where lo and hi end.
-fn edges_end(plan: &[u8], p: usize) -> Step
+fn edges_end(plan: &[u8], p: usize) -> Result<usize, Refusal>
     requires { p ≤ length plan.now }
-    ensures { result ≡ step_at plan.now edges p }
+    ensures { numbered result ≡ step_at plan.now edges p }
 {
-    match edge_end(plan, p) {
-        Step::Next(q) => edge_end(plan, q),
-        Step::Refused(x) => Step::Refused(x),
-    }
+    let q = edge_end(plan, p)?;
+    edge_end(plan, q)
 }
 
 // Where a Prefix ends that has its text at p: the text, and a node for each of the n parts.
-fn prefix_seek_end(plan: &[u8], n: usize, p: usize) -> Step
+fn prefix_seek_end(plan: &[u8], n: usize, p: usize) -> Result<usize, Refusal>
     requires { p ≤ length plan.now }
-    ensures { result ≡ step_at plan.now (Reader.prefix_seek n) p }
+    ensures { numbered result ≡ step_at plan.now (Reader.prefix_seek n) p }
 {
-    match text_end(plan, p) {
-        Step::Next(q) => numbers_end(plan, n, q),
-        Step::Refused(x) => Step::Refused(x),
-    }
+    let q = text_end(plan, p)?;
+    numbers_end(plan, n, q)
 }
 
 // Where a PrefixRange ends that has the first of its n parts at p.
-fn range_seek_end(plan: &[u8], n: usize, p: usize) -> Step
+fn range_seek_end(plan: &[u8], n: usize, p: usize) -> Result<usize, Refusal>
     requires { p ≤ length plan.now }
-    ensures { result ≡ step_at plan.now (Reader.range_seek n) p }
+    ensures { numbered result ≡ step_at plan.now (Reader.range_seek n) p }
 {
-    match items_end(plan, PARTS, n, p) {
-        Step::Next(q) => range_end(plan, q),
-        Step::Refused(x) => Step::Refused(x),
-    }
+    let q = items_end(plan, PARTS, n, p)?;
+    range_end(plan, q)
 }
 
 // Where a Bounded ends that has the first of its n parts at p.
-fn bounded_seek_end(plan: &[u8], n: usize, p: usize) -> Step
+fn bounded_seek_end(plan: &[u8], n: usize, p: usize) -> Result<usize, Refusal>
     requires { p ≤ length plan.now }
-    ensures { result ≡ step_at plan.now (Reader.bounded_seek n) p }
+    ensures { numbered result ≡ step_at plan.now (Reader.bounded_seek n) p }
 {
-    match items_end(plan, PARTS, n, p) {
-        Step::Next(q) => edges_end(plan, q),
-        Step::Refused(x) => Step::Refused(x),
-    }
+    let q = items_end(plan, PARTS, n, p)?;
+    edges_end(plan, q)
 }
 
 // Where the seek at p ends, of a level with n parts: its kind says what follows.
-pub fn seek_end(plan: &[u8], n: usize, p: usize) -> Step
+pub fn seek_end(plan: &[u8], n: usize, p: usize) -> Result<usize, Refusal>
     requires { p ≤ length plan.now }
-    ensures { result ≡ step_at plan.now (Reader.seek n) p }
+    ensures { numbered result ≡ step_at plan.now (Reader.seek n) p }
 {
     if p >= plan.len() {
-        return Step::Refused(3);
+        return Err(Refusal::Ends);
     }
     match plan[p] {
         0 => prefix_seek_end(plan, n, p + 1),
         1 => items_end(plan, PARTS, n, p + 1),
         2 => range_seek_end(plan, n, p + 1),
         3 => bounded_seek_end(plan, n, p + 1),
-        _ => Step::Refused(5),
+        _ => Err(Refusal::Kind),
     }
 }
 
 // Where a level's residuals and folded numbers end.
-fn after_guide_end(plan: &[u8], p: usize) -> Step
+fn after_guide_end(plan: &[u8], p: usize) -> Result<usize, Refusal>
     requires { p ≤ length plan.now }
-    ensures { result ≡ step_at plan.now after_guide p }
+    ensures { numbered result ≡ step_at plan.now after_guide p }
 {
-    match list_end(plan, RESIDUALS, p) {
-        Step::Next(q) => words_end(plan, q),
-        Step::Refused(x) => Step::Refused(x),
-    }
+    let q = list_end(plan, RESIDUALS, p)?;
+    words_end(plan, q)
 }
 
 // Where a level ends that has its guide at p.
-fn after_seek_end(plan: &[u8], p: usize) -> Step
+fn after_seek_end(plan: &[u8], p: usize) -> Result<usize, Refusal>
     requires { p ≤ length plan.now }
-    ensures { result ≡ step_at plan.now after_seek p }
+    ensures { numbered result ≡ step_at plan.now after_seek p }
 {
-    match guide_end(plan, p) {
-        Step::Next(q) => after_guide_end(plan, q),
-        Step::Refused(x) => Step::Refused(x),
-    }
+    let q = guide_end(plan, p)?;
+    after_guide_end(plan, q)
 }
 
 // Where the level at p ends: three counts, the third that of its parts, then seek, guide, residuals and folded numbers.
-pub fn level_end(plan: &[u8], p: usize) -> Step
+pub fn level_end(plan: &[u8], p: usize) -> Result<usize, Refusal>
     requires { p ≤ length plan.now }
-    ensures { result ≡ step_at plan.now Reader.level p }
+    ensures { numbered result ≡ step_at plan.now Reader.level p }
 {
     if plan.len() - p < 6 {
-        return Step::Refused(3);
+        return Err(Refusal::Ends);
     }
     let n = word_at(plan, p + 4);
-    match seek_end(plan, n, p + 6) {
-        Step::Next(q) => after_seek_end(plan, q),
-        Step::Refused(x) => Step::Refused(x),
-    }
+    let q = seek_end(plan, n, p + 6)?;
+    after_seek_end(plan, q)
 }
 
 // Where n levels from `at` on end.
-pub fn levels_end(plan: &[u8], n: usize, at: usize) -> Step
+pub fn levels_end(plan: &[u8], n: usize, at: usize) -> Result<usize, Refusal>
     requires { at ≤ length plan.now }
-    ensures { result ≡ step_at plan.now (many n Reader.level) at }
+    ensures { numbered result ≡ step_at plan.now (many n Reader.level) at }
 {
     let mut p = at;
-    let mut left = n;
-    while left > 0 {
-        match level_end(plan, p) {
-            Step::Next(q) => {
-                p = q;
-                left -= 1;
-            }
-            Step::Refused(x) => {
-                return Step::Refused(x);
-            }
-        }
+    for _ in 0..n {
+        p = level_end(plan, p)?;
     }
-    Step::Next(p)
+    Ok(p)
 }
 
 // Where a count at p and as many levels end.
-pub fn level_list_end(plan: &[u8], p: usize) -> Step
+pub fn level_list_end(plan: &[u8], p: usize) -> Result<usize, Refusal>
     requires { p ≤ length plan.now }
-    ensures { result ≡ step_at plan.now (Reader.counted Reader.level) p }
+    ensures { numbered result ≡ step_at plan.now (Reader.counted Reader.level) p }
 {
     if plan.len() - p < 2 {
-        return Step::Refused(3);
+        return Err(Refusal::Ends);
     }
     let n = word_at(plan, p);
     levels_end(plan, n, p + 2)
 }
 
 // Where list s of a plan ends that has its count at p.
-fn plan_list_end(plan: &[u8], s: usize, p: usize) -> Step
+fn plan_list_end(plan: &[u8], s: usize, p: usize) -> Result<usize, Refusal>
     requires { (p ≤ length plan.now) × (s < list_count) }
-    ensures { result ≡ step_at plan.now (list_of s) p }
+    ensures { numbered result ≡ step_at plan.now (list_of s) p }
 {
     match s {
         LEVEL_LIST => level_list_end(plan, p),
@@ -467,24 +419,15 @@ fn plan_list_end(plan: &[u8], s: usize, p: usize) -> Step
 }
 
 // Reads the whole plan: the number of its first fault, or its end. The five lists are all that a plan holds.
-pub fn plan_end(plan: &[u8]) -> Step
-    ensures { result ≡ step_at plan.now Reader.plan 0 }
+pub fn plan_end(plan: &[u8]) -> Result<usize, Refusal>
+    ensures { numbered result ≡ step_at plan.now Reader.plan 0 }
 {
     let mut p = 0;
-    let mut s = 0;
-    while s < LISTS {
-        match plan_list_end(plan, s, p) {
-            Step::Next(q) => {
-                p = q;
-                s += 1;
-            }
-            Step::Refused(x) => {
-                return Step::Refused(x);
-            }
-        }
+    for s in 0..LISTS {
+        p = plan_list_end(plan, s, p)?;
     }
     if p < plan.len() {
-        return Step::Refused(7);
+        return Err(Refusal::Follows);
     }
-    Step::Next(p)
+    Ok(p)
 }

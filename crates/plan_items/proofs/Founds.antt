@@ -16,6 +16,10 @@ use Rattle.file.proofs.Suffix.{Suffix}
 use Rattle.plan_form.specs.Places.{Found}
 use Rattle.plan_form.proofs.Places.{stands}
 use Rattle.plan_items.specs.Items.{items_at, past_of}
+use Rattle.std.specs.Prelude.{Result, Ok, Err}
+use Rattle.std.specs.Result.{result_unwrap_or}
+use Rattle.file.specs.Refusals.{numbered}
+use Rattle.file.specs.declared.Refusal.{Refusal}
 
 -- one reading, then another
 module _ {A B : Type 0} (f : List ℕ) (r : Reader A) (k : A → Reader B) (p : ℕ) (x : Found f (r >>= k) p) where
@@ -64,6 +68,11 @@ module _ {A : Type 0} (f : List ℕ) (rs : List (Reader A)) (p : ℕ) (x : Found
 -- a reader of n bytes had them
 pub fixed-room : {A : Type 0} (f : List ℕ) (n p : ℕ) (r : Reader A) → Fixed n r → p ≤ length f → Found f r p → p + n ≤ length f
 fixed-room f n p r y h x = ⊎_elim (λ z. omega arith) (λ z. needs-room f n p z (needs-fixed n y) x.reads) (lt-or-le n 1)
+
+-- where a walk ended, as the code has it
+pub unwrapped : (s : Result ℕ Refusal) → result_unwrap_or s 0 ≡ past_of (numbered s)
+unwrapped (Ok q) = refl
+unwrapped (Err r) = refl
 
 -- what was found ends where the walk over it does
 pub found-past : {A : Type 0} (f : List ℕ) (r : Reader A) → Suffix r → (p q : ℕ) → p ≤ length f → (x : Found f r p) → q ≡ past_of (step_at f r p)

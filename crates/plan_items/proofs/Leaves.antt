@@ -4,7 +4,7 @@ use mathlib.Core.Path.{◌≡◌, refl, sym, ap, ◌∙◌}
 use mathlib.Core.Bool.{Bool, true, false}
 use mathlib.Core.Logic.{⊎_elim}
 use mathlib.Core.List.{List, [], ◌∷◌}
-use mathlib.Core.Option.{Option, none, some}
+use Rattle.std.specs.Prelude.{Option, None, Some}
 use native.Mathlib.Omega.{arith}
 use borrow.Author.Tests.{leb-true, le-leb}
 use lib.Dec.{leb}
@@ -224,7 +224,7 @@ module _ (f : List ℕ) (p : ℕ) (x : Found f Reader.part p) where
 
 -- an edge
 abbrev edge_readers : List (Reader (Option RangeEdge))
-edge_readers = pure none ∷ Reader.edge_that false ∷ Reader.edge_that true ∷ []
+edge_readers = pure None ∷ Reader.edge_that false ∷ Reader.edge_that true ∷ []
 
 module _ (f : List ℕ) (p : ℕ) (x : Found f Reader.edge p) where
   pub edge-inside : p < length f
@@ -235,9 +235,9 @@ module _ (f : List ℕ) (p : ℕ) (x : Found f Reader.edge p) where
   unfolding Reader.edge
   edge-known = kind-known f edge_readers p x
 
-  pub edge_none : get_or f p 0 ≡ 0 → read_at f Reader.edge p ≡ got none (drop (p + 1) f)
+  pub edge_none : get_or f p 0 ≡ 0 → read_at f Reader.edge p ≡ got None (drop (p + 1) f)
   unfolding Reader.edge read_at pure
-  edge_none e = kind-reads f edge_readers p x 0 e none (p + 1) refl
+  edge_none e = kind-reads f edge_readers p x 0 e None (p + 1) refl
 
   pub exclusive-text : get_or f p 0 ≡ 1 → Found f Reader.text (p + 1)
   unfolding Reader.edge Reader.edge_that
@@ -247,20 +247,20 @@ module _ (f : List ℕ) (p : ℕ) (x : Found f Reader.edge p) where
   unfolding Reader.edge Reader.edge_that
   inclusive-text e = found_first f Reader.text _ (p + 1) (kind-then f edge_readers p x 2 e)
 
-  pub edge-exclusive : (t : TextView) → get_or f p 0 ≡ 1 → read_at f Reader.text (p + 1) ≡ got (text_of f t) (drop (t.at + t.len) f) → read_at f Reader.edge p ≡ got (some (record { value = text_of f t; inclusive = false })) (drop (t.at + t.len) f)
+  pub edge-exclusive : (t : TextView) → get_or f p 0 ≡ 1 → read_at f Reader.text (p + 1) ≡ got (text_of f t) (drop (t.at + t.len) f) → read_at f Reader.edge p ≡ got (Some (record { value = text_of f t; inclusive = false })) (drop (t.at + t.len) f)
   unfolding Reader.edge Reader.edge_that read_at pure
   edge-exclusive t e g = kind-reads f edge_readers p x 1 e _ (t.at + t.len) (then-got f Reader.text _ (p + 1) (text_of f t) (t.at + t.len) g)
 
-  pub edge-inclusive : (t : TextView) → get_or f p 0 ≡ 2 → read_at f Reader.text (p + 1) ≡ got (text_of f t) (drop (t.at + t.len) f) → read_at f Reader.edge p ≡ got (some (record { value = text_of f t; inclusive = true })) (drop (t.at + t.len) f)
+  pub edge-inclusive : (t : TextView) → get_or f p 0 ≡ 2 → read_at f Reader.text (p + 1) ≡ got (text_of f t) (drop (t.at + t.len) f) → read_at f Reader.edge p ≡ got (Some (record { value = text_of f t; inclusive = true })) (drop (t.at + t.len) f)
   unfolding Reader.edge Reader.edge_that read_at pure
   edge-inclusive t e g = kind-reads f edge_readers p x 2 e _ (t.at + t.len) (then-got f Reader.text _ (p + 1) (text_of f t) (t.at + t.len) g)
 
 -- a guide
 abbrev guide_readers : List (Reader (Option Guide))
-guide_readers = pure none ∷ Reader.guide_that ∷ []
+guide_readers = pure None ∷ Reader.guide_that ∷ []
 
 abbrev guide_made : File.FieldPath → ℕ → ℕ → File.Anchor → ℕ → Option Guide
-guide_made path n d a m = some (record { path = path; term = n; distance = d; anchor = a; node = m })
+guide_made path n d a m = Some (record { path = path; term = n; distance = d; anchor = a; node = m })
 
 abbrev guide_node : File.FieldPath → ℕ → ℕ → File.Anchor → Reader (Option Guide)
 guide_node path n d a = u16 >>= λ m. pure (guide_made path n d a m)
@@ -274,9 +274,9 @@ module _ (f : List ℕ) (p : ℕ) (x : Found f Reader.guide p) where
   unfolding Reader.guide
   guide-known = kind-known f guide_readers p x
 
-  pub guide-none : get_or f p 0 ≡ 0 → read_at f Reader.guide p ≡ got none (drop (p + 1) f)
+  pub guide-none : get_or f p 0 ≡ 0 → read_at f Reader.guide p ≡ got None (drop (p + 1) f)
   unfolding Reader.guide read_at pure
-  guide-none e = kind-reads f guide_readers p x 0 e none (p + 1) refl
+  guide-none e = kind-reads f guide_readers p x 0 e None (p + 1) refl
 
   pub guide-path : get_or f p 0 ≡ 1 → Found f Reader.path (p + 1)
   unfolding Reader.guide Reader.guide_that
@@ -297,7 +297,7 @@ module _ (f : List ℕ) (p : ℕ) (x : Found f Reader.guide p) where
     guide-anchor = fuzzy-known f (guide_node (path_at f (p + 1))) q guide-tail
 
     pub guide-some : (n d : ℕ) (a : Anchor) (m : ℕ) → n ≡ word f q → d ≡ get_or f (q + 2) 0 → a ≡ anchor_at (get_or f (q + 3) 0) → m ≡ word f (q + 4)
-        → read_at f Reader.guide p ≡ got (some (record { path = path_at f (p + 1); term = n; distance = d; anchor = anchor_of a; node = m })) (drop (q + 6) f)
+        → read_at f Reader.guide p ≡ got (Some (record { path = path_at f (p + 1); term = n; distance = d; anchor = anchor_of a; node = m })) (drop (q + 6) f)
     unfolding Reader.guide Reader.guide_that
     guide-some n d a m u v w y =
         let o : q + 4 + 2 ≡ q + 6 = omega arith in

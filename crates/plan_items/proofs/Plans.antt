@@ -12,7 +12,6 @@ use Rattle.rules.specs.Events.{Select, Diagnostic}
 use Rattle.rules.specs.Placement.{Part, Residual}
 use Rattle.rules.specs.Plan.{PlanLevel, Plan}
 use Rattle.file.specs.Steps.{word_limit, word, step_at}
-use Rattle.file.specs.declared.Step.{Step}
 use Rattle.file.proofs.Readers.{alike-step}
 use Rattle.file.proofs.Suffix.{Suffix, suffix-u16}
 use Rattle.plan_form.specs.Places.{plan_of, Opened, Found}
@@ -23,9 +22,13 @@ use Rattle.plan_form.proofs.Places.{ItemAt, ListAt, item-at, opened}
 use Rattle.plan_items.specs.Items.{items_at, list_of, list_view, past_of, plan_viewed, ListInside, PlanInside}
 use Rattle.plan_items.specs.declared.ListView.{ListView}
 use Rattle.plan_items.specs.declared.PlanView.{PlanView}
-use Rattle.plan_items.proofs.Founds.{found-one, items-are}
+use Rattle.plan_items.proofs.Founds.{unwrapped, found-one, items-are}
 use Rattle.plan_items.proofs.Leaves.{part-inside, residual-path, path-within}
 use Rattle.plan_items.proofs.Slots.{number-inside}
+use Rattle.std.specs.Prelude.{Result}
+use Rattle.std.specs.Result.{result_unwrap_or}
+use Rattle.file.specs.Refusals.{numbered}
+use Rattle.file.specs.declared.Refusal.{Refusal}
 
 -- the levels, from position 2 on
 module _ (f : List ℕ) (x : Opened f) where
@@ -53,20 +56,20 @@ module _ (f : List ℕ) (x : Opened f) (p : ℕ) where
   at-diagnostics h = omega (arith, (opened f x).diagnostics-at.inside)
 
 -- where the walk over the lists comes by
-module _ (f : List ℕ) (x : Opened f) (p : ℕ) (s : Step) (q : ℕ) (g : q ≡ past_of s) where
-  pub past-levels : p ≡ 0 → s ≡ step_at f (Reader.counted Reader.level) p → q ≡ (opened f x).bindings
-  past-levels h e = g ∙ ap past_of (e ∙ ap (step_at f (Reader.counted Reader.level)) h ∙ (opened f x).levels-end)
+module _ (f : List ℕ) (x : Opened f) (p : ℕ) (s : Result ℕ Refusal) (q : ℕ) (g : q ≡ result_unwrap_or s 0) where
+  pub past-levels : p ≡ 0 → numbered s ≡ step_at f (Reader.counted Reader.level) p → q ≡ (opened f x).bindings
+  past-levels h e = g ∙ unwrapped s ∙ ap past_of (e ∙ ap (step_at f (Reader.counted Reader.level)) h ∙ (opened f x).levels-end)
 
-  pub past-bindings : p ≡ (opened f x).bindings → s ≡ step_at f (Reader.counted (item_of 2)) p → q ≡ (opened f x).constrained
+  pub past-bindings : p ≡ (opened f x).bindings → numbered s ≡ step_at f (Reader.counted (item_of 2)) p → q ≡ (opened f x).constrained
   past-bindings h e =
-      g ∙ ap past_of (e ∙ sym (alike-step f (alike-counted alike-binding) p) ∙ ap (step_at f (Reader.counted Reader.binding)) h ∙ (opened f x).bindings-end)
+      g ∙ unwrapped s ∙ ap past_of (e ∙ sym (alike-step f (alike-counted alike-binding) p) ∙ ap (step_at f (Reader.counted Reader.binding)) h ∙ (opened f x).bindings-end)
 
-  pub past-constrained : p ≡ (opened f x).constrained → s ≡ step_at f (Reader.counted u16) p → q ≡ (opened f x).selects
-  past-constrained h e = g ∙ ap past_of (e ∙ ap (step_at f (Reader.counted u16)) h ∙ (opened f x).constrained-end)
+  pub past-constrained : p ≡ (opened f x).constrained → numbered s ≡ step_at f (Reader.counted u16) p → q ≡ (opened f x).selects
+  past-constrained h e = g ∙ unwrapped s ∙ ap past_of (e ∙ ap (step_at f (Reader.counted u16)) h ∙ (opened f x).constrained-end)
 
-  pub past-selects : p ≡ (opened f x).selects → s ≡ step_at f (Reader.counted (item_of 3)) p → q ≡ (opened f x).diagnostics
+  pub past-selects : p ≡ (opened f x).selects → numbered s ≡ step_at f (Reader.counted (item_of 3)) p → q ≡ (opened f x).diagnostics
   past-selects h e =
-      g ∙ ap past_of (e ∙ sym (alike-step f (alike-counted alike_select) p) ∙ ap (step_at f (Reader.counted Reader.select)) h ∙ (opened f x).selects-end)
+      g ∙ unwrapped s ∙ ap past_of (e ∙ sym (alike-step f (alike-counted alike_select) p) ∙ ap (step_at f (Reader.counted Reader.select)) h ∙ (opened f x).selects-end)
 
 -- a list by its view
 module _ {A : Type 0} (f : List ℕ) (r : Reader A) (q : ℕ) (xs : List A) (l : ListAt f r q xs) (p stop : ℕ) (h : p ≡ q) where

@@ -1,8 +1,9 @@
 -- Numbers, slots, new bindings, selects and diagnostics: what was found says how many bytes there are, and what they are read as.
+use Rattle.paths.specs.declared.PredicateId.{PredicateId}
 use Prim.Native.Nat.{ℕ, zero, suc, ◌+◌, ◌≤◌, ◌<◌}
 use mathlib.Core.Path.{◌≡◌, refl, sym, ap, ◌∙◌}
 use mathlib.Core.List.{List, [], ◌∷◌}
-use mathlib.Core.Option.{Option}
+use Rattle.std.specs.Prelude.{Option}
 use native.Mathlib.Omega.{arith}
 use lib.ListN.{length, get_or, drop}
 use Rattle.rules.specs.File.{Slot}
@@ -15,7 +16,6 @@ use Rattle.file.proofs.Readers.{refused-got, then-got, kind-in, needs-fixed, nee
 use Rattle.file.proofs.Leaves.{slot-fixed}
 use Rattle.file.proofs.Sections.{word_in, word-then}
 use Rattle.views.specs.Views.{long, path_at, or_none, predicate_maybe, predicate_option}
-use Rattle.views.specs.declared.MaybePredicate.{MaybePredicate}
 use Rattle.views.proofs.Runs.{needs-room, long-in, optional-in, one_in, two_in}
 use Rattle.views.proofs.Entries.{predicate-option}
 use Rattle.plan_form.specs.Places.{Found}
@@ -67,7 +67,7 @@ module _ (f : List ℕ) (p : ℕ) (x : Found f Reader.slot p) where
   unfolding Reader.slot
   row_room e = needs-room f 4 (p + 1) (omega arith) (needs-fixed 4 (slot-fixed 0 (omega arith) (λ z. omega arith))) (kind-then f slot_readers p x 0 e).reads
 
-  pub slot_row : (a : ℕ) (m : MaybePredicate) → get_or f p 0 ≡ 0 → a ≡ word f (p + 1) → m ≡ predicate_maybe (word f (p + 1 + 2)) → read_at f Reader.slot p ≡ got (Slot.Row a (predicate_option m)) (drop (p + 1 + 4) f)
+  pub slot_row : (a : ℕ) (m : Option PredicateId) → get_or f p 0 ≡ 0 → a ≡ word f (p + 1) → m ≡ predicate_maybe (word f (p + 1 + 2)) → read_at f Reader.slot p ≡ got (Slot.Row a (predicate_option m)) (drop (p + 1 + 4) f)
   unfolding Reader.slot row_slot read_at pure
   slot_row a m e u v =
       let h : p + 1 + 2 + 2 ≡ p + 1 + 4 = omega arith in

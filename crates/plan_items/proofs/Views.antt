@@ -1,4 +1,5 @@
 -- The whole view of each item is the one that specs/Views.antt names.
+use Rattle.paths.specs.declared.PredicateId.{PredicateId}
 use Prim.Native.Nat.{ℕ, ◌+◌, ◌*◌, ◌≤◌}
 use mathlib.Core.Path.{◌≡◌, sym, ap, ◌∙◌}
 use mathlib.Core.List.{List}
@@ -7,12 +8,10 @@ use Rattle.rules.specs.Read.{u16, many}
 use Rattle.rules.specs.Read.Read.{got}
 use Rattle.rules.specs.Reader as Reader
 use Rattle.file.specs.Steps.{word, read_at, step_at}
-use Rattle.file.specs.declared.Step.{Step}
 use Rattle.file.proofs.Readers.{alike-step, alike-many}
 use Rattle.file.proofs.Suffix.{suffix-many}
 use Rattle.views.specs.Views.{byte_at, long, past_path, anchor_at, predicate_maybe, slot_views, slot_view}
 use Rattle.views.specs.declared.Anchor.{Anchor}
-use Rattle.views.specs.declared.MaybePredicate.{MaybePredicate}
 use Rattle.views.specs.declared.SlotView.TheVariants as Sv
 use Rattle.views.specs.declared.TextView.{TextView}
 use Rattle.plan_form.specs.Pieces.{item_of}
@@ -20,7 +19,7 @@ use Rattle.plan_form.specs.Places.{Found}
 use Rattle.plan_form.proofs.Forward.{suffix-part, suffix-residual}
 use Rattle.plan_form.proofs.Lists.{alike-part, alike-residual, alike-binding, alike_select, alike-counted}
 use Rattle.plan_items.specs.Items.{items_at, list_view, past_of}
-use Rattle.plan_items.proofs.Founds.{found-past, items-read}
+use Rattle.plan_items.proofs.Founds.{unwrapped, found-past, items-read}
 use Rattle.plan_items.specs.Views.{text_view, past_text, key_items, no_key, key_item, part_item, edge_items}
 use Rattle.plan_items.specs.Views.{no_edge, edge_item, guide_that, guide_items, no_guide, guide_item}
 use Rattle.plan_items.specs.Views.{narrowing_items, no_narrowing, narrowing_item, residual_view, parts_past, residuals_past}
@@ -46,6 +45,10 @@ use Rattle.plan_items.specs.declared.BindingItem.{BindingItem}
 use Rattle.plan_items.specs.declared.SelectView.{SelectView}
 use Rattle.plan_items.specs.declared.DiagnosticView.{DiagnosticView}
 use Rattle.plan_items.specs.declared.PlanView.{PlanView}
+use Rattle.std.specs.Prelude.{Result, Option}
+use Rattle.std.specs.Result.{result_unwrap_or}
+use Rattle.file.specs.Refusals.{numbered}
+use Rattle.file.specs.declared.Refusal.{Refusal}
 
 -- a text, and an item that ends with it
 pub text-view : (f : List ℕ) (p n : ℕ) → n ≡ word f p → ◌≡◌ {A = TextView} (record { at = p + 2; len = n }) (text_view f p)
@@ -170,14 +173,14 @@ module _ (f : List ℕ) (p : ℕ) where
       ∙ ap (narrowing_item f) g)
 
 -- one item after another
-module _ (f : List ℕ) (n p : ℕ) (s : Step) (q : ℕ) (g : q ≡ past_of s) where
-  pub parts-past : s ≡ step_at f (many n (item_of 0)) p → q ≡ parts_past f n p
+module _ (f : List ℕ) (n p : ℕ) (s : Result ℕ Refusal) (q : ℕ) (g : q ≡ result_unwrap_or s 0) where
+  pub parts-past : numbered s ≡ step_at f (many n (item_of 0)) p → q ≡ parts_past f n p
   unfolding parts_past
-  parts-past e = g ∙ ap past_of (e ∙ sym (alike-step f (alike-many alike-part n) p))
+  parts-past e = g ∙ unwrapped s ∙ ap past_of (e ∙ sym (alike-step f (alike-many alike-part n) p))
 
-  pub residuals-past : s ≡ step_at f (many n (item_of 1)) p → q ≡ residuals_past f n p
+  pub residuals-past : numbered s ≡ step_at f (many n (item_of 1)) p → q ≡ residuals_past f n p
   unfolding residuals_past
-  residuals-past e = g ∙ ap past_of (e ∙ sym (alike-step f (alike-many alike-residual n) p))
+  residuals-past e = g ∙ unwrapped s ∙ ap past_of (e ∙ sym (alike-step f (alike-many alike-residual n) p))
 
 -- and what is read there
 module _ (f : List ℕ) (n p q : ℕ) (h : p ≤ length f) where
@@ -290,7 +293,7 @@ module _ (f : List ℕ) (p : ℕ) where
       ap {B = SlotItem} (λ (k : ℕ). record { slot = get_or (slot_views f (p + 1)) k (Sv.Const 0); end = get_or (slot_ends f (p + 1)) k 0 })
       (sym e)
 
-  pub row-view : (a : ℕ) (m : MaybePredicate) → get_or f p 0 ≡ 0 → a ≡ word f (p + 1) → m ≡ predicate_maybe (word f (p + 1 + 2))
+  pub row-view : (a : ℕ) (m : Option PredicateId) → get_or f p 0 ≡ 0 → a ≡ word f (p + 1) → m ≡ predicate_maybe (word f (p + 1 + 2))
       → ◌≡◌ {A = SlotItem} (record { slot = Sv.Row (record { 0 = a }) m; end = p + 1 + 4 }) (slot_item f p)
   row-view a m e u v = rw (u, v) (slot-chosen 0 e)
 
@@ -335,18 +338,18 @@ module _ (f : List ℕ) (p : ℕ) where
   diagnostic-view n e = ap {B = DiagnosticView} (λ (j : ℕ). record { node = j; code = get_or f (p + 2) 0; end = p + 3 }) e
 
 -- where the walk over the five lists comes by, by the readers' own names
-module _ (f : List ℕ) (p : ℕ) (s : Step) (q : ℕ) (g : q ≡ past_of s) where
-  pub levels-past : s ≡ step_at f (Reader.counted Reader.level) p → q ≡ past_of (step_at f (Reader.counted Reader.level) p)
-  levels-past e = g ∙ ap past_of e
+module _ (f : List ℕ) (p : ℕ) (s : Result ℕ Refusal) (q : ℕ) (g : q ≡ result_unwrap_or s 0) where
+  pub levels-past : numbered s ≡ step_at f (Reader.counted Reader.level) p → q ≡ past_of (step_at f (Reader.counted Reader.level) p)
+  levels-past e = g ∙ unwrapped s ∙ ap past_of e
 
-  pub bindings-past : s ≡ step_at f (Reader.counted (item_of 2)) p → q ≡ past_of (step_at f (Reader.counted Reader.binding) p)
-  bindings-past e = g ∙ ap past_of (e ∙ sym (alike-step f (alike-counted alike-binding) p))
+  pub bindings-past : numbered s ≡ step_at f (Reader.counted (item_of 2)) p → q ≡ past_of (step_at f (Reader.counted Reader.binding) p)
+  bindings-past e = g ∙ unwrapped s ∙ ap past_of (e ∙ sym (alike-step f (alike-counted alike-binding) p))
 
-  pub constrained-past : s ≡ step_at f (Reader.counted u16) p → q ≡ past_of (step_at f (Reader.counted u16) p)
-  constrained-past e = g ∙ ap past_of e
+  pub constrained-past : numbered s ≡ step_at f (Reader.counted u16) p → q ≡ past_of (step_at f (Reader.counted u16) p)
+  constrained-past e = g ∙ unwrapped s ∙ ap past_of e
 
-  pub selects-past : s ≡ step_at f (Reader.counted (item_of 3)) p → q ≡ past_of (step_at f (Reader.counted Reader.select) p)
-  selects-past e = g ∙ ap past_of (e ∙ sym (alike-step f (alike-counted alike_select) p))
+  pub selects-past : numbered s ≡ step_at f (Reader.counted (item_of 3)) p → q ≡ past_of (step_at f (Reader.counted Reader.select) p)
+  selects-past e = g ∙ unwrapped s ∙ ap past_of (e ∙ sym (alike-step f (alike-counted alike_select) p))
 
 module _ (f : List ℕ) where
   abbrev plan_made : ListView → ListView → ListView → ListView → ListView → PlanView

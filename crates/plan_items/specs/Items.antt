@@ -1,6 +1,5 @@
 -- Request [1]: what an item by value stands for in the plan f that it was found in, from the bytes where it points.
-use Rattle.std.specs.Prelude.{ℕ, ◌+◌, ◌-◌, ◌≤◌, ◌<◌, true, false, List, [], ◌∷◌, length, get_or}
-use Rattle.std.proofs.Math.Option.{Option, none, some}
+use Rattle.std.specs.Prelude.{ℕ, ◌+◌, ◌-◌, ◌≤◌, ◌<◌, true, false, List, [], ◌∷◌, length, get_or, Result, Ok, Err, Option, None, Some}
 use Rattle.rules.specs.Read.{Read, Reader, u16, many}
 use Rattle.rules.specs.Read.Read.{got, refused}
 use Rattle.rules.specs.Reader as Reader
@@ -9,8 +8,6 @@ use Rattle.rules.specs.Events.{Code, Select, Diagnostic, Narrowing}
 use Rattle.rules.specs.Placement.{SeekKeyPart, Part, Residual, Guide, RangeEdge, SeekKey}
 use Rattle.rules.specs.Plan.{PlanLevel, Plan}
 use Rattle.file.specs.Steps.{word_limit, word, read_at}
-use Rattle.file.specs.declared.Step.{Step}
-use Rattle.file.specs.declared.Step.TheVariants.{Next, Refused}
 use Rattle.views.specs.Views.{path_at, text_of, anchor_of, slot_viewed}
 use Rattle.views.specs.declared.SlotView.{SlotView}
 use Rattle.views.specs.declared.SlotView.TheVariants as Sv
@@ -51,9 +48,9 @@ abbrev pub list_view : List ℕ → ℕ → ℕ → ListView
 list_view f p stop = record { count = word f p; at = p + 2; end = stop }
 
 -- where a walk ended that met no fault
-abbrev pub past_of : Step → ℕ
-past_of (Next q) = q
-past_of (Refused x) = 0
+abbrev pub past_of : Result ℕ ℕ → ℕ
+past_of (Ok q) = q
+past_of (Err x) = 0
 
 abbrev pub key_of : List ℕ → PartView → SeekKeyPart
 key_of f (Pv.Bytes text) = SeekKeyPart.Bytes (text_of f text)
@@ -64,14 +61,14 @@ abbrev pub part_of : List ℕ → PartItem → Part
 part_of f v = record { key = key_of f v.part; node = v.node }
 
 abbrev pub edge_of : List ℕ → EdgeView → Option RangeEdge
-edge_of f Ev.Nothing = none
-edge_of f (Ev.Exclusive text) = some (record { value = text_of f text; inclusive = false })
-edge_of f (Ev.Inclusive text) = some (record { value = text_of f text; inclusive = true })
+edge_of f Ev.Nothing = None
+edge_of f (Ev.Exclusive text) = Some (record { value = text_of f text; inclusive = false })
+edge_of f (Ev.Inclusive text) = Some (record { value = text_of f text; inclusive = true })
 
 abbrev pub guide_of : List ℕ → GuideView → Option Guide
-guide_of f Gv.Nothing = none
+guide_of f Gv.Nothing = None
 guide_of f (Gv.Just path x distance a n) =
-    some (record { path = path_at f path; term = x; distance = distance; anchor = anchor_of a; node = n })
+    Some (record { path = path_at f path; term = x; distance = distance; anchor = anchor_of a; node = n })
 
 abbrev pub narrowing_of : List ℕ → NarrowingView → Narrowing
 narrowing_of f (Nv.Bytes text) = Narrowing.Bytes (text_of f text)

@@ -14,7 +14,7 @@ ghost use Rattle.paths.specs.Paths.{path_of, path_for};
 ghost use Rattle.views.specs.Views.{path_at, past_path, text_of, slot_viewed};
 ghost use Rattle.plan_form.specs.Places.{plan_of, Opened, Found};
 ghost use Rattle.plan_items.specs.Items.{items_at, list_of, key_of, part_of, edge_of, guide_of, narrowing_of, residual_of, seek_of, level_of};
-ghost use Rattle.plan_items.specs.Items.{binding_of, select_of, diagnostic_of, plan_viewed, past_of, list_view, SlotInside, PlanInside};
+ghost use Rattle.plan_items.specs.Items.{binding_of, select_of, diagnostic_of, plan_viewed, list_view, SlotInside, PlanInside};
 ghost use Rattle.plan_items.specs.Items.{TextInside, PartInside, EdgeInside, GuideInside, NarrowingInside, ResidualInside};
 ghost use Rattle.plan_items.specs.Items.{SeekInside, ListInside, LevelInside};
 ghost use Rattle.plan_items.specs.Views.{text_view, key_item, part_item, edge_item, guide_item, narrowing_item, residual_view};
@@ -22,7 +22,7 @@ ghost use Rattle.plan_items.specs.Views.{parts_past, residuals_past, prefix_item
 ghost use Rattle.plan_items.specs.Views.{residuals_view, words_view, level_view, field_item, slot_item, binding_item};
 ghost use Rattle.plan_items.specs.Views.{select_view, diagnostic_view, plan_view};
 
-use file::{Step, word_at};
+use file::word_at;
 use paths::{Address, FieldPath};
 use plan_form::{
     BINDINGS, PARTS, RESIDUALS, SELECTS, items_end, level_list_end, list_end, words_end,
@@ -409,16 +409,6 @@ pub fn residual_at(plan: &[u8], p: usize) -> ResidualView
     }
 }
 
-// Where what was read ends; what was found has no fault.
-fn past(step: Step) -> usize
-    ensures { result ≡ past_of step }
-{
-    match step {
-        Step::Next(q) => q,
-        Step::Refused(_) => 0,
-    }
-}
-
 // Where n parts from p on end.
 fn parts_past(plan: &[u8], n: usize, p: usize) -> usize
     requires { (p ≤ length plan.now) × Found plan.now (many n Reader.part) p }
@@ -426,7 +416,7 @@ fn parts_past(plan: &[u8], n: usize, p: usize) -> usize
         read_at bytes (many n Reader.part) p ≡ got (items_at bytes Reader.part n p) (drop result bytes) }
     ensures view { result ≡ parts_past plan.now n p }
 {
-    past(items_end(plan, PARTS, n, p))
+    items_end(plan, PARTS, n, p).unwrap_or(0)
 }
 
 // Where n residuals from p on end.
@@ -436,7 +426,7 @@ fn residuals_past(plan: &[u8], n: usize, p: usize) -> usize
         read_at bytes (many n Reader.residual) p ≡ got (items_at bytes Reader.residual n p) (drop result bytes) }
     ensures view { result ≡ residuals_past plan.now n p }
 {
-    past(items_end(plan, RESIDUALS, n, p))
+    items_end(plan, RESIDUALS, n, p).unwrap_or(0)
 }
 
 // What a Prefix seek of n parts holds, from p on.
@@ -719,10 +709,11 @@ pub fn open_plan(plan: &[u8]) -> PlanView
     ensures inside { PlanInside plan.now result }
     ensures view { result ≡ plan_view plan.now }
 {
-    let b = past(level_list_end(plan, 0));
-    let k = past(list_end(plan, BINDINGS, b));
-    let s = past(words_end(plan, k));
-    let d = past(list_end(plan, SELECTS, s));
+    // A plan that has its form met no fault: each of these is where a list ends.
+    let b = level_list_end(plan, 0).unwrap_or(0);
+    let k = list_end(plan, BINDINGS, b).unwrap_or(0);
+    let s = words_end(plan, k).unwrap_or(0);
+    let d = list_end(plan, SELECTS, s).unwrap_or(0);
     let levels = list_at(plan, 0, b);
     let bindings = list_at(plan, b, k);
     let constrained = list_at(plan, k, s);

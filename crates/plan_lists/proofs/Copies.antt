@@ -62,25 +62,33 @@ below width (suc m) end from w h e =
     let k : m ≡ suc m - 1 = omega arith in
     ap₂ (λ (i j : ℕ). slice i end w ++ backwards width j i w) (sym e) k
 
--- a copy of such a list that has come down to `end` with so many records left, and to p in the plan
+-- a copy of such a list after so many of its records, which has come down to `end`, and to p in the plan
 module _ (w plan₀ : List ℕ) (width n top at : ℕ) where
-  pub record CopyingDown (p end left : ℕ) (plan : List ℕ) : Type 0 where
+  pub record CopyingDown (p end done : ℕ) (plan : List ℕ) : Type 0 where
     pub near : p + end ≤ at + top
-    pub going : Going (backwards width n top w) at plan₀ (backwards width left end w) p plan
+    pub going : Going (backwards width n top w) at plan₀ (backwards width (n - done) end w) p plan
 
-  pub down-start : CopyingDown at top n plan₀
-  down-start = record { near = omega arith; going = going_start _ _ at plan₀ refl }
+  pub down-start : CopyingDown at top 0 plan₀
+  down-start =
+      let e : n ≡ n - 0 = omega arith in
+      record { near = omega arith; going = going_start _ _ at plan₀ (ap (λ (k : ℕ). backwards width k top w) e) }
 
-  pub down-more : (p end left : ℕ) (plan : List ℕ) → CopyingDown p end left plan → 0 < left → (from : ℕ) → from ≡ end - width → (q : ℕ) (plan₁ : List ℕ) → Wrote (slice from end w) p plan q plan₁ → length plan₁ ≡ length plan → CopyingDown q from (left - 1) plan₁
-  down-more p end left plan c h from e q plan₁ a l =
+  pub down-more : (p end done : ℕ) (plan : List ℕ) → CopyingDown p end done plan → done < n → (from : ℕ) → from ≡ end - width
+      → (q : ℕ) (plan₁ : List ℕ) → Wrote (slice from end w) p plan q plan₁ → length plan₁ ≡ length plan → CopyingDown q from (done + 1) plan₁
+  down-more p end done plan c h from e q plan₁ a l =
+      let k : n - done - 1 ≡ n - (done + 1) = omega arith in
       record {
         near = omega (arith, c.near, a.place, length-drop from (take end w), length-take end w);
-        going = going_more _ at plan₀ _ p plan c.going (slice from end w) (backwards width (left - 1) from w) (below width left end from w h e) q plan₁ a l;
+        going =
+            going_more _ at plan₀ _ p plan c.going (slice from end w) (backwards width (n - (done + 1)) from w)
+            (below width (n - done) end from w (omega arith) e ∙ ap (λ (k : ℕ). slice from end w ++ backwards width k from w) k) q plan₁ a l;
       }
 
-  pub down-end : (p end left : ℕ) (plan : List ℕ) → CopyingDown p end left plan → left ≡ 0 → Wrote (backwards width n top w) at plan₀ p plan
+  pub down-end : (p end done : ℕ) (plan : List ℕ) → CopyingDown p end done plan → n ≤ done → Wrote (backwards width n top w) at plan₀ p plan
   unfolding backwards
-  down-end p end left plan c e = going_end _ at plan₀ _ p plan c.going (ap (λ (k : ℕ). backwards width k end w) e)
+  down-end p end done plan c h =
+      let e : n - done ≡ 0 = omega arith in
+      going_end _ at plan₀ _ p plan c.going (ap (λ (k : ℕ). backwards width k end w) e)
 
 -- a list after its count
 put-after : (n at r far : ℕ) (run w w1 w2 : List ℕ) → length run ≤ far → w1 ≡ put w at (u16 n) → Wrote run (at + 2) w1 r w2 → Wrote (u16 n ++ run) at w r w2 × (r ≤ at + far + 2)

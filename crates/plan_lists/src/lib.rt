@@ -22,37 +22,24 @@ const SELECTS: usize = 16384;
 
 const DIAGNOSTICS: usize = 32768;
 
-fn least(a: usize, b: usize) -> usize
-    ensures { result ≡ min a b }
-{
-    if a < b { a } else { b }
-}
-
-// How far a place lies past another.
-fn past(a: usize, b: usize) -> usize
-    ensures { result ≡ a - b }
-{
-    if a < b { 0 } else { a - b }
-}
-
 // How many constrained names and how many diagnostics there are.
 fn names(e: Ends) -> usize
     ensures { (result ≡ constrained_count (ends_of e)) × (2 * result ≤ 16384) }
 {
-    past(CONSTRAINED, wide32(e.constrained)) / 2
+    CONSTRAINED.saturating_sub(wide32(e.constrained)) / 2
 }
 
 fn reports(e: Ends) -> usize
     ensures { (result ≡ diagnostic_count (ends_of e)) × (3 * result ≤ 32768) }
 {
-    past(DIAGNOSTICS, wide32(e.diagnostics)) / 3
+    DIAGNOSTICS.saturating_sub(wide32(e.diagnostics)) / 3
 }
 
 // How many bytes a list has.
 fn run_len(work: &[u8], from: usize, to: usize) -> usize
     ensures { (result ≡ length (slice from to work.now)) × (result ≤ to) }
 {
-    past(least(to, work.len()), from)
+    to.min(work.len()).saturating_sub(from)
 }
 
 // Copies a run, and gives where its copy ends.
@@ -60,13 +47,10 @@ pub fn copy_run(work: &[u8], from: usize, to: usize, plan: &mut [u8], at: usize)
     requires { at ≤ reach }
     ensures { Wrote (slice from to work.now) at plan.old result plan.new }
 {
-    let end = least(to, work.len());
     let mut p = at;
-    let mut i = from;
-    while i < end {
+    for i in from..to.min(work.len()) {
         put8(plan, p, work[i]);
         p += 1;
-        i += 1;
     }
     p
 }
@@ -78,12 +62,10 @@ fn copy_down(work: &[u8], width: usize, n: usize, top: usize, plan: &mut [u8], a
 {
     let mut p = at;
     let mut end = top;
-    let mut left = n;
-    while left > 0 {
-        let from = past(end, width);
+    for _ in 0..n {
+        let from = end.saturating_sub(width);
         p = copy_run(work, from, end, plan, p);
         end = from;
-        left -= 1;
     }
     p
 }

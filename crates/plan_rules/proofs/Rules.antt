@@ -3,9 +3,11 @@ use Prim.Native.Nat.{ℕ, ◌+◌, ◌-◌, ◌≤◌, ◌<◌}
 use mathlib.Core.Path.{◌≡◌, refl, sym, ap, ◌∙◌, subst}
 use mathlib.Core.Bool.{Bool, true, false}
 use mathlib.Core.List.{List, [], ◌∷◌, ◌++◌}
-use mathlib.Core.Option.{Option, none, some}
+use Rattle.std.specs.Prelude.{Option, None, Some}
 use native.Mathlib.Omega.{arith}
 use borrow.Author.Tests.{leb-true, le-leb, lt-leb}
+use types.Run.{OneOf, miss}
+use denote.Enum.Declared.{tag_of}
 use lib.Dec.{eqb}
 use lib.ListN.{length, drop}
 use Rattle.rules.specs.Base.{both, all, ◌when_some◌}
@@ -26,6 +28,9 @@ use Rattle.plan_form.specs.Places.{plan_of, Opened, Found}
 use Rattle.views.specs.declared.Anchor.{Anchor}
 use Rattle.plan_items.specs.Items.{items_at, edge_of, guide_of, seek_of, level_of, GuideInside, SeekInside, LevelInside}
 use Rattle.plan_items.specs.declared.EdgeView.{EdgeView}
+use Rattle.plan_items.specs.declared.EdgeView.TheVariants as Ev
+use Rattle.plan_items.specs.contracts.EdgeView as EdgeViews
+use Rattle.plan_items.specs.contracts.SeekView as SeekViews
 use Rattle.plan_items.specs.declared.SeekView.{SeekView}
 use Rattle.plan_items.specs.declared.SeekView.TheVariants as Kv
 use Rattle.plan_items.specs.declared.GuideView.{GuideView}
@@ -58,13 +63,13 @@ unfolding seek_keeps joined as_bytes ◌when_some◌
 composite-more a xs g e = key a.key e
   where
     chain : List ℕ → Option (List ℕ) → Option (List ℕ)
-    chain bytes o = o when_some λ rest. some (bytes ++ rest)
+    chain bytes o = o when_some λ rest. Some (bytes ++ rest)
 
-    go : (bytes : List ℕ) (o : Option (List ℕ)) → ◌≡◌ {A = Bool} (elim (chain bytes o) as (λ _. Bool) [ none ↦ true | some b ↦ false ]) (elim o as (λ _. Bool) [ none ↦ true | some b ↦ false ])
-    go bytes none = refl
-    go bytes (some b) = refl
+    go : (bytes : List ℕ) (o : Option (List ℕ)) → ◌≡◌ {A = Bool} (elim (chain bytes o) as (λ _. Bool) [ None ↦ true | Some b ↦ false ]) (elim o as (λ _. Bool) [ None ↦ true | Some b ↦ false ])
+    go bytes None = refl
+    go bytes (Some b) = refl
 
-    key : (k : SeekKeyPart) → is_bytes k ≡ true → ◌≡◌ {A = Bool} (elim (as_bytes k when_some λ bytes. chain bytes (joined xs)) as (λ _. Bool) [ none ↦ true | some b ↦ false ]) (Asks xs g)
+    key : (k : SeekKeyPart) → is_bytes k ≡ true → ◌≡◌ {A = Bool} (elim (as_bytes k when_some λ bytes. chain bytes (joined xs)) as (λ _. Bool) [ None ↦ true | Some b ↦ false ]) (Asks xs g)
     key (SeekKeyPart.Bytes bytes) e = go bytes (joined xs)
     key (SeekKeyPart.RegisterField b p) e = let z : ◌≡◌ {A = ℕ} 0 1 = cc in absurd (omega arith)
     key (SeekKeyPart.RegisterFactId b) e = let z : ◌≡◌ {A = ℕ} 0 1 = cc in absurd (omega arith)
@@ -73,7 +78,7 @@ composite-met : (a : Part) (xs : List Part) (g : Option Guide) → is_bytes a.ke
 unfolding seek_keeps joined as_bytes ◌when_some◌
 composite-met a xs g e = key a.key e
   where
-    key : (k : SeekKeyPart) → is_bytes k ≡ false → ◌≡◌ {A = Bool} (elim (as_bytes k when_some λ bytes. joined xs when_some λ rest. some (bytes ++ rest)) as (λ _. Bool) [ none ↦ true | some b ↦ false ]) true
+    key : (k : SeekKeyPart) → is_bytes k ≡ false → ◌≡◌ {A = Bool} (elim (as_bytes k when_some λ bytes. joined xs when_some λ rest. Some (bytes ++ rest)) as (λ _. Bool) [ None ↦ true | Some b ↦ false ]) true
     key (SeekKeyPart.Bytes bytes) e = let z : ◌≡◌ {A = ℕ} 0 1 = cc in absurd (omega arith)
     key (SeekKeyPart.RegisterField b p) e = refl
     key (SeekKeyPart.RegisterFactId b) e = refl
@@ -110,6 +115,16 @@ module _ (f : List ℕ) (n p left q : ℕ) (x : Bytes f n p left q) where
           empty : (l : List Part) → length l ≡ 0 → l ≡ []
           empty [] e = refl
           empty (a ∷ l) e = absurd (omega arith)
+
+-- the same by how many parts were passed
+pub bytes-first : (f : List ℕ) (n p : ℕ) → Found f (many n Reader.part) p → Bytes f n p (n - 0) p
+bytes-first f n p x = let e : n ≡ n - 0 = omega arith in subst (λ (k : ℕ). Bytes f n p k p) e (bytes-all f n p x)
+
+module _ (f : List ℕ) (n p i q : ℕ) (x : Bytes f n p (n - i) q) (h : i < n) where
+  pub bytes-step : (a : Part) (e : ℕ) → read_at f Reader.part q ≡ got a (drop e f) → is_bytes a.key ≡ true → Bytes f n p (n - (i + 1)) e
+  bytes-step a e r b =
+      let z : n - i - 1 ≡ n - (i + 1) = omega arith in
+      subst (λ (k : ℕ). Bytes f n p k e) z (bytes-more f n p (n - i) q x a e (omega arith) r b)
 
 -- PrefixRange: the guide's path beside the range's
 module _ (f : List ℕ) (p : ℕ) (guide : GuideView) (parts : List Part) (prefix : List ℕ) (node : ℕ) where
@@ -246,3 +261,33 @@ going_end f left q x h = ap (all level_rules) (sym (empty (items_at f Reader.lev
     empty : (l : List PlanLevel) → length l ≡ 0 → l ≡ []
     empty [] e = refl
     empty (a ∷ l) e = absurd (omega arith)
+
+-- the same by how many levels were passed
+pub going-start : (f : List ℕ) → Opened f → (n : ℕ) → n ≡ word f 0 → Going f (n - 0) 2
+going-start f x n e = let z : n ≡ n - 0 = omega arith in subst (λ (k : ℕ). Going f k 2) z (going-first f x n e)
+
+pub going-step : (f : List ℕ) (n i q : ℕ) → Going f (n - i) q → i < n → (l : PlanLevel) (e : ℕ) → read_at f Reader.level q ≡ got l (drop e f) → level_rules l ≡ true → Going f (n - (i + 1)) e
+going-step f n i q x h l e r k =
+    let z : n - i - 1 ≡ n - (i + 1) = omega arith in
+    subst (λ (j : ℕ). Going f j e) z (going_more f (n - i) q x (omega arith) l e r k)
+
+-- an edge, and the seeks that have no range or no edges
+pub edge-some : (f : List ℕ) (v : EdgeView) → OneOf (1 ∷ 2 ∷ []) (tag_of EdgeViews.the_type v) → 1 ≡ number (edge_of f v)
+unfolding number
+edge-some f Ev.Nothing w = absurd (miss (1 ∷ 2 ∷ []) 0 tt w)
+edge-some f (Ev.Exclusive t) w = refl
+edge-some f (Ev.Inclusive t) w = refl
+
+pub range-none : (f : List ℕ) (n : ℕ) (v : SeekView) → OneOf (0 ∷ 1 ∷ 3 ∷ []) (tag_of SeekViews.the_type v) → 0 ≡ number (seek_range (seek_of f n v))
+unfolding number seek_range
+range-none f n (Kv.Prefix t m) w = refl
+range-none f n (Kv.Composite p) w = refl
+range-none f n (Kv.PrefixRange p t q m) w = absurd (miss (0 ∷ 1 ∷ 3 ∷ []) 2 tt w)
+range-none f n (Kv.Bounded p lo hi) w = refl
+
+pub edges-none : (f : List ℕ) (n : ℕ) (v : SeekView) → OneOf (0 ∷ 1 ∷ 2 ∷ []) (tag_of SeekViews.the_type v) → 0 ≡ seek_edges (seek_of f n v)
+unfolding seek_edges
+edges-none f n (Kv.Prefix t m) w = refl
+edges-none f n (Kv.Composite p) w = refl
+edges-none f n (Kv.PrefixRange p t q m) w = refl
+edges-none f n (Kv.Bounded p lo hi) w = absurd (miss (0 ∷ 1 ∷ 2 ∷ []) 3 tt w)

@@ -1,8 +1,7 @@
 // The rules of 18, which every level of a plan keeps (request [1]). They are checked last: the plan was read whole before.
 #![tactic(auto)]
 
-ghost use Rattle.std.specs.Prelude.{◌≡◌, List, ℕ, ◌≤◌, ◌<◌};
-ghost use Rattle.std.proofs.Math.Option.{Option};
+ghost use Rattle.std.specs.Prelude.{◌≡◌, List, ℕ, ◌≤◌, ◌<◌, Option};
 ghost use Rattle.rules.specs.Base.{all};
 ghost use Rattle.rules.specs.Read.{many};
 ghost use Rattle.rules.specs.Placement.{Part, Guide, Range, SeekKey};
@@ -25,8 +24,7 @@ fn edge_number(edge: EdgeView) -> usize
 {
     match edge {
         EdgeView::Nothing => 0,
-        EdgeView::Exclusive(_) => 1,
-        EdgeView::Inclusive(_) => 1,
+        _ => 1,
     }
 }
 
@@ -47,10 +45,8 @@ fn range_number(seek: SeekView) -> usize
     ensures most { result ≤ 1 }
 {
     match seek {
-        SeekView::Prefix(_, _) => 0,
-        SeekView::Composite(_) => 0,
         SeekView::PrefixRange(_, _, _, _) => 1,
-        SeekView::Bounded(_, _, _) => 0,
+        _ => 0,
     }
 }
 
@@ -59,10 +55,8 @@ fn edges_number(seek: SeekView) -> usize
     ensures { (f : List ℕ) (n : ℕ) → result ≡ seek_edges (seek_of f n seek) }
 {
     match seek {
-        SeekView::Prefix(_, _) => 0,
-        SeekView::Composite(_) => 0,
-        SeekView::PrefixRange(_, _, _, _) => 0,
         SeekView::Bounded(_, lo, hi) => edge_number(lo) + edge_number(hi),
+        _ => 0,
     }
 }
 
@@ -99,11 +93,7 @@ fn edges_folded(level: LevelView) -> bool
 fn is_bytes(part: PartView) -> bool
     ensures { (f : List ℕ) → result ≡ is_bytes (key_of f part) }
 {
-    match part {
-        PartView::Bytes(_) => true,
-        PartView::RegisterField(_, _) => false,
-        PartView::RegisterFactId(_) => false,
-    }
+    matches!(part, PartView::Bytes(_))
 }
 
 // Composite is used only where some part isn't bytes: the n parts from p on.
@@ -114,15 +104,12 @@ fn composite_keeps(plan: &[u8], n: usize, p: usize) -> bool
         result ≡ seek_keeps (SeekKey.Composite parts) guide }
 {
     let mut q = p;
-    let mut left = n;
-    while left > 0 {
+    for _ in 0..n {
         let item = part_at(plan, q);
-        let part = item.part;
-        if !is_bytes(part) {
+        if !is_bytes(item.part) {
             return true;
         }
         q = item.end;
-        left -= 1;
     }
     false
 }
@@ -151,10 +138,7 @@ fn bounded_keeps(lo: EdgeView, hi: EdgeView, guide: GuideView) -> bool
     ensures { (f : List ℕ) (parts : List Part) →
         result ≡ seek_keeps (SeekKey.Bounded parts (edge_of f lo) (edge_of f hi)) (guide_of f guide) }
 {
-    if edge_number(lo) + edge_number(hi) < 1 {
-        return false;
-    }
-    guide_number(guide) == 0
+    edge_number(lo) + edge_number(hi) > 0 && guide_number(guide) == 0
 }
 
 // What a seek of each kind asks besides.
@@ -184,10 +168,7 @@ pub fn level_keeps(plan: &[u8], level: LevelView) -> bool
     if !narrowings_sum(level) {
         return false;
     }
-    if !edges_folded(level) {
-        return false;
-    }
-    seek_keeps(plan, level)
+    edges_folded(level) && seek_keeps(plan, level)
 }
 
 // Whether every level of the plan keeps the rules.
@@ -195,15 +176,13 @@ pub fn levels_keep(plan: &[u8]) -> bool
     requires { Opened plan.now }
     ensures { result ≡ all level_rules (plan_of plan.now).levels }
 {
-    let mut left = word_at(plan, 0);
     let mut p = 2;
-    while left > 0 {
+    for _ in 0..word_at(plan, 0) {
         let level = level_at(plan, p);
         if !level_keeps(plan, level) {
             return false;
         }
         p = level.end;
-        left -= 1;
     }
     true
 }

@@ -18,17 +18,19 @@ use Rattle.rules.specs.Reader as Reader
 use Rattle.rules.specs.Reader.{level_rules}
 use Rattle.rules.proofs.ReaderWrites.{Reading, whole, ends-or-unknown, reading}
 use Rattle.file.specs.Steps.{step_of, read_at, step_at}
-use Rattle.file.specs.declared.Step.TheVariants.{Next, Refused}
+use Rattle.std.specs.Prelude.{Result, Ok, Err}
+use Rattle.file.specs.Refusals.{number}
+use Rattle.file.specs.declared.Refusal.{Refusal}
+use Rattle.file.specs.declared.Refusal.TheVariants as Refusals
 use Rattle.file.proofs.Readers.{refused-got, refused-next}
 use Rattle.plan_form.specs.Places.{got_plan, plan_of, Opened}
 use Rattle.endings.specs.Endings.{ending_outcome}
-use Rattle.endings.specs.declared.Ending.TheVariants as Ends
 use Rattle.reader.specs.Copies.{number_of}
 
 got-injective : {A : Type 0} {a b : A} {l m : List ℕ} → got a l ≡ got b m → (a ≡ b) × (l ≡ m)
 got-injective e = (cc, cc)
 
-next-injective : {m n : ℕ} → Next m ≡ Next n → m ≡ n
+next-injective : {m n : ℕ} → ◌≡◌ {A = Result ℕ ℕ} (Ok m) (Ok n) → m ≡ n
 next-injective e = cc
 
 -- nothing is left of a plan that was read, and it is written as its bytes
@@ -43,7 +45,7 @@ module _ (f : List ℕ) (h : Each Byte f) where
     long : n ≡ length f
     same : plan_bytes (plan_of f) ≡ f
 
-  walked_by : (n : ℕ) (x : Read Plan) → Reader.plan f ≡ x → Next n ≡ step_of f x → Walked n
+  walked_by : (n : ℕ) (x : Read Plan) → Reader.plan f ≡ x → Ok n ≡ step_of f x → Walked n
   unfolding plan_of step_of Reader.read Reader.numbered
   walked_by n (got p rest) e q =
       let w = read_whole (reading f h) p rest (ap Reader.numbered e) in
@@ -55,18 +57,18 @@ module _ (f : List ℕ) (h : Each Byte f) where
       }
   walked_by n (refused m) e q = absurd (refused-next (sym q))
 
-  walked : (n : ℕ) → Next n ≡ step_at f Reader.plan 0 → Walked n
+  walked : (n : ℕ) → Ok n ≡ step_at f Reader.plan 0 → Walked n
   unfolding step_at read_at
   walked n q = walked_by n (Reader.plan f) refl q
 
-  pub opened : (n : ℕ) → Next n ≡ step_at f Reader.plan 0 → Opened f
+  pub opened : (n : ℕ) → Ok n ≡ step_at f Reader.plan 0 → Opened f
   unfolding Opened
   opened n q = (walked n q).reads
 
-  pub within : (n : ℕ) → Next n ≡ step_at f Reader.plan 0 → n ≤ length f
+  pub within : (n : ℕ) → Ok n ≡ step_at f Reader.plan 0 → n ≤ length f
   within n q = omega (arith, (walked n q).long)
 
-  judged-as : (n : ℕ) → Next n ≡ step_at f Reader.plan 0 → Reader.finished (Reader.read f) ≡ Reader.judged (plan_of f)
+  judged-as : (n : ℕ) → Ok n ≡ step_at f Reader.plan 0 → Reader.finished (Reader.read f) ≡ Reader.judged (plan_of f)
   unfolding Reader.finished Reader.read Reader.numbered
   judged-as n q = ap (λ (x : Read Plan). Reader.finished (Reader.numbered x)) (walked n q).reads
 
@@ -74,13 +76,13 @@ module _ (f : List ℕ) (h : Each Byte f) where
   unfolding Reader.judged
   judged-by b e = ap (λ (t : Bool). elim t as (λ _. Outcome) [ true ↦ Outcome.planned (plan_bytes (plan_of f)) | false ↦ Outcome.refused 18 ]) (sym e)
 
-  pub keeps : (n : ℕ) → Next n ≡ step_at f Reader.plan 0 → true ≡ all level_rules (plan_of f).levels → ending_outcome (Ends.Planned n) f ≡ Reader.finished (Reader.read f)
+  pub keeps : (n : ℕ) → Ok n ≡ step_at f Reader.plan 0 → true ≡ all level_rules (plan_of f).levels → ending_outcome (Ok n) f ≡ Reader.finished (Reader.read f)
   unfolding ending_outcome
   keeps n q b =
       let w = walked n q in
       ap Outcome.planned (ap (λ (k : ℕ). take k f) w.long ∙ take-length f ∙ sym w.same) ∙ sym (judged-as n q ∙ judged-by true b)
 
-  pub breaks : (n : ℕ) → Next n ≡ step_at f Reader.plan 0 → false ≡ all level_rules (plan_of f).levels → ending_outcome (Ends.Refused 18) f ≡ Reader.finished (Reader.read f)
+  pub breaks : (n : ℕ) → Ok n ≡ step_at f Reader.plan 0 → false ≡ all level_rules (plan_of f).levels → ending_outcome (Err Refusals.PlanRule) f ≡ Reader.finished (Reader.read f)
   unfolding ending_outcome
   breaks n q b = sym (judged-as n q ∙ judged-by false b)
 
@@ -98,13 +100,38 @@ unfolding Reader.finished
 numbered-by true = refl
 numbered-by false = refl
 
-refused-by : (f : List ℕ) (n : ℕ) (x : Read Plan) → Refused n ≡ step_of f x → Outcome.refused (number_of n) ≡ Reader.finished (Reader.numbered x)
+refused-by : (f : List ℕ) (n : ℕ) (x : Read Plan) → Err n ≡ step_of f x → Outcome.refused (number_of n) ≡ Reader.finished (Reader.numbered x)
 unfolding step_of Reader.numbered number_of
 refused-by f n (got p rest) e = absurd (refused-next e)
 refused-by f n (refused m) e =
     let is : n ≡ m = cc in
     ap (λ (k : ℕ). Outcome.refused (number_of k)) is ∙ numbered-by (eqb m 3)
 
-pub refuses : (f : List ℕ) (n m : ℕ) → Refused n ≡ step_at f Reader.plan 0 → m ≡ number_of n → (ending_outcome (Ends.Refused m) f ≡ Reader.finished (Reader.read f)) × Unit {0}
+pub refuses : (f : List ℕ) (n : ℕ) (m : Refusal) → Err n ≡ step_at f Reader.plan 0 → number m ≡ number_of n → (ending_outcome (Err m) f ≡ Reader.finished (Reader.read f)) × Unit {0}
 unfolding step_at read_at Reader.read ending_outcome
 refuses f n m e q = (ap Outcome.refused q ∙ refused-by f n (Reader.plan f) e, tt)
+
+-- 3 is the number of one refusal alone
+only-ends : (r : Refusal) → number r ≡ 3 → r ≡ Refusals.Ends
+only-ends Refusals.FileTooLong e = absurd (omega (arith, e))
+only-ends Refusals.WorkTooShort e = absurd (omega (arith, e))
+only-ends Refusals.Ends e = refl
+only-ends Refusals.Count e = absurd (omega (arith, e))
+only-ends Refusals.Kind e = absurd (omega (arith, e))
+only-ends Refusals.NameByte e = absurd (omega (arith, e))
+only-ends Refusals.Follows e = absurd (omega (arith, e))
+only-ends Refusals.Number e = absurd (omega (arith, e))
+only-ends Refusals.Child e = absurd (omega (arith, e))
+only-ends Refusals.Repeat e = absurd (omega (arith, e))
+only-ends Refusals.Depth e = absurd (omega (arith, e))
+only-ends Refusals.Shared e = absurd (omega (arith, e))
+only-ends Refusals.NotConstant e = absurd (omega (arith, e))
+only-ends Refusals.Path e = absurd (omega (arith, e))
+only-ends Refusals.PlanTooLong e = absurd (omega (arith, e))
+only-ends Refusals.PlanEnds e = absurd (omega (arith, e))
+only-ends Refusals.PlanByte e = absurd (omega (arith, e))
+only-ends Refusals.PlanRule e = absurd (omega (arith, e))
+only-ends Refusals.Literal e = absurd (omega (arith, e))
+
+pub not-ends : (r : Refusal) → (r ≡ Refusals.Ends → ⊥) → 17 ≡ number_of (number r)
+not-ends r h = other-fault (number r) (λ e. h (only-ends r e))

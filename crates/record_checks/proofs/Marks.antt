@@ -3,7 +3,7 @@ use Prim.Native.Nat.{ℕ, ◌+◌, ◌-◌, ◌<◌}
 use mathlib.Core.Path.{◌≡◌, refl, sym, ap, ap₂, ◌∙◌}
 use mathlib.Core.Bool.{Bool, true, false}
 use mathlib.Core.List.{List, [], ◌∷◌}
-use mathlib.Core.Option.{Option, none, some}
+use Rattle.std.specs.Prelude.{Option, None, Some}
 use mathlib.Core.Logic.{⊎_elim}
 use native.Mathlib.Omega.{arith}
 use lib.Dec.{eqb}
@@ -17,21 +17,21 @@ use Rattle.views.specs.Views.{run}
 use Rattle.record_checks.proofs.Every.{if-both, both-no}
 
 unfoldable pub absent : ℕ → List ℕ → Bool
-absent c l = elim (first (eqb c) l) [ none ↦ true | some y ↦ false ]
+absent c l = elim (first (eqb c) l) [ None ↦ true | Some y ↦ false ]
 
 pub distinct_cons : (c : ℕ) (l : List ℕ) → distinct (c ∷ l) ≡ both (absent c l) (distinct l)
 unfolding distinct absent
 distinct_cons c l = go (first (eqb c) l)
   where
-    go : (o : Option ℕ) → ◌≡◌ {A = Bool} (elim o as (λ _. Bool) [ none ↦ distinct l | some y ↦ false ]) (both (elim o as (λ _. Bool) [ none ↦ true | some y ↦ false ]) (distinct l))
-    go none = refl
-    go (some y) = refl
+    go : (o : Option ℕ) → ◌≡◌ {A = Bool} (elim o as (λ _. Bool) [ None ↦ distinct l | Some y ↦ false ]) (both (elim o as (λ _. Bool) [ None ↦ true | Some y ↦ false ]) (distinct l))
+    go None = refl
+    go (Some y) = refl
 
 pub absent-cons : (c d : ℕ) (l : List ℕ) → absent c (d ∷ l) ≡ elim (eqb c d) as (λ _. Bool) [ true ↦ false | false ↦ absent c l ]
 unfolding absent first
 absent-cons c d l = go (eqb c d)
   where
-    go : (b : Bool) → ◌≡◌ {A = Bool} (elim (elim b as (λ _. Option ℕ) [ true ↦ some d | false ↦ first (eqb c) l ]) as (λ _. Bool) [ none ↦ true | some y ↦ false ]) (elim b as (λ _. Bool) [ true ↦ false | false ↦ elim (first (eqb c) l) as (λ _. Bool) [ none ↦ true | some y ↦ false ] ])
+    go : (b : Bool) → ◌≡◌ {A = Bool} (elim (elim b as (λ _. Option ℕ) [ true ↦ Some d | false ↦ first (eqb c) l ]) as (λ _. Bool) [ None ↦ true | Some y ↦ false ]) (elim b as (λ _. Bool) [ true ↦ false | false ↦ elim (first (eqb c) l) as (λ _. Bool) [ None ↦ true | Some y ↦ false ] ])
     go true = refl
     go false = refl
 

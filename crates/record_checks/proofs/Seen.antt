@@ -1,4 +1,5 @@
 -- What a view gives to a check: the check of the table's entry by the view's parts.
+use Rattle.std.specs.Prelude.{Option}
 use Prim.Native.Nat.{ℕ, zero, suc, ◌+◌, ◌*◌, ◌-◌, ◌≤◌, ◌<◌}
 use mathlib.Core.Path.{◌≡◌, refl, sym, ap, ap₂, ◌∙◌, subst}
 use mathlib.Core.Bool.{Bool, true, false}
@@ -15,15 +16,17 @@ use Rattle.rules.specs.File.{Tables, Ty, Node, Slot, type_at, predicate_at, node
 use Rattle.rules.specs.Checks.{is_name, is_type, is_predicate, is_node, none_or, type_in, predicate_in, node_in, slot_in, binding_in, hoisted_in, constraint_in, comparison_in, level_in, numbers_in, type_distinct, types_distinct}
 use Rattle.rules.proofs.Cases.{both-unit}
 use Rattle.file.specs.Steps.{word}
-use Rattle.views.specs.Views.{size_of, run, long, field_at, alternative_at, pattern_at, type_of, node_of, slot_viewed, predicate_of, type_option, predicate_option, SeenType, SeenNode, SeenBinding, binding_at, hoisted_at, constraint_at, comparison_at, level_entry_at}
+use Rattle.views.specs.Views.{size_of, run, long, field_at, alternative_at, pattern_at, type_of, node_of, slot_viewed, predicate_of, predicate_option, SeenType, SeenNode, SeenBinding, binding_at, hoisted_at, constraint_at, comparison_at, level_entry_at}
 use Rattle.views.specs.declared.TypeView.{TypeView}
+use Rattle.views.specs.declared.TypeView.TheVariants as Tv
 use Rattle.views.specs.declared.NodeView.{NodeView}
+use Rattle.views.specs.declared.NodeView.TheVariants as Nv
 use Rattle.views.specs.declared.SlotView.{SlotView}
 use Rattle.views.specs.declared.SlotView.TheVariants as Sv
-use Rattle.views.specs.declared.MaybePredicate.{MaybePredicate}
 use Rattle.paths.specs.declared.Address.{Address}
+use Rattle.paths.specs.declared.PredicateId.{PredicateId}
+use Rattle.views.specs.declared.Anchor.{Anchor}
 use Rattle.views.specs.declared.BindingView.{BindingView}
-use Rattle.views.specs.declared.MaybeType.{MaybeType}
 use Rattle.views.specs.declared.Predicate.{Predicate}
 use Rattle.record_checks.specs.RecordChecks.{Words, pairs_in, record_in, section_in, record_lower, section_lower}
 use Rattle.record_checks.proofs.Every.{every, all_from-every, all-every, pairs-law, run-map}
@@ -82,12 +85,12 @@ below_as e g h k = ap₂ both (ap₂ ltb e g) (ap₂ ltb h k)
 module _ (T : Tables) where
   pub predicate-no : (v : Predicate) (p : File.Predicate) → predicate_of v ≡ p → length T.types ≤ v.key → false ≡ predicate_in T p
   unfolding predicate_in is_type
-  predicate-no v p e h = sym (ap (λ (q : File.Predicate). predicate_in T q) (sym e) ∙ ap (λ (b : Bool). both b (none_or (is_type T) (type_option v.value))) (le-ltb _ _ h))
+  predicate-no v p e h = sym (ap (λ (q : File.Predicate). predicate_in T q) (sym e) ∙ ap (λ (b : Bool). both b (none_or (is_type T) (v.value))) (le-ltb _ _ h))
 
-  pub predicate-yes : (v : Predicate) (p : File.Predicate) (o : MaybeType) (b : Bool) → predicate_of v ≡ p → v.key < length T.types → v.value ≡ o → b ≡ none_or (is_type T) (type_option o) → b ≡ predicate_in T p
+  pub predicate-yes : (v : Predicate) (p : File.Predicate) (o : Option ℕ) (b : Bool) → predicate_of v ≡ p → v.key < length T.types → v.value ≡ o → b ≡ none_or (is_type T) (o) → b ≡ predicate_in T p
   unfolding predicate_in is_type
   predicate-yes v p o b e h g k =
-      k ∙ ap (λ (u : MaybeType). none_or (is_type T) (type_option u)) (sym g) ∙ sym (ap (λ (c : Bool). both c (none_or (is_type T) (type_option v.value))) (lt-ltb _ _ h)) ∙ ap (λ (q : File.Predicate). predicate_in T q) e
+      k ∙ ap (λ (u : Option ℕ). none_or (is_type T) (u)) (sym g) ∙ sym (ap (λ (c : Bool). both c (none_or (is_type T) (v.value))) (lt-ltb _ _ h)) ∙ ap (λ (q : File.Predicate). predicate_in T q) e
 
 module _ (T : Tables) (f : List ℕ) (b : File.Binding) (v : BindingView) (s : SeenBinding f b v) where
   pub binding-no : length T.names ≤ v.name → false ≡ binding_in T b
@@ -174,9 +177,9 @@ child-lower c n = go (ltb c n)
     go false = refl
 
 -- a Row's predicate
-pub row_in : (T : Tables) (f : List ℕ) (b : File.Binding) (v : BindingView) (a : Address) (p o : MaybePredicate) → SeenBinding f b v → v.slot ≡ Sv.Row a p → p ≡ o → none_or (is_predicate T) (predicate_option o) ≡ slot_in T b.slot
+pub row_in : (T : Tables) (f : List ℕ) (b : File.Binding) (v : BindingView) (a : Address) (p o : Option PredicateId) → SeenBinding f b v → v.slot ≡ Sv.Row a p → p ≡ o → none_or (is_predicate T) (predicate_option o) ≡ slot_in T b.slot
 unfolding slot_in
-row_in T f b v a p o s e g = ap (λ (u : MaybePredicate). none_or (is_predicate T) (predicate_option u)) (sym g) ∙ by-slot (slot_in T) s e
+row_in T f b v a p o s e g = ap (λ (u : Option PredicateId). none_or (is_predicate T) (predicate_option u)) (sym g) ∙ by-slot (slot_in T) s e
 
 -- a record of section s
 module _ (T : Tables) (s t k : ℕ) (e : s ≡ k) where
@@ -214,3 +217,71 @@ lower-rest T (suc (suc (suc (suc s)))) t n1 n3 = refl
 -- a loop over n numbers begins
 pub every-start : (q : ℕ → Bool) (n m : ℕ) → m ≡ n → every q n 0 ≡ every q (m - 0) 0
 every-start q n m e = let g : n ≡ m - 0 = omega arith in ap (λ (k : ℕ). every q k 0) g
+
+-- a view of none of the variants that its match names
+module _ {X : Type 0} (F : Ty → X) (f : List ℕ) (x : X) where
+  pub type-rest : (v : TypeView) → ((n at : ℕ) → v ≡ Tv.Record n at → ⊥) → ((n at : ℕ) → v ≡ Tv.Union n at → ⊥)
+      → x ≡ F Ty.Int → x ≡ F Ty.Str → x ≡ F Ty.Bytes → ((p : ℕ) → x ≡ F (Ty.Fact p)) → x ≡ F (type_of f v)
+  type-rest Tv.Int r u i s b g = i
+  type-rest Tv.Str r u i s b g = s
+  type-rest Tv.Bytes r u i s b g = b
+  type-rest (Tv.Fact p) r u i s b g = g p.0
+  type-rest (Tv.Record n at) r u i s b g = absurd (r n at refl)
+  type-rest (Tv.Union n at) r u i s b g = absurd (u n at refl)
+
+module _ (T : Tables) (f : List ℕ) where
+  pub type-in-rest : (v : TypeView) → ((p : PredicateId) → v ≡ Tv.Fact p → ⊥) → ((n at : ℕ) → v ≡ Tv.Record n at → ⊥) → ((n at : ℕ) → v ≡ Tv.Union n at → ⊥)
+      → true ≡ type_in T (type_of f v)
+  unfolding type_in
+  type-in-rest Tv.Int p r u = refl
+  type-in-rest Tv.Str p r u = refl
+  type-in-rest Tv.Bytes p r u = refl
+  type-in-rest (Tv.Fact q) p r u = absurd (p q refl)
+  type-in-rest (Tv.Record n at) p r u = absurd (r n at refl)
+  type-in-rest (Tv.Union n at) p r u = absurd (u n at refl)
+
+  pub node-in-rest : (v : NodeView) → ((x : ℕ) → v ≡ Nv.Str x → ⊥) → ((x : ℕ) → v ≡ Nv.Var x → ⊥) → ((x : ℕ) → v ≡ Nv.Prefix x → ⊥)
+      → ((x d : ℕ) (a : Anchor) → v ≡ Nv.Fuzzy x d a → ⊥) → ((n at : ℕ) → v ≡ Nv.Record n at → ⊥) → ((x n : ℕ) → v ≡ Nv.Access x n → ⊥)
+      → ((n : ℕ) → v ≡ Nv.Value n → ⊥) → ((x n : ℕ) → v ≡ Nv.Select x n → ⊥) → ((p : PredicateId) (n : ℕ) → v ≡ Nv.Fact p n → ⊥)
+      → true ≡ node_in T (node_of f v)
+  unfolding node_in
+  node-in-rest (Nv.Int at) s x p z r a n c k = refl
+  node-in-rest (Nv.Str y) s x p z r a n c k = absurd (s y refl)
+  node-in-rest (Nv.Bytes n' at) s x p z r a n c k = refl
+  node-in-rest (Nv.Var y) s x p z r a n c k = absurd (x y refl)
+  node-in-rest Nv.Wildcard s x p z r a n c k = refl
+  node-in-rest Nv.Never s x p z r a n c k = refl
+  node-in-rest (Nv.Prefix y) s x p z r a n c k = absurd (p y refl)
+  node-in-rest (Nv.Fuzzy y d v) s x p z r a n c k = absurd (z y d v refl)
+  node-in-rest (Nv.Record m at) s x p z r a n c k = absurd (r m at refl)
+  node-in-rest (Nv.Access y m) s x p z r a n c k = absurd (a y m refl)
+  node-in-rest (Nv.Value m) s x p z r a n c k = absurd (n m refl)
+  node-in-rest (Nv.Select y m) s x p z r a n c k = absurd (c y m refl)
+  node-in-rest Nv.Disjunction s x p z r a n c k = refl
+  node-in-rest Nv.Subquery s x p z r a n c k = refl
+  node-in-rest (Nv.Fact q m) s x p z r a n c k = absurd (k q m refl)
+  node-in-rest Nv.Arith s x p z r a n c k = refl
+  node-in-rest Nv.Error s x p z r a n c k = refl
+
+  -- a node of none of the variants that have children
+  pub node-rest : (v : NodeView) → ((n at : ℕ) → v ≡ Nv.Record n at → ⊥) → ((x n : ℕ) → v ≡ Nv.Access x n → ⊥)
+      → ((n : ℕ) → v ≡ Nv.Value n → ⊥) → ((x n : ℕ) → v ≡ Nv.Select x n → ⊥) → ((p : PredicateId) (n : ℕ) → v ≡ Nv.Fact p n → ⊥)
+      → child_nodes (node_of f v) ≡ []
+  unfolding child_nodes
+  node-rest (Nv.Int at) r a n c k = refl
+  node-rest (Nv.Str y) r a n c k = refl
+  node-rest (Nv.Bytes n' at) r a n c k = refl
+  node-rest (Nv.Var y) r a n c k = refl
+  node-rest Nv.Wildcard r a n c k = refl
+  node-rest Nv.Never r a n c k = refl
+  node-rest (Nv.Prefix y) r a n c k = refl
+  node-rest (Nv.Fuzzy y d v) r a n c k = refl
+  node-rest (Nv.Record m at) r a n c k = absurd (r m at refl)
+  node-rest (Nv.Access y m) r a n c k = absurd (a y m refl)
+  node-rest (Nv.Value m) r a n c k = absurd (n m refl)
+  node-rest (Nv.Select y m) r a n c k = absurd (c y m refl)
+  node-rest Nv.Disjunction r a n c k = refl
+  node-rest Nv.Subquery r a n c k = refl
+  node-rest (Nv.Fact q m) r a n c k = absurd (k q m refl)
+  node-rest Nv.Arith r a n c k = refl
+  node-rest Nv.Error r a n c k = refl

@@ -1,6 +1,5 @@
 -- The checks 8 to 10 in the steps that the code takes.
-use Rattle.std.specs.Prelude.{ℕ, ◌+◌, ◌*◌, ◌≤◌, Bool, true, false, List, [], ◌∷◌, length, get_or, eqb, ltb}
-use Rattle.std.proofs.Math.Option.{none, some}
+use Rattle.std.specs.Prelude.{ℕ, ◌+◌, ◌*◌, ◌≤◌, Bool, true, false, List, [], ◌∷◌, length, get_or, eqb, ltb, None, Some}
 use Rattle.rules.specs.Base.{both, all, all_from, first}
 use Rattle.rules.specs.Limits.{file_limit}
 use Rattle.rules.specs.File.{Tables, type_at, predicate_at, node_at, child_types, child_nodes}
@@ -27,7 +26,7 @@ number_at f true p = long f p
 number_at f false p = word f p
 
 unfoldable pub among : ℕ → List ℕ → Bool
-among x l = elim (first (eqb x) l) [ none ↦ false | some y ↦ true ]
+among x l = elim (first (eqb x) l) [ None ↦ false | Some y ↦ true ]
 
 -- the numbers rise, the first of them past x
 unfoldable pub rising : ℕ → List ℕ → Bool

@@ -16,8 +16,8 @@ use file::{
 };
 use paths::PredicateId;
 use views::{
-    MaybePredicate, MaybeType, NodeView, SlotView, TypeView, binding_at, comparison_at,
-    constraint_at, count_of, hoisted_at, level_at, long_at, node_at, predicate_at, type_at,
+    NodeView, SlotView, TypeView, binding_at, comparison_at, constraint_at, count_of, hoisted_at,
+    level_at, long_at, node_at, predicate_at, type_at,
 };
 
 // Whether each of n two-byte numbers is below the bound; the first stands at p, each next one w bytes on. 8 and 9 both ask this.
@@ -25,16 +25,7 @@ pub fn words_below(file: &[u8], w: usize, n: usize, p: usize, bound: usize) -> b
     requires { Words file.now 2 w n p }
     ensures { result ≡ all (λ c. ltb c bound) (run (word file.now) w n p) }
 {
-    let mut left = n;
-    let mut q = p;
-    while left > 0 {
-        if word_at(file, q) >= bound {
-            return false;
-        }
-        q += w;
-        left -= 1;
-    }
-    true
+    (0..n).all(|k| word_at(file, p + w * k) < bound)
 }
 
 // 8: whether n pairs name only numbers below their bounds. The first pair's name stands at p, each next one w bytes on; the other number
@@ -52,10 +43,7 @@ fn pairs_in(
     requires words_2 { Words file.now 2 w n (p + behind) }
     ensures { result ≡ pairs_in file.now w n p names behind bound }
 {
-    if !words_below(file, w, n, p, names) {
-        return false;
-    }
-    words_below(file, w, n, p + behind, bound)
+    words_below(file, w, n, p, names) && words_below(file, w, n, p + behind, bound)
 }
 
 // 8: the names, types and predicate that a type has.
@@ -68,12 +56,10 @@ fn type_in(file: &[u8], index: &[u16], t: usize) -> bool
     let names = count_of(file, index, NAMES);
     let types = count_of(file, index, TYPES);
     match type_at(file, index, t) {
-        TypeView::Int => true,
-        TypeView::Str => true,
-        TypeView::Bytes => true,
         TypeView::Fact(p) => wide16(p.0) < count_of(file, index, PREDICATES),
         TypeView::Record(n, at) => pairs_in(file, 4, n, at, names, 2, types),
         TypeView::Union(n, at) => pairs_in(file, 8, n, at, names, 6, types),
+        _ => true,
     }
 }
 
@@ -89,10 +75,9 @@ fn predicate_in(file: &[u8], index: &[u16], t: usize) -> bool
     if p.key >= types {
         return false;
     }
-    let value = p.value;
-    match value {
-        MaybeType::Nothing => true,
-        MaybeType::Just(v) => v < types,
+    match p.value {
+        None => true,
+        Some(v) => v < types,
     }
 }
 
@@ -106,28 +91,18 @@ fn node_in(file: &[u8], index: &[u16], n: usize) -> bool
     let names = count_of(file, index, NAMES);
     let nodes = count_of(file, index, NODES);
     match node_at(file, index, n) {
-        NodeView::Int(_) => true,
-        NodeView::Str(x) => x < names,
-        NodeView::Bytes(_, _) => true,
-        NodeView::Var(x) => x < names,
-        NodeView::Wildcard => true,
-        NodeView::Never => true,
-        NodeView::Prefix(x) => x < names,
+        NodeView::Str(x) | NodeView::Var(x) | NodeView::Prefix(x) => x < names,
         NodeView::Fuzzy(x, _, _) => x < names,
         NodeView::Record(m, at) => pairs_in(file, 4, m, at, names, 2, nodes),
-        NodeView::Access(x, c) => both_below(x, names, c, nodes),
+        NodeView::Access(x, c) | NodeView::Select(x, c) => both_below(x, names, c, nodes),
         NodeView::Value(c) => c < nodes,
-        NodeView::Select(x, c) => both_below(x, names, c, nodes),
-        NodeView::Disjunction => true,
-        NodeView::Subquery => true,
         NodeView::Fact(p, c) => both_below(
             wide16(p.0),
             count_of(file, index, PREDICATES),
             c,
             nodes,
         ),
-        NodeView::Arith => true,
-        NodeView::Error => true,
+        _ => true,
     }
 }
 
@@ -135,10 +110,7 @@ fn node_in(file: &[u8], index: &[u16], n: usize) -> bool
 fn both_below(a: usize, m: usize, b: usize, n: usize) -> bool
     ensures { result ≡ both (ltb a m) (ltb b n) }
 {
-    if a >= m {
-        return false;
-    }
-    b < n
+    a < m && b < n
 }
 
 // 8: the name of a binding, and the number in its slot.
@@ -156,13 +128,12 @@ fn binding_in(file: &[u8], index: &[u16], b: usize) -> bool
     let slot = v.slot;
     match slot {
         SlotView::Row(_, p) => match p {
-            MaybePredicate::Nothing => true,
-            MaybePredicate::Just(q) => wide16(q.0) < count_of(file, index, PREDICATES),
+            None => true,
+            Some(q) => wide16(q.0) < count_of(file, index, PREDICATES),
         },
-        SlotView::Key(_, t) => t < types,
+        SlotView::Key(_, t) | SlotView::Value(_, t) => t < types,
         SlotView::Derived(_) => true,
         SlotView::Field(_, _, t) => t < types,
-        SlotView::Value(_, t) => t < types,
         SlotView::Const(n) => n < count_of(file, index, NODES),
     }
 }
@@ -257,15 +228,7 @@ fn records_in(file: &[u8], index: &[u16], s: usize) -> bool
     requires s_lt_section_count { s < section_count }
     ensures { result ≡ section_in (tables_of file.now) s }
 {
-    let n = count_of(file, index, s);
-    let mut t = 0;
-    while t < n {
-        if !record_in(file, index, s, t) {
-            return false;
-        }
-        t += 1;
-    }
-    true
+    (0..count_of(file, index, s)).all(|t| record_in(file, index, s, t))
 }
 
 // 8: whether every number is below its section's count.
@@ -273,14 +236,7 @@ pub fn numbers_in(file: &[u8], index: &[u16]) -> bool
     requires { Indexed file.now index.now }
     ensures { result ≡ numbers_in (tables_of file.now) }
 {
-    let mut s = 0;
-    while s < SECTIONS {
-        if !records_in(file, index, s) {
-            return false;
-        }
-        s += 1;
-    }
-    true
+    (0..SECTIONS).all(|s| records_in(file, index, s))
 }
 
 // 9: the children of type t.
@@ -290,12 +246,9 @@ fn type_lower(file: &[u8], index: &[u16], t: usize) -> bool
     ensures { result ≡ all (λ c. ltb c t) (child_types (type_at (tables_of file.now) t)) }
 {
     match type_at(file, index, t) {
-        TypeView::Int => true,
-        TypeView::Str => true,
-        TypeView::Bytes => true,
-        TypeView::Fact(_) => true,
         TypeView::Record(n, at) => words_below(file, 4, n, at + 2, t),
         TypeView::Union(n, at) => words_below(file, 8, n, at + 6, t),
+        _ => true,
     }
 }
 
@@ -306,23 +259,11 @@ fn node_lower(file: &[u8], index: &[u16], n: usize) -> bool
     ensures { result ≡ all (λ c. ltb c n) (child_nodes (node_at (tables_of file.now) n)) }
 {
     match node_at(file, index, n) {
-        NodeView::Int(_) => true,
-        NodeView::Str(_) => true,
-        NodeView::Bytes(_, _) => true,
-        NodeView::Var(_) => true,
-        NodeView::Wildcard => true,
-        NodeView::Never => true,
-        NodeView::Prefix(_) => true,
-        NodeView::Fuzzy(_, _, _) => true,
         NodeView::Record(m, at) => words_below(file, 4, m, at + 2, n),
-        NodeView::Access(_, c) => c < n,
+        NodeView::Access(_, c) | NodeView::Select(_, c) => c < n,
         NodeView::Value(c) => c < n,
-        NodeView::Select(_, c) => c < n,
-        NodeView::Disjunction => true,
-        NodeView::Subquery => true,
         NodeView::Fact(_, c) => c < n,
-        NodeView::Arith => true,
-        NodeView::Error => true,
+        _ => true,
     }
 }
 
@@ -345,15 +286,7 @@ fn records_lower(file: &[u8], index: &[u16], s: usize) -> bool
     requires s_lt_section_count { s < section_count }
     ensures { result ≡ section_lower (tables_of file.now) s }
 {
-    let n = count_of(file, index, s);
-    let mut t = 0;
-    while t < n {
-        if !record_lower(file, index, s, t) {
-            return false;
-        }
-        t += 1;
-    }
-    true
+    (0..count_of(file, index, s)).all(|t| record_lower(file, index, s, t))
 }
 
 // 9: whether every child is lower than its parent.
@@ -361,10 +294,7 @@ pub fn children_lower(file: &[u8], index: &[u16]) -> bool
     requires { Indexed file.now index.now }
     ensures { result ≡ children_lower (tables_of file.now) }
 {
-    if !records_lower(file, index, TYPES) {
-        return false;
-    }
-    records_lower(file, index, NODES)
+    records_lower(file, index, TYPES) && records_lower(file, index, NODES)
 }
 
 // The number at p: four bytes if it is long, as a disc is, else two, as a name is.
@@ -384,16 +314,7 @@ fn is_among(file: &[u8], long: bool, w: usize, n: usize, p: usize, x: u32) -> bo
     requires { Words file.now 4 w n p }
     ensures { result ≡ among x (run (number_at file.now long) w n p) }
 {
-    let mut left = n;
-    let mut q = p;
-    while left > 0 {
-        if number_at(file, long, q) == x {
-            return true;
-        }
-        q += w;
-        left -= 1;
-    }
-    false
+    (0..n).any(|k| number_at(file, long, p + w * k) == x)
 }
 
 // Whether n numbers rise, the first of them past x.
@@ -402,16 +323,12 @@ fn is_rising(file: &[u8], long: bool, w: usize, n: usize, p: usize, x: u32) -> b
     ensures { result ≡ rising x (run (number_at file.now long) w n p) }
 {
     let mut last = x;
-    let mut left = n;
-    let mut q = p;
-    while left > 0 {
-        let y = number_at(file, long, q);
+    for k in 0..n {
+        let y = number_at(file, long, p + w * k);
         if y <= last {
             return false;
         }
         last = y;
-        q += w;
-        left -= 1;
     }
     true
 }
@@ -427,14 +344,11 @@ fn all_distinct(file: &[u8], long: bool, w: usize, n: usize, p: usize) -> bool
     if is_rising(file, long, w, n - 1, p + w, number_at(file, long, p)) {
         return true;
     }
-    let mut left = n;
-    let mut q = p;
-    while left > 0 {
-        if is_among(file, long, w, left - 1, q + w, number_at(file, long, q)) {
+    for k in 0..n {
+        let q = p + w * k;
+        if is_among(file, long, w, n - k - 1, q + w, number_at(file, long, q)) {
             return false;
         }
-        q += w;
-        left -= 1;
     }
     true
 }
@@ -446,10 +360,8 @@ fn names_distinct(file: &[u8], w: usize, n: usize, p: usize) -> bool
     ensures { result ≡ distinct (run (word file.now) w n p) }
 {
     let mut marks = [0u8; NAME_LIMIT];
-    let mut left = n;
-    let mut q = p;
-    while left > 0 {
-        let x = word_at(file, q);
+    for k in 0..n {
+        let x = word_at(file, p + w * k);
         if x >= NAME_LIMIT {
             return all_distinct(file, false, w, n, p);
         }
@@ -457,8 +369,6 @@ fn names_distinct(file: &[u8], w: usize, n: usize, p: usize) -> bool
             return false;
         }
         marks[x] = 1;
-        q += w;
-        left -= 1;
     }
     true
 }
@@ -470,17 +380,11 @@ fn type_distinct(file: &[u8], index: &[u16], t: usize) -> bool
     ensures { result ≡ type_distinct (type_at (tables_of file.now) t) }
 {
     match type_at(file, index, t) {
-        TypeView::Int => true,
-        TypeView::Str => true,
-        TypeView::Bytes => true,
-        TypeView::Fact(_) => true,
         TypeView::Record(n, at) => names_distinct(file, 4, n, at),
         TypeView::Union(n, at) => {
-            if !names_distinct(file, 8, n, at) {
-                return false;
-            }
-            all_distinct(file, true, 8, n, at + 2)
+            names_distinct(file, 8, n, at) && all_distinct(file, true, 8, n, at + 2)
         }
+        _ => true,
     }
 }
 
@@ -489,13 +393,5 @@ pub fn types_distinct(file: &[u8], index: &[u16]) -> bool
     requires { Indexed file.now index.now }
     ensures { result ≡ types_distinct (tables_of file.now) }
 {
-    let n = count_of(file, index, TYPES);
-    let mut t = 0;
-    while t < n {
-        if !type_distinct(file, index, t) {
-            return false;
-        }
-        t += 1;
-    }
-    true
+    (0..count_of(file, index, TYPES)).all(|t| type_distinct(file, index, t))
 }

@@ -12,26 +12,25 @@ use Rattle.rules.specs.File as File
 use Rattle.rules.specs.Limits.{step_limit}
 use Rattle.rules.specs.Plan as Plan
 use Rattle.rules.specs.Plan.{u16, u32}
+use Rattle.rules.proofs.Cases.{by_order}
 use Rattle.paths.specs.Paths.{path_of}
 use Rattle.paths.specs.declared.FieldPath.{FieldPath}
 use Rattle.records.specs.Records.{put, cut}
 use Rattle.records.proofs.Stores.{put-none, put-append, next}
 
 -- a count past the steps counts them all
-pub all-steps : (p : FieldPath) → length p.steps ≡ step_limit → step_limit < p.count → path_of (record { steps = p.steps; count = step_limit; field = p.field }) ≡ path_of p
-unfolding path_of
-all-steps p l h =
-    ap (λ (s : List ℕ). record { field = p.field; steps = s })
-    (take_all step_limit p.steps (omega arith) ∙ sym (take_all p.count p.steps (omega arith)))
+module _ (p : FieldPath) (n : ℕ) (h : n ≡ min p.count step_limit) where
+  pub cut_path : length p.steps ≡ step_limit → path_of (record { steps = p.steps; count = n; field = p.field }) ≡ path_of p
+  unfolding path_of
+  cut_path l =
+      ap (λ (s : List ℕ). record { field = p.field; steps = s })
+      (by_order step_limit p.count
+      (λ g. take_all n p.steps (omega arith) ∙ sym (take_all p.count p.steps (omega arith)))
+      (λ g. ap (λ (k : ℕ). take k p.steps) (let e : n ≡ p.count = omega arith in e)))
 
--- a count cut to the steps, by whether it is more
-pub cut-less : (p : FieldPath) → p.count ≤ step_limit → p ≡ cut p
-unfolding cut
-cut-less p h = ap (λ (n : ℕ). record { steps = p.steps; count = n; field = p.field }) (let e : p.count ≡ min step_limit p.count = omega arith in e)
-
-pub cut-more : (p : FieldPath) → step_limit < p.count → record { steps = p.steps; count = step_limit; field = p.field } ≡ cut p
-unfolding cut
-cut-more p h = ap (λ (n : ℕ). record { steps = p.steps; count = n; field = p.field }) (let e : step_limit ≡ min step_limit p.count = omega arith in e)
+  pub is_cut : record { steps = p.steps; count = n; field = p.field } ≡ cut p
+  unfolding cut
+  is_cut = ap (λ (k : ℕ). record { steps = p.steps; count = k; field = p.field }) (let e : n ≡ min step_limit p.count = omega arith in e)
 
 pub steps-size : (s : List ℕ) → length (concat_map u32 s) ≡ 4 * length s
 unfolding concat_map u32

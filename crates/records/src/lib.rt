@@ -2,7 +2,7 @@
 // has to show that there is room.
 #![tactic(auto)]
 
-ghost use Rattle.std.specs.Prelude.{◌≡◌, true, false, List, [], ◌∷◌, ◌++◌, ℕ, ◌+◌, ◌*◌, ◌≤◌, ◌<◌, length, get_or};
+ghost use Rattle.std.specs.Prelude.{◌≡◌, true, false, [], ◌∷◌, ◌++◌, ℕ, ◌+◌, ◌*◌, ◌≤◌, ◌<◌, length, get_or};
 ghost use Rattle.rules.specs.Limits.{step_limit};
 ghost use Rattle.rules.specs.Constant.{union_tag};
 ghost use Rattle.rules.specs.Events.{Narrowing};
@@ -49,10 +49,9 @@ pub fn word_in(bytes: &[u8], p: usize) -> usize
 pub fn put8(buf: &mut [u8], at: usize, b: u8)
     ensures { buf.new ≡ put buf.old at (b ∷ []) }
 {
-    if buf.len() <= at {
-        return;
+    if at < buf.len() {
+        buf[at] = b;
     }
-    buf[at] = b;
 }
 
 // Writes a number as two bytes, the lower first.
@@ -91,11 +90,8 @@ pub fn put_tag(buf: &mut [u8], at: usize, disc: u32)
 pub fn within(p: FieldPath) -> FieldPath
     ensures { (path_of result ≡ path_of p) × (result.count ≤ step_limit) × (result ≡ cut p) }
 {
-    if p.count as usize <= FieldPath::STEP_LIMIT {
-        return p;
-    }
     let mut q = p;
-    q.count = FieldPath::STEP_LIMIT as u16;
+    q.count = p.count.min(FieldPath::STEP_LIMIT as u16);
     q
 }
 
@@ -115,13 +111,10 @@ pub fn put_path(buf: &mut [u8], at: usize, p: FieldPath) -> usize
 {
     let q = within(p);
     let n = q.count as usize;
-    let steps = q.steps;
     put16(buf, at, wide16(q.field));
     put8(buf, at + 2, n as u8);
-    let mut i: usize = 0;
-    while i < n {
-        put32(buf, at + 3 + 4 * i, steps[i]);
-        i += 1;
+    for i in 0..n {
+        put32(buf, at + 3 + 4 * i, q.steps[i]);
     }
     at + 3 + 4 * n
 }

@@ -57,14 +57,8 @@ fn replay(text: &[u8]) -> Tally
         compared: 0,
         different: 0,
     };
-    let mut at = 0;
-    while at < text.len() {
-        let e = find(text, at, text.len(), b'\n');
-        t = count(&text[at..e], t);
-        if e == text.len() {
-            return t;
-        }
-        at = e + 1;
+    for line in text.split(|b| *b == b'\n') {
+        t = count(line, t);
     }
     t
 }

@@ -1,10 +1,11 @@
 -- One read of a variable: `resolve` looks the variable up, and reads the field past a reference.
+use Rattle.slots.specs.declared.Slot.{Slot}
 use Prim.Native.Nat.{ℕ}
 use mathlib.Core.Path.{◌≡◌, refl, sym, ap, ◌∙◌}
-use mathlib.Core.Bool.{Bool, true, false}
+use mathlib.Core.Bool.{false}
 use mathlib.Core.List.{List, []}
 use mathlib.Core.Logic.{⊎_elim}
-use mathlib.Core.Option.{Option}
+use Rattle.std.specs.Prelude.{Option, Some}
 use lib.ListN.{length}
 use Rattle.rules.specs.File as File
 use Rattle.rules.specs.File.{Tables, Node, node_at, constant_of, constants, is_constant}
@@ -20,8 +21,7 @@ use Rattle.lists.specs.Lists.{state_with}
 use Rattle.lists.specs.declared.Lists.{Lists}
 use Rattle.views.specs.Views.{node_of, SeenNode}
 use Rattle.views.specs.declared.NodeView.{NodeView}
-use Rattle.slots.specs.Slots.{maybe, slot_of, IsSlot, TidyRoom}
-use Rattle.slots.specs.declared.MaybeSlot.{MaybeSlot}
+use Rattle.slots.specs.Slots.{slot_option, IsSlot, TidyRoom}
 use Rattle.slots.proofs.Tidy.{tidy-there}
 use Rattle.resolve.specs.Resolved.{answer_with, Answers, Follows, base_of, field_past, leaf_slot}
 use Rattle.resolve.specs.declared.Answer.{Answer}
@@ -55,7 +55,7 @@ module _ (T : Tables) (k : Passed T) where
         resolve-other T (nodes-lower T k) node s (inconstant node (Node.Access x n) a refl) ∙ ap (λ (m : Node). stepped node m s) a
         ∙ ap (λ (r : ResolveRules.Answer State). follow r (field_past T node x)) (looked-up s)
 
-    module _ {l : Lists} {w : List ℕ} {found : MaybeSlot} (h : (level : Level) (target : Target) (plan : List ℕ) → IsSlot ((ops T).lookup (state_with l level target w plan) y) found) where
+    module _ {l : Lists} {w : List ℕ} {found : Option Slot} (h : (level : Level) (target : Target) (plan : List ℕ) → IsSlot ((ops T).lookup (state_with l level target w plan) y) found) where
       pub read_is : {r : Answer} {w' : List ℕ} → Follows (field_past T node x) (answer_with found l) w r w' → Answers (resolve (ops T) T node) l w r w'
       read_is {r} {w'} g =
           record {
@@ -66,7 +66,7 @@ module _ (T : Tables) (k : Passed T) where
           }
 
 -- what a lookup found has room
-pub lookup-room : (T : Tables) (y : ℕ) (l : Lists) (w : List ℕ) {found : MaybeSlot} → ((level : Level) (target : Target) (plan : List ℕ) → IsSlot ((ops T).lookup (state_with l level target w plan) y) found) → found.some ≡ true → TidyRoom T found.slot
+pub lookup-room : (T : Tables) (y : ℕ) (l : Lists) (w : List ℕ) {found : Option Slot} → ((level : Level) (target : Target) (plan : List ℕ) → IsSlot ((ops T).lookup (state_with l level target w plan) y) found) → {slot : Slot} → found ≡ Some slot → TidyRoom T slot
 lookup-room T y l w {found} h e =
     let s = h new_level no_target [] in
-    record { room = fitting-room T _ _ (sym s.is ∙ ap (λ (b : Bool). maybe b (slot_of found.slot)) e); tidy = tidy-there found s.tidy e }
+    record { room = fitting-room T _ _ (sym s.is ∙ ap slot_option e); tidy = tidy-there s.tidy e }

@@ -1,7 +1,7 @@
 -- Every slot that a read gives has room for the steps below its type.
 use mathlib.Core.Bool.{true}
 use mathlib.Core.List.{List}
-use mathlib.Core.Option.{Option, none, some}
+use Rattle.std.specs.Prelude.{Option, None, Some}
 use mathlib.Core.Path.{◌≡◌, refl, sym, ap, ◌∙◌, subst}
 use mathlib.Core.Logic.{⊎_elim}
 use Prim.Native.Nat.{ℕ, zero, suc, ◌<◌}
@@ -37,20 +37,20 @@ tested-room T (Slot.Field a p t) h = record { known = ltb-lt _ _ (both_left (is_
 tested-room T (Slot.Value a t) h = tt
 tested-room T (Slot.Const n) h = tt
 
-pub fitting-room : (T : Tables) (o : Option Slot) (s : Slot) → State.checked_slot T o ≡ some s → SlotRoom T s
+pub fitting-room : (T : Tables) (o : Option Slot) (s : Slot) → State.checked_slot T o ≡ Some s → SlotRoom T s
 unfolding State.checked_slot
-fitting-room T none s e = absurd (some≢none s (sym e))
-fitting-room T (some slot) s e =
-    by-test (λ (r : Option Slot). r ≡ some s → SlotRoom T s) (State.roomy T slot) (λ q r. subst (SlotRoom T) (some-injective slot s r) (tested-room T slot q)) (λ q r. absurd (some≢none s (sym r))) e
+fitting-room T None s e = absurd (some≢none s (sym e))
+fitting-room T (Some slot) s e =
+    by-test (λ (r : Option Slot). r ≡ Some s → SlotRoom T s) (State.roomy T slot) (λ q r. subst (SlotRoom T) (some-injective slot s r) (tested-room T slot q)) (λ q r. absurd (some≢none s (sym r))) e
 
 module _ {T : Tables} (W : Sound T) where
   -- a type past the last has neither fields nor alternatives
-  has-fields : (t x : ℕ) (f : FieldAt) → field_of (type_at T t) x ≡ some f → t < length T.types
+  has-fields : (t x : ℕ) (f : FieldAt) → field_of (type_at T t) x ≡ Some f → t < length T.types
   unfolding type_at field_of record_ty ◌when_some◌
   has-fields t x f e =
       ⊎_elim (λ h. h) (λ h. absurd (some≢none f (sym e ∙ ap (λ (ty : Ty). field_of ty x) (get_or-eq_default T.types Ty.Int h)))) (lt-or-le t (length T.types))
 
-  field-of : (t x : ℕ) (f : FieldAt) → field_of (type_at T t) x ≡ some f → Child T t f.type
+  field-of : (t x : ℕ) (f : FieldAt) → field_of (type_at T t) x ≡ Some f → Child T t f.type
   field-of t x f e = field-child (Child T t) (type_at T t) x f (W.children t (has-fields t x f e)) e
 
   room-field : (i t c : ℕ) → Child T t c → PathRoom T (field_path i) c
@@ -59,21 +59,21 @@ module _ {T : Tables} (W : Sound T) where
   room-then : (p : FieldPath) (i t c : ℕ) → PathRoom T p t → Child T t c → PathRoom T (then p i) c
   room-then p i t c r h = let f = fits-then T W p i t c (record { in-types = r.known; short = r.short }) h in record { known = f.in-types; short = f.short }
 
-  pub alternative-child : (t x : ℕ) (alts : List Alternative) (alt : Alternative) → t < length T.types → union_ty (type_at T t) ≡ some alts → alternative_of alts x ≡ some alt → Child T t alt.type
+  pub alternative-child : (t x : ℕ) (alts : List Alternative) (alt : Alternative) → t < length T.types → union_ty (type_at T t) ≡ Some alts → alternative_of alts x ≡ Some alt → Child T t alt.type
   unfolding alternative_of
   alternative-child t x alts alt h e g = each_first _ (union-children (Child T t) (type_at T t) alts (W.children t h) e) alt g
 
   -- a union with an alternative is at least two deep, so its path has room for a step
-  pub union-room : (p : FieldPath) (t x : ℕ) (alts : List Alternative) (alt : Alternative) → PathRoom T p t → union_ty (type_at T t) ≡ some alts → alternative_of alts x ≡ some alt → length p.steps < step_limit
+  pub union-room : (p : FieldPath) (t x : ℕ) (alts : List Alternative) (alt : Alternative) → PathRoom T p t → union_ty (type_at T t) ≡ Some alts → alternative_of alts x ≡ Some alt → length p.steps < step_limit
   union-room p t x alts alt r e g = let c = alternative-child t x alts alt r.known e g in holds-further _ _ r.short _ (W.positive alt.type c.in-types) c.less-deep
 
   abbrev Given : Option Slot → Type 0
-  Given o = (s : Slot) → o ≡ some s → SlotRoom T s
+  Given o = (s : Slot) → o ≡ Some s → SlotRoom T s
 
-  given-none : Given none
+  given-none : Given None
   given-none s e = absurd (some≢none s (sym e))
 
-  given-some : (s : Slot) → SlotRoom T s → Given (some s)
+  given-some : (s : Slot) → SlotRoom T s → Given (Some s)
   given-some s r s' e = subst (SlotRoom T) (some-injective s s' e) r
 
   given-field : (a : ℕ) (place : ℕ → FieldPath) (t x : ℕ) → ((f : FieldAt) → Child T t f.type → PathRoom T (place f.index) f.type) → Given (slot_at a place (field_of (type_at T t) x))
@@ -117,8 +117,8 @@ module _ {T : Tables} (W : Sound T) where
 
     fetched-row : (n p : ℕ) (register : Option ℕ) (w : S) → Gives (fetched_row o T n p register w)
     unfolding fetched_row
-    fetched-row n p none w = refuses n Code.NyiFactField w
-    fetched-row n p (some r) w = gives _ w (given-some (Slot.Row r (some p)) tt)
+    fetched-row n p None w = refuses n Code.NyiFactField w
+    fetched-row n p (Some r) w = gives _ w (given-some (Slot.Row r (Some p)) tt)
 
     dereference-room : (n : ℕ) (s : Slot) (w : S) → SlotRoom T s → Gives (dereference o T n s w)
     unfolding dereference
@@ -161,10 +161,10 @@ module _ {T : Tables} (W : Sound T) where
     value_room (Slot.Value a t) w = gives _ w given-none
     value_room (Slot.Const c) w = gives _ w given-none
 
-    selected-room : (a : ℕ) (path : FieldPath) (t : ℕ) (alt : Option Alternative) (w : S) → PathRoom T path t → ((x : Alternative) → alt ≡ some x → Child T t x.type) → Gives (selected o T a path alt w)
+    selected-room : (a : ℕ) (path : FieldPath) (t : ℕ) (alt : Option Alternative) (w : S) → PathRoom T path t → ((x : Alternative) → alt ≡ Some x → Child T t x.type) → Gives (selected o T a path alt w)
     unfolding selected payload
-    selected-room a path t none w r c = gives _ w given-none
-    selected-room a path t (some alt) w r c = given-some _ (room-then path alt.disc t alt.type r (c alt refl))
+    selected-room a path t None w r c = gives _ w given-none
+    selected-room a path t (Some alt) w r c = given-some _ (room-then path alt.disc t alt.type r (c alt refl))
 
     select-room : (n : ℕ) (s : Slot) (x : ℕ) (w : S) → SlotRoom T s → Gives (select_slot o T n s x w)
     unfolding select_slot

@@ -1,7 +1,7 @@
 -- `resolve` by one step: a base is lower than its access, so the bound on the depth is never met.
 use mathlib.Core.Bool.{Bool, true, false}
 use mathlib.Core.List.{[]}
-use mathlib.Core.Option.{none, some}
+use Rattle.std.specs.Prelude.{None, Some}
 use mathlib.Core.Path.{◌≡◌, refl, sym, ap, ◌∙◌}
 use mathlib.Core.Logic.{⊎_elim}
 use Prim.Native.Nat.{ℕ, zero, suc, ◌≤◌, ◌<◌}
@@ -47,13 +47,13 @@ module _ {S : Type 0} (o : Ops S) (T : Tables) where
   node-same f g n Node.Error w h = refl
 
   abbrev step_of : Bool → (ℕ → Resolver S) → ℕ → Node → Resolver S
-  step_of constant below n node = elim constant [ true ↦ give (some (Slot.Const n)) | false ↦ resolve_node o T below n node ]
+  step_of constant below n node = elim constant [ true ↦ give (Some (Slot.Const n)) | false ↦ resolve_node o T below n node ]
 
   abbrev pub step : (ℕ → Resolver S) → ℕ → Resolver S
   step below n = step_of (is_constant T n) below n (node_at T n)
 
   -- past the last node there is nothing
-  past : (n : ℕ) → length T.nodes ≤ n → (f : ℕ → Resolver S) (w : S) → step f n w ≡ give none w
+  past : (n : ℕ) → length T.nodes ≤ n → (f : ℕ → Resolver S) (w : S) → step f n w ≡ give None w
   unfolding is_constant node_at resolve_node
   past n h f w =
       let g : length (constants T) ≤ n = omega (arith, constants-length T) in
@@ -61,7 +61,7 @@ module _ {S : Type 0} (o : Ops S) (T : Tables) where
       let e : node_at T n ≡ Node.Error = get_or-eq_default T.nodes Node.Error h in
       ap (λ (b : Bool). step_of b f n (node_at T n) w) c ∙ ap (λ (x : Node). resolve_node o T f n x w) e
 
-  past-below : (l n : ℕ) → length T.nodes ≤ n → (w : S) → resolve_below o T l n w ≡ give none w
+  past-below : (l n : ℕ) → length T.nodes ≤ n → (w : S) → resolve_below o T l n w ≡ give None w
   unfolding resolve_below
   past-below zero n h w = refl
   past-below (suc l) n h w = past n h (resolve_below o T l) w

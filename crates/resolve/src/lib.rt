@@ -1,8 +1,7 @@
 // Where a pattern's value lives: its slot, with the selects and diagnostics that the read adds.
 #![tactic(auto)]
 
-ghost use Rattle.std.specs.Prelude.{◌≡◌, List, ℕ, ◌≤◌, ◌<◌, length, take};
-ghost use Rattle.std.proofs.Math.Option.{some};
+ghost use Rattle.std.specs.Prelude.{◌≡◌, List, ℕ, ◌≤◌, ◌<◌, length, take, Some, None};
 ghost use Rattle.std.proofs.lemmas.List.Edits.{sets};
 ghost use Rattle.rules.specs.Limits.{step_limit};
 ghost use Rattle.rules.specs.File as File;
@@ -24,22 +23,21 @@ ghost use Rattle.resolve.specs.Resolved.{base_of, read_past, field_past, value_p
 ghost use Rattle.resolve.specs.Chains.{read_of, chain, bottom, read_up, climb};
 
 use fields::{
-    MaybeAddress, MaybeName, fact_ty, fetched_register, folded_slot, hoisted_name, key_field,
-    path_field, row_field, row_value,
+    fact_ty, fetched_register, folded_slot, hoisted_name, key_field, path_field, row_field,
+    row_value,
 };
-use file::{NODES, wide16};
+use file::{NODE_LIMIT, NODES, wide16};
 use lists::{Code, Lists, lookup, report, select};
 use paths::{Address, FieldPath, PredicateId};
 use records::within;
-use slots::{MaybeSlot, Slot, SlotKind, just, nothing};
-use tables::{MaybeAlternative, Run, alternative_of, is_constant, union_ty};
-use views::{MaybePredicate, NodeView, count_of, node_of};
+use slots::{Slot, SlotKind};
+use tables::{alternative_of, is_constant, union_ty};
+use views::{Alternative, NodeView, count_of, node_of};
 
 // A slot, if the read gives one, and the lists with what it added.
 #[derive(Clone, Copy)]
 pub struct Answer {
-    pub some: bool,
-    pub slot: Slot,
+    pub slot: Option<Slot>,
     pub lists: Lists,
 }
 
@@ -51,12 +49,6 @@ pub enum Read {
     Select(usize),
 }
 
-#[derive(Clone, Copy)]
-pub enum Base {
-    Nothing,
-    Just(Read, usize),
-}
-
 // How many nodes of a chain of reads were passed, and the node below them.
 #[derive(Clone, Copy)]
 pub struct Chain {
@@ -64,16 +56,14 @@ pub struct Chain {
     pub node: usize,
 }
 
+// How many nodes of a chain the trail of nearly every read has room for.
+pub const SHORT_TRAIL: usize = 8;
+
 // The answer of a read that adds nothing to the lists.
-pub fn gives(found: MaybeSlot, lists: Lists) -> Answer
+pub fn gives(found: Option<Slot>, lists: Lists) -> Answer
     ensures { result ≡ answer_with found lists }
 {
-    let slot = found.slot;
-    Answer {
-        some: found.some,
-        slot,
-        lists,
-    }
+    Answer { slot: found, lists }
 }
 
 // The answer of a read that gives no slot: a diagnostic says why.
@@ -83,7 +73,7 @@ pub fn declined(work: &mut [u8], node: usize, code: Code, lists: Lists) -> Answe
         ((T : Tables) → Answers (ResolveRules.declined (ops T) T node (code_of code)) lists before result after) }
 {
     let l = report(work, lists, node, code);
-    gives(nothing(), l)
+    gives(None, l)
 }
 
 // A reference that was followed, as the row it names.
@@ -91,19 +81,18 @@ fn fetched_row(
     work: &mut [u8],
     node: usize,
     predicate: PredicateId,
-    register: MaybeAddress,
+    register: Option<Address>,
     lists: Lists,
 ) -> Answer
     ensures { let before = work.old in
         let after = work.new in
-        ((T : Tables) → Answers (ResolveRules.fetched_row (ops T) T node predicate.0 (address_option register)) lists before result after) }
+        ((T : Tables) →
+        let row = ResolveRules.fetched_row (ops T) T node predicate.0 (address_option register) in
+        Answers row lists before result after) }
 {
     match register {
-        MaybeAddress::Nothing => declined(work, node, Code::NyiFactField, lists),
-        MaybeAddress::Just(a) => gives(
-            just(Slot::plain(SlotKind::Row(a, MaybePredicate::Just(predicate)))),
-            lists,
-        ),
+        None => declined(work, node, Code::NyiFactField, lists),
+        Some(a) => gives(Some(Slot::plain(SlotKind::Row(a, Some(predicate)))), lists),
     }
 }
 
@@ -125,8 +114,8 @@ fn dereference_field(
         Answers (ResolveRules.dereference (ops T) T node (File.Slot.Field address.0 (path_of path) ty)) lists before result after }
 {
     match fact_ty(file, index, ty) {
-        MaybePredicate::Nothing => gives(just(Slot::field(address, path, ty)), lists),
-        MaybePredicate::Just(p) => fetched_row(
+        None => gives(Some(Slot::field(address, path, ty)), lists),
+        Some(p) => fetched_row(
             work,
             node,
             p,
@@ -152,8 +141,8 @@ fn dereference_value(
         Answers (ResolveRules.dereference (ops T) T node (File.Slot.Value address.0 ty)) lists before result after }
 {
     match fact_ty(file, index, ty) {
-        MaybePredicate::Nothing => gives(just(Slot::plain(SlotKind::Value(address, ty))), lists),
-        MaybePredicate::Just(p) => declined(work, node, Code::NyiFactField, lists),
+        None => gives(Some(Slot::plain(SlotKind::Value(address, ty))), lists),
+        Some(p) => declined(work, node, Code::NyiFactField, lists),
     }
 }
 
@@ -175,12 +164,12 @@ pub fn dereference(
 {
     let kind = slot.kind;
     match kind {
-        SlotKind::Row(a, p) => gives(just(Slot::plain(SlotKind::Row(a, p))), lists),
-        SlotKind::Key(a, t) => gives(just(Slot::plain(SlotKind::Key(a, t))), lists),
-        SlotKind::Derived(a) => gives(just(Slot::plain(SlotKind::Derived(a))), lists),
+        SlotKind::Row(a, p) => gives(Some(Slot::plain(SlotKind::Row(a, p))), lists),
+        SlotKind::Key(a, t) => gives(Some(Slot::plain(SlotKind::Key(a, t))), lists),
+        SlotKind::Derived(a) => gives(Some(Slot::plain(SlotKind::Derived(a))), lists),
         SlotKind::Field(a, t) => dereference_field(file, index, work, node, a, slot.path, t, lists),
         SlotKind::Value(a, t) => dereference_value(file, index, work, node, a, t, lists),
-        SlotKind::Const(n) => gives(just(Slot::plain(SlotKind::Const(n))), lists),
+        SlotKind::Const(n) => gives(Some(Slot::plain(SlotKind::Const(n))), lists),
     }
 }
 
@@ -191,7 +180,7 @@ fn field_of_fetched(
     work: &mut [u8],
     node: usize,
     predicate: PredicateId,
-    register: MaybeAddress,
+    register: Option<Address>,
     name: usize,
     lists: Lists,
 ) -> Answer
@@ -203,11 +192,8 @@ fn field_of_fetched(
         Answers (row when_found ResolveRules.field_of_row (ops T) T name) lists before result after }
 {
     match register {
-        MaybeAddress::Nothing => declined(work, node, Code::NyiFactField, lists),
-        MaybeAddress::Just(a) => gives(
-            row_field(file, index, a, MaybePredicate::Just(predicate), name),
-            lists,
-        ),
+        None => declined(work, node, Code::NyiFactField, lists),
+        Some(a) => gives(row_field(file, index, a, Some(predicate), name), lists),
     }
 }
 
@@ -230,8 +216,8 @@ fn field_below(
         Answers (ResolveRules.field_slot (ops T) T node (File.Slot.Field address.0 (path_of path) ty) name) lists before result after }
 {
     match fact_ty(file, index, ty) {
-        MaybePredicate::Nothing => gives(path_field(file, index, address, path, ty, name), lists),
-        MaybePredicate::Just(p) => field_of_fetched(
+        None => gives(path_field(file, index, address, path, ty, name), lists),
+        Some(p) => field_of_fetched(
             file,
             index,
             work,
@@ -265,7 +251,7 @@ pub fn field_slot(
     match kind {
         SlotKind::Row(a, p) => gives(row_field(file, index, a, p, name), lists),
         SlotKind::Key(a, t) => gives(key_field(file, index, a, t, name), lists),
-        SlotKind::Derived(a) => gives(nothing(), lists),
+        SlotKind::Derived(a) => gives(None, lists),
         SlotKind::Field(a, t) => field_below(file, index, work, node, a, slot.path, t, name, lists),
         SlotKind::Value(a, t) => declined(work, node, Code::NyiValueField, lists),
         SlotKind::Const(n) => gives(folded_slot(file, index, n, name), lists),
@@ -281,11 +267,7 @@ pub fn value_slot(file: &[u8], index: &[u16], slot: Slot, lists: Lists) -> Answe
     let kind = slot.kind;
     match kind {
         SlotKind::Row(a, p) => gives(row_value(file, index, a, p), lists),
-        SlotKind::Key(a, t) => gives(nothing(), lists),
-        SlotKind::Derived(a) => gives(nothing(), lists),
-        SlotKind::Field(a, t) => gives(nothing(), lists),
-        SlotKind::Value(a, t) => gives(nothing(), lists),
-        SlotKind::Const(n) => gives(nothing(), lists),
+        _ => gives(None, lists),
     }
 }
 
@@ -294,21 +276,24 @@ fn selected(
     work: &mut [u8],
     address: Address,
     path: FieldPath,
-    found: MaybeAlternative,
+    found: Option<Alternative>,
     lists: Lists,
 ) -> Answer
-    requires path_len_bound { (a : File.Alternative) → alternative_option found ≡ some a → length (path_of path).steps < step_limit }
+    requires path_len_bound { (a : File.Alternative) → alternative_option found ≡ Some a →
+        length (path_of path).steps < step_limit }
     requires path_value { path ≡ cleared path }
     ensures { let before = work.old in
         let after = work.new in
-        ((T : Tables) → Answers (ResolveRules.selected (ops T) T address.0 (path_of path) (alternative_option found)) lists before result after) }
+        ((T : Tables) →
+        let payload = ResolveRules.selected (ops T) T address.0 (path_of path) (alternative_option found) in
+        Answers payload lists before result after) }
 {
     match found {
-        MaybeAlternative::Nothing => gives(nothing(), lists),
-        MaybeAlternative::Just(alt) => {
+        None => gives(None, lists),
+        Some(alt) => {
             let payload = within(path).payload(alt.disc);
             let l = select(work, lists, address, path, alt.disc);
-            gives(just(Slot::field(address, payload, alt.ty)), l)
+            gives(Some(Slot::field(address, payload, alt.ty)), l)
         }
     }
 }
@@ -332,8 +317,8 @@ fn select_field(
         Answers (ResolveRules.select_slot (ops T) T node (File.Slot.Field address.0 (path_of path) ty) name) lists before result after }
 {
     match union_ty(file, index, ty) {
-        Run::Nothing => declined(work, node, Code::NyiFactField, lists),
-        Run::Just(n, at) => selected(
+        None => declined(work, node, Code::NyiFactField, lists),
+        Some((n, at)) => selected(
             work,
             address,
             path,
@@ -362,19 +347,21 @@ pub fn select_slot(
 {
     let kind = slot.kind;
     match kind {
-        SlotKind::Row(a, p) => declined(work, node, Code::NyiFactField, lists),
-        SlotKind::Key(a, t) => declined(work, node, Code::NyiFactField, lists),
-        SlotKind::Derived(a) => declined(work, node, Code::NyiFactField, lists),
         SlotKind::Field(a, t) => select_field(
             file, index, work, node, a, slot.path, t, name, lists,
         ),
-        SlotKind::Value(a, t) => declined(work, node, Code::NyiFactField, lists),
-        SlotKind::Const(n) => declined(work, node, Code::NyiFactField, lists),
+        _ => declined(work, node, Code::NyiFactField, lists),
     }
 }
 
 // The slot of the row that a node was hoisted to.
-pub fn hoisted_slot(file: &[u8], index: &[u16], work: &[u8], node: usize, lists: Lists) -> MaybeSlot
+pub fn hoisted_slot(
+    file: &[u8],
+    index: &[u16],
+    work: &[u8],
+    node: usize,
+    lists: Lists,
+) -> Option<Slot>
     requires { AcceptedFile file.now index.now }
     ensures { (lv : Level) (tg : Target) (p : List ℕ) → (
         let T = tables_of file.now in
@@ -383,13 +370,13 @@ pub fn hoisted_slot(file: &[u8], index: &[u16], work: &[u8], node: usize, lists:
         ) }
 {
     match hoisted_name(file, index, node) {
-        MaybeName::Nothing => nothing(),
-        MaybeName::Just(x) => lookup(file, index, work, lists, x),
+        None => None,
+        Some(x) => lookup(file, index, work, lists, x),
     }
 }
 
 // A node's slot, if it reads of no other node.
-fn leaf(file: &[u8], index: &[u16], work: &[u8], node: usize, lists: Lists) -> MaybeSlot
+fn leaf(file: &[u8], index: &[u16], work: &[u8], node: usize, lists: Lists) -> Option<Slot>
     requires { AcceptedFile file.now index.now }
     ensures { (lv : Level) (tg : Target) (p : List ℕ) → (
         let T = tables_of file.now in
@@ -398,49 +385,22 @@ fn leaf(file: &[u8], index: &[u16], work: &[u8], node: usize, lists: Lists) -> M
         ) }
 {
     match node_of(file, index, node) {
-        NodeView::Int(at) => nothing(),
-        NodeView::Str(x) => nothing(),
-        NodeView::Bytes(n, at) => nothing(),
         NodeView::Var(x) => lookup(file, index, work, lists, x),
-        NodeView::Wildcard => nothing(),
-        NodeView::Never => nothing(),
-        NodeView::Prefix(x) => nothing(),
-        NodeView::Fuzzy(x, d, a) => nothing(),
-        NodeView::Record(n, at) => nothing(),
-        NodeView::Access(x, n) => nothing(),
-        NodeView::Value(n) => nothing(),
-        NodeView::Select(x, n) => nothing(),
-        NodeView::Disjunction => nothing(),
-        NodeView::Subquery => nothing(),
         NodeView::Fact(p, n) => hoisted_slot(file, index, work, node, lists),
-        NodeView::Arith => nothing(),
-        NodeView::Error => nothing(),
+        _ => None,
     }
 }
 
 // What a node reads of which node below it.
-fn base_of(file: &[u8], index: &[u16], node: usize) -> Base
+fn base_of(file: &[u8], index: &[u16], node: usize) -> Option<(Read, usize)>
     requires { Indexed file.now index.now }
     ensures { result ≡ base_of (node_at (tables_of file.now) node) }
 {
     match node_of(file, index, node) {
-        NodeView::Int(at) => Base::Nothing,
-        NodeView::Str(x) => Base::Nothing,
-        NodeView::Bytes(n, at) => Base::Nothing,
-        NodeView::Var(x) => Base::Nothing,
-        NodeView::Wildcard => Base::Nothing,
-        NodeView::Never => Base::Nothing,
-        NodeView::Prefix(x) => Base::Nothing,
-        NodeView::Fuzzy(x, d, a) => Base::Nothing,
-        NodeView::Record(n, at) => Base::Nothing,
-        NodeView::Access(x, n) => Base::Just(Read::Key(x), n),
-        NodeView::Value(n) => Base::Just(Read::Value, n),
-        NodeView::Select(x, n) => Base::Just(Read::Select(x), n),
-        NodeView::Disjunction => Base::Nothing,
-        NodeView::Subquery => Base::Nothing,
-        NodeView::Fact(p, n) => Base::Nothing,
-        NodeView::Arith => Base::Nothing,
-        NodeView::Error => Base::Nothing,
+        NodeView::Access(x, n) => Some((Read::Key(x), n)),
+        NodeView::Value(n) => Some((Read::Value, n)),
+        NodeView::Select(x, n) => Some((Read::Select(x), n)),
+        _ => None,
     }
 }
 
@@ -462,8 +422,8 @@ fn field_of_value(
         ) }
 {
     match fact_ty(file, index, ty) {
-        MaybePredicate::Nothing => declined(work, node, Code::NyiValueField, lists),
-        MaybePredicate::Just(p) => declined(work, node, Code::NyiFactField, lists),
+        None => declined(work, node, Code::NyiValueField, lists),
+        Some(p) => declined(work, node, Code::NyiFactField, lists),
     }
 }
 
@@ -509,10 +469,10 @@ fn value_past(
         Answers (value_past T node (slot_of slot)) lists before result after }
 {
     let row = dereference(file, index, work, node, slot, lists);
-    if !row.some {
-        return gives(nothing(), row.lists);
-    }
-    value_slot(file, index, row.slot, row.lists)
+    let Some(given) = row.slot else {
+        return gives(None, row.lists);
+    };
+    value_slot(file, index, given, row.lists)
 }
 
 // A read of a base's answer, past a reference. A select of a reference is declined, whether it was fetched or not.
@@ -529,10 +489,9 @@ fn read_past(
     requires base_value { found base ≡ tidied (found base) }
     ensures { Follows (read_past (tables_of file.now) node read) base work.old result work.new }
 {
-    if !base.some {
-        return gives(nothing(), base.lists);
-    }
-    let slot = base.slot;
+    let Some(slot) = base.slot else {
+        return gives(None, base.lists);
+    };
     let lists = base.lists;
     match read {
         Read::Key(x) => field_past(file, index, work, node, slot, x, lists),
@@ -546,11 +505,7 @@ pub fn constant_node(file: &[u8], index: &[u16], node: usize) -> bool
     requires { AcceptedFile file.now index.now }
     ensures { result ≡ is_constant (tables_of file.now) node }
 {
-    if node < count_of(file, index, NODES) {
-        is_constant(file, index, node)
-    } else {
-        false
-    }
+    node < count_of(file, index, NODES) && is_constant(file, index, node)
 }
 
 // A node that reads of no other. A constant is a location like any other, the node itself, and is asked for first.
@@ -559,19 +514,19 @@ fn leaf_answer(file: &[u8], index: &[u16], work: &mut [u8], node: usize, lists: 
     ensures { Answers (leaf_at (tables_of file.now) node) lists work.old result work.new }
 {
     if constant_node(file, index, node) {
-        gives(just(Slot::plain(SlotKind::Const(node))), lists)
+        gives(Some(Slot::plain(SlotKind::Const(node))), lists)
     } else {
         gives(leaf(file, index, work, node, lists), lists)
     }
 }
 
 // What a node reads of which node below it: a constant is its own location, and reads of none.
-pub fn read_of(file: &[u8], index: &[u16], node: usize) -> Base
+pub fn read_of(file: &[u8], index: &[u16], node: usize) -> Option<(Read, usize)>
     requires { AcceptedFile file.now index.now }
     ensures { result ≡ read_of (tables_of file.now) node }
 {
     if constant_node(file, index, node) {
-        return Base::Nothing;
+        return None;
     }
     base_of(file, index, node)
 }
@@ -588,16 +543,17 @@ pub fn descend(file: &[u8], index: &[u16], node: usize, trail: &mut [u16]) -> Ch
         trail.new ≡ sets before 0 (chain T (length before) node) }
 {
     let mut n = node;
-    let mut k: usize = 0;
-    while k < trail.len() {
-        let Base::Just(_, base) = read_of(file, index, n) else {
+    for k in 0..trail.len() {
+        let Some((_, base)) = read_of(file, index, n) else {
             return Chain { passed: k, node: n };
         };
         trail[k] = n as u16;
         n = base;
-        k += 1;
     }
-    Chain { passed: k, node: n }
+    Chain {
+        passed: trail.len(),
+        node: n,
+    }
 }
 
 // What a node reads, of the answer of the node below it.
@@ -609,8 +565,8 @@ fn read_up(file: &[u8], index: &[u16], work: &mut [u8], node: usize, below: Answ
         Climbs (read_up T node) below work.old result work.new }
 {
     match base_of(file, index, node) {
-        Base::Nothing => gives(nothing(), below.lists),
-        Base::Just(read, _) => read_past(file, index, work, node, read, below),
+        None => gives(None, below.lists),
+        Some((read, _)) => read_past(file, index, work, node, read, below),
     }
 }
 
@@ -631,12 +587,30 @@ fn ascend(
         Climbs (climb T (take passed trail.now)) end work.old result work.new }
 {
     let mut below = end;
-    let mut k = passed;
-    while k > 0 {
-        k -= 1;
+    for k in (0..passed).rev() {
         below = read_up(file, index, work, wide16(trail[k]), below);
     }
     below
+}
+
+// The answer at a chain's end, and up again from there.
+fn resolve_up(
+    file: &[u8],
+    index: &[u16],
+    work: &mut [u8],
+    trail: &[u16],
+    chain: Chain,
+    lists: Lists,
+) -> Answer
+    requires accepted_file { AcceptedFile file.now index.now }
+    requires passed_in_bounds { chain.passed ≤ length trail.now }
+    requires node_value { read_of (tables_of file.now) chain.node ≡ None }
+    ensures { let T = tables_of file.now in
+        let nodes = take chain.passed trail.now in
+        Answers (λ s. climb T nodes (leaf_at T chain.node s)) lists work.old result work.new }
+{
+    let end = leaf_answer(file, index, work, chain.node, lists);
+    ascend(file, index, work, trail, chain.passed, end)
 }
 
 // A chain of any length: a file has no more nodes than the trail has places.
@@ -645,10 +619,9 @@ fn resolve_long(file: &[u8], index: &[u16], work: &mut [u8], node: usize, lists:
     ensures { let T = tables_of file.now in
         Answers (ResolveRules.resolve (ops T) T node) lists work.old result work.new }
 {
-    let mut trail = [0u16; 2048];
+    let mut trail = [0u16; NODE_LIMIT];
     let chain = descend(file, index, node, &mut trail);
-    let end = leaf_answer(file, index, work, chain.node, lists);
-    ascend(file, index, work, &trail, chain.passed, end)
+    resolve_up(file, index, work, &trail, chain, lists)
 }
 
 // A chain of reads may be as long as a file has nodes, so it is walked by loops, down and up again; nearly every chain is short, and is
@@ -658,13 +631,12 @@ fn resolve_chain(file: &[u8], index: &[u16], work: &mut [u8], node: usize, lists
     ensures { let T = tables_of file.now in
         Answers (ResolveRules.resolve (ops T) T node) lists work.old result work.new }
 {
-    let mut trail = [0u16; 8];
+    let mut trail = [0u16; SHORT_TRAIL];
     let chain = descend(file, index, node, &mut trail);
-    if chain.passed == 8 {
+    if chain.passed == SHORT_TRAIL {
         return resolve_long(file, index, work, node, lists);
     }
-    let end = leaf_answer(file, index, work, chain.node, lists);
-    ascend(file, index, work, &trail, chain.passed, end)
+    resolve_up(file, index, work, &trail, chain, lists)
 }
 
 // A field of what a variable is bound to, past a reference: mostly a row, whose field is found with no path at hand.
@@ -706,9 +678,8 @@ pub fn resolve(file: &[u8], index: &[u16], work: &mut [u8], node: usize, lists: 
     let NodeView::Var(y) = node_of(file, index, n) else {
         return resolve_chain(file, index, work, node, lists);
     };
-    let found = lookup(file, index, work, lists, y);
-    if !found.some {
-        return gives(nothing(), lists);
-    }
-    bound_field(file, index, work, node, found.slot, x, lists)
+    let Some(slot) = lookup(file, index, work, lists, y) else {
+        return gives(None, lists);
+    };
+    bound_field(file, index, work, node, slot, x, lists)
 }

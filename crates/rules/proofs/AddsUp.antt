@@ -1,7 +1,7 @@
 -- What demand 3 reaches: from the record alone, whatever made the bytes, the plan's own items add up at every level, and each level begins where the one before it
 -- ended.
 use mathlib.Core.List.{List, [], ◌∷◌}
-use mathlib.Core.Option.{Option, none, some}
+use Rattle.std.specs.Prelude.{Option, None, Some}
 use mathlib.Core.Path.{◌≡◌, refl, sym, ap, ◌∙◌, subst}
 use Prim.Native.Nat.{ℕ, suc, ◌+◌, ◌<◌}
 use native.Mathlib.Omega.{arith}
@@ -29,23 +29,23 @@ record Tells (parts : List Part) (range : Option Range) (n : ℕ) (s : SeekKey) 
   formed : WellFormed s
 
 -- a seek without a range or an edge
-plain : (parts : List Part) → Tells parts none 0 (unranged parts)
+plain : (parts : List Part) → Tells parts None 0 (unranged parts)
 unfolding unranged seek_range seek_edges seek_nodes
 plain parts =
-    by-option (Tells parts none 0) (joined parts)
+    by-option (Tells parts None 0) (joined parts)
     (λ e. record { range-is = refl; edges_are = refl; nodes-are = refl; formed = e })
     (λ bytes e. record { range-is = refl; edges_are = refl; nodes-are = refl; formed = tt })
 
-tells : (parts : List Part) (range : Option Range) (lo hi : Option RangeEdge) → (0 < number lo + number hi → range ≡ none) → Tells parts range (number lo + number hi) (seek parts range lo hi)
+tells : (parts : List Part) (range : Option Range) (lo hi : Option RangeEdge) → (0 < number lo + number hi → range ≡ None) → Tells parts range (number lo + number hi) (seek parts range lo hi)
 unfolding seek seek_range seek_edges seek_nodes number
-tells parts range (some lo) hi h =
+tells parts range (Some lo) hi h =
     let edge : 0 < 1 + number hi = omega arith in
     record { range-is = sym (h edge); edges_are = refl; nodes-are = refl; formed = edge }
-tells parts range none (some hi) h =
+tells parts range None (Some hi) h =
     let edge : 0 < 0 + 1 = omega arith in
     record { range-is = sym (h edge); edges_are = refl; nodes-are = refl; formed = edge }
-tells parts (some range) none none h = record { range-is = refl; edges_are = refl; nodes-are = refl; formed = tt }
-tells parts none none none h = plain parts
+tells parts (Some range) None None h = record { range-is = refl; edges_are = refl; nodes-are = refl; formed = tt }
+tells parts None None None h = plain parts
 
 module _ (l : Level) where
   -- what one level keeps, said of its items in the plan

@@ -1,6 +1,6 @@
 -- What each primitive of the walk keeps, the walk keeps: the two runs of Runs.antt with no second run, a keeper of nothing that has stopped.
 use mathlib.Core.Bool.{true}
-use mathlib.Core.Option.{none}
+use Rattle.std.specs.Prelude.{None}
 use mathlib.Core.Path.{refl}
 use Prim.Native.Nat.{ℕ, ◌<◌}
 use lib.ListN.{length}
@@ -21,7 +21,7 @@ Nothing = Unit {0}
 abbrev nothing-kept : Tables → Ops Nothing
 nothing-kept T =
     record {
-      lookup = λ s x. none;
+      lookup = λ s x. None;
       constant = λ s n t. constant T n t;
       reported = λ s. 0;
       bind = λ x slot s. s;

@@ -1,6 +1,6 @@
 -- Proofs by the cases of a test or an option, and what a passed test says.
 use mathlib.Core.Bool.{Bool, true, false}
-use mathlib.Core.Option.{Option, none, some}
+use Rattle.std.specs.Prelude.{Option, None, Some}
 use mathlib.Core.Path.{◌≡◌, refl, sym, ap, subst}
 use Prim.Native.Nat.{ℕ, ◌≤◌, ◌<◌}
 use borrow.Author.Tests.{ltb-true, ltb-false, eqb-true, eqb-false}
@@ -12,9 +12,9 @@ pub by-test : {A : Type 0} (P : A → Type 0) (b : Bool) {x y : A} → (b ≡ tr
 by-test P true f g = f refl
 by-test P false f g = g refl
 
-pub by-option : {A B : Type 0} (P : B → Type 0) (o : Option A) {x : B} {f : A → B} → (o ≡ none → P x) → ((a : A) → o ≡ some a → P (f a)) → P (elim o [ none ↦ x | some a ↦ f a ])
-by-option P none g h = g refl
-by-option P (some a) g h = h a refl
+pub by-option : {A B : Type 0} (P : B → Type 0) (o : Option A) {x : B} {f : A → B} → (o ≡ None → P x) → ((a : A) → o ≡ Some a → P (f a)) → P (elim o [ None ↦ x | Some a ↦ f a ])
+by-option P None g h = g refl
+by-option P (Some a) g h = h a refl
 
 -- a test's two ways
 pub ways : (b : Bool) (P : Type 0) → (b ≡ true → P) → (b ≡ false → P) → P
@@ -41,17 +41,17 @@ pub true≢false : true ≡ false → ⊥
 true≢false e = subst IsTrue e tt
 
 abbrev IsSomething : {A : Type 0} → Option A → Type 0
-IsSomething none = ⊥
-IsSomething (some a) = Unit {0}
+IsSomething None = ⊥
+IsSomething (Some a) = Unit {0}
 
-pub some≢none : {A : Type 0} (a : A) → some a ≡ none → ⊥
+pub some≢none : {A : Type 0} (a : A) → Some a ≡ None → ⊥
 some≢none a e = subst IsSomething e tt
 
 value_or : {A : Type 0} → A → Option A → A
-value_or d none = d
-value_or d (some a) = a
+value_or d None = d
+value_or d (Some a) = a
 
-pub some-injective : {A : Type 0} (a b : A) → some a ≡ some b → a ≡ b
+pub some-injective : {A : Type 0} (a b : A) → Some a ≡ Some b → a ≡ b
 unfolding value_or
 some-injective a b e = ap (value_or a) e
 
@@ -85,7 +85,7 @@ both-unit true = refl
 both-unit false = refl
 
 -- Options in turn: what the whole gives, each step gave.
-pub bind-some : {A B : Type 0} (o : Option A) (f : A → Option B) (b : B) → (o when_some f) ≡ some b → (a : A) × (o ≡ some a) × (f a ≡ some b)
+pub bind-some : {A B : Type 0} (o : Option A) (f : A → Option B) (b : B) → (o when_some f) ≡ Some b → (a : A) × (o ≡ Some a) × (f a ≡ Some b)
 unfolding ◌when_some◌
-bind-some none f b e = absurd (some≢none b (sym e))
-bind-some (some a) f b e = (a, refl, e)
+bind-some None f b e = absurd (some≢none b (sym e))
+bind-some (Some a) f b e = (a, refl, e)

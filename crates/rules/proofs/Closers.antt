@@ -2,7 +2,7 @@
 -- with what it keeps of each tag. On no walk does a closer meet a level that builds and did not build before its tag, and so both placements make the same level.
 use mathlib.Core.Bool.{Bool, true, false}
 use mathlib.Core.List.{List, [], ◌∷◌, ◌++◌}
-use mathlib.Core.Option.{none}
+use Rattle.std.specs.Prelude.{None}
 use mathlib.Core.Path.{◌≡◌, refl, sym, ap, ◌∙◌, subst}
 use Prim.Native.Nat.{ℕ}
 use Rattle.rules.specs.Base.{Each, both}
@@ -170,7 +170,7 @@ met_at T [] after n k h = h.0
 met_at T (e ∷ before) after n k h = met_at T before after n (place_tagged T e k) h.1
 
 -- of every level of an accepted file
-pub closers-tidied : (T : Tables) → fault checks T ≡ none → Each (λ l. CloserTidied T l.events) (levels T)
+pub closers-tidied : (T : Tables) → fault checks T ≡ None → Each (λ l. CloserTidied T l.events) (levels T)
 unfolding levels starting
 closers-tidied T f =
     let S = sound T (passed-all T f) in

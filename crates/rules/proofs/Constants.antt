@@ -1,6 +1,6 @@
 -- `constant` is what its match says of the child patterns: the bound by which the rules' recursion ends does not matter above the type's number.
 use mathlib.Core.List.{List, [], ◌∷◌, map}
-use mathlib.Core.Option.{Option, none, some}
+use Rattle.std.specs.Prelude.{Option, None, Some}
 use mathlib.Core.Path.{◌≡◌, refl, ap}
 use Prim.Native.Nat.{ℕ, zero, suc, ◌<◌}
 use native.Mathlib.Omega.{arith}
@@ -12,10 +12,10 @@ use Rattle.rules.specs.Constant.{Const, bytes_only, field_pattern, alternative_o
 use Rattle.rules.proofs.Each.{each-imply, each_first, each-unmap}
 use Rattle.rules.proofs.Sound.{Sound}
 
-bind-agree : {A B : Type 0} (o : Option A) (f g : A → Option B) → ((a : A) → o ≡ some a → f a ≡ g a) → (o when_some f) ≡ (o when_some g)
+bind-agree : {A B : Type 0} (o : Option A) (f g : A → Option B) → ((a : A) → o ≡ Some a → f a ≡ g a) → (o when_some f) ≡ (o when_some g)
 unfolding ◌when_some◌
-bind-agree none f g h = refl
-bind-agree (some a) f g h = h a refl
+bind-agree None f g h = refl
+bind-agree (Some a) f g h = h a refl
 
 -- two ways of judging child patterns that agree at each type of a list
 abbrev Agree : (ℕ → ℕ → Option Const) → (ℕ → ℕ → Option Const) → List ℕ → Type 0
@@ -34,11 +34,11 @@ record-agree b b' patterns Ty.Int h = refl
 record-agree b b' patterns Ty.Str h = refl
 record-agree b b' patterns Ty.Bytes h = refl
 record-agree b b' patterns (Ty.Fact p) h = refl
-record-agree b b' patterns (Ty.Record fs) h = ap (λ (o : Option (List ℕ)). o when_some λ bytes. some (Const.Bytes (encode_record bytes))) (fields-agree b b' patterns fs h)
+record-agree b b' patterns (Ty.Record fs) h = ap (λ (o : Option (List ℕ)). o when_some λ bytes. Some (Const.Bytes (encode_record bytes))) (fields-agree b b' patterns fs h)
 record-agree b b' patterns (Ty.Union alts) h =
     bind-agree (only_field patterns) _ _
     (λ f q. bind-agree (alternative_of alts f.name) _ _
-    (λ a r. ap (λ (o : Option Const). o when_some λ c. bytes_only c when_some λ bytes. some (Const.Bytes (encode_union a.disc bytes)))
+    (λ a r. ap (λ (o : Option Const). o when_some λ c. bytes_only c when_some λ bytes. Some (Const.Bytes (encode_union a.disc bytes)))
     (each_first {P = λ a. (n : ℕ) → b n a.type ≡ b' n a.type} (λ a. eqb a.name f.name) (each-unmap (λ t. (n : ℕ) → b n t ≡ b' n t) (λ a. a.type) alts h) a r f.node)))
 
 node-agree : (T : Tables) (b b' : ℕ → ℕ → Option Const) (node : Node) (ty : Ty) → Agree b b' (child_types ty) → constant_node T b node ty ≡ constant_node T b' node ty

@@ -2,7 +2,7 @@
 -- `constant`, and reading the file's bindings there is reading the current ones, in the walk and where a comparison is placed.
 use mathlib.Core.Bool.{Bool, true, false}
 use mathlib.Core.List.{List, [], ◌∷◌, ◌++◌}
-use mathlib.Core.Option.{Option, none, some, get_or}
+use Rattle.std.specs.Prelude.{Option, None, Some, unwrap_or}
 use mathlib.Core.Path.{◌≡◌, refl, sym, ap, ap₂, ◌∙◌, fun_ext}
 use Prim.Native.Nat.{ℕ, zero, suc, ◌<◌}
 use lib.Dec.{eqb}
@@ -31,17 +31,17 @@ last-append : (found : Option Binding) (p : Binding → Bool) (bs cs : List Bind
 unfolding last_or
 last-append found p [] cs = refl
 last-append found p (b ∷ bs) cs =
-    elim (p b) as (λ t. elim t [ true ↦ last_or (some b) p (bs ++ cs) | false ↦ last_or found p (bs ++ cs) ] ≡ last_or (elim t [ true ↦ last_or (some b) p bs | false ↦ last_or found p bs ]) p cs) [
-      | true ↦ last-append (some b) p bs cs
+    elim (p b) as (λ t. elim t [ true ↦ last_or (Some b) p (bs ++ cs) | false ↦ last_or found p (bs ++ cs) ] ≡ last_or (elim t [ true ↦ last_or (Some b) p bs | false ↦ last_or found p bs ]) p cs) [
+      | true ↦ last-append (Some b) p bs cs
       | false ↦ last-append found p bs cs
     ]
 
 -- one binding more: it is the last of its name, and of no other
-pub const-snoc : (bs : List Binding) (b : Binding) (x : ℕ) → lookup bs b.name ≡ none → const_node b.slot ≡ none → const_bound (bs ++ (b ∷ [])) x ≡ const_bound bs x
+pub const-snoc : (bs : List Binding) (b : Binding) (x : ℕ) → lookup bs b.name ≡ None → const_node b.slot ≡ None → const_bound (bs ++ (b ∷ [])) x ≡ const_bound bs x
 unfolding lookup ◌when_some◌ last_or
 const-snoc bs b x e c =
-    ap (λ (o : Option Binding). (o when_some λ b'. some b'.slot) when_some const_node) (last-append none (λ b'. eqb b'.name x) bs (b ∷ []))
-    ∙ by-test (λ (o : Option Binding). ((o when_some λ b'. some b'.slot) when_some const_node) ≡ const_bound bs x) (eqb b.name x)
+    ap (λ (o : Option Binding). (o when_some λ b'. Some b'.slot) when_some const_node) (last-append None (λ b'. eqb b'.name x) bs (b ∷ []))
+    ∙ by-test (λ (o : Option Binding). ((o when_some λ b'. Some b'.slot) when_some const_node) ≡ const_bound bs x) (eqb b.name x)
     (λ q. c ∙ sym (ap (λ (o : Option Slot). o when_some const_node) (ap (lookup bs) (sym (eqb-eq b.name x q)) ∙ e)))
     (λ q. refl)
 
@@ -69,7 +69,7 @@ consts-keeps T =
 module _ (T : Tables) (bs : List Binding) (same : (x : ℕ) → const_bound bs x ≡ const_bound T.bindings x) where
   stands-now : (n : ℕ) → stands_for (with_bindings T bs) n ≡ stands_for T n
   unfolding stands_for const_of with_bindings node_at
-  stands-now n = ap (λ (f : ℕ → Option ℕ). get_or (var_name (node_at T n) when_some f) n) (fun_ext same)
+  stands-now n = ap (λ (f : ℕ → Option ℕ). unwrap_or (var_name (node_at T n) when_some f) n) (fun_ext same)
 
   node-now : (below : ℕ → ℕ → Option Const) (node : Node) (ty : Ty) → constant_node (with_bindings T bs) below node ty ≡ constant_node T below node ty
   unfolding constant_node with_bindings name_at
@@ -108,14 +108,14 @@ module _ (T : Tables) (bs : List Binding) (same : (x : ℕ) → const_bound bs x
   unfolding sided compared is_var node_at with_bindings constant_now
   sided-now x t c =
       ap (λ (f : Compared → Option Sided). compared T x c when_some f)
-      (fun_ext (λ other. ap (λ (found : Option Const). found when_some λ k. bytes_only k when_some λ value. some (record { op = other.op; value = value })) (constant-now other.node t)))
+      (fun_ext (λ other. ap (λ (found : Option Const). found when_some λ k. bytes_only k when_some λ value. Some (record { op = other.op; value = value })) (constant-now other.node t)))
 
   fold-now : (x t i : ℕ) (cs : List Comparison) (e : Edges) → fold_from (with_bindings T bs) x t i cs e ≡ fold_from T x t i cs e
   unfolding fold_from
   fold-now x t i [] e = refl
   fold-now x t i (c ∷ cs) e =
       fold-now x t (suc i) cs _
-      ∙ ap (λ (s : Option Sided). fold_from T x t (suc i) cs (elim s [ none ↦ e | some s' ↦ take_edge i s'.op s'.value e ])) (sided-now x t c)
+      ∙ ap (λ (s : Option Sided). fold_from T x t (suc i) cs (elim s [ None ↦ e | Some s' ↦ take_edge i s'.op s'.value e ])) (sided-now x t c)
 
   place-now : (e : Event) (b : SeekBuilder) → place (with_bindings T bs) e b ≡ place T e b
   unfolding place place_bound with_bindings
@@ -145,7 +145,7 @@ now-meet T e a c r =
       consts = r.consts;
     }
 
-now-bind : (T : Tables) (x : ℕ) (slot : Slot) (a : Walk) (c : Placing) → lookup a.lists.bindings x ≡ none → const_node slot ≡ none → Now T a c
+now-bind : (T : Tables) (x : ℕ) (slot : Slot) (a : Walk) (c : Placing) → lookup a.lists.bindings x ≡ None → const_node slot ≡ None → Now T a c
     → Now T (bind x slot a) (on_lists (bind x slot) c)
 unfolding bind on_lists placed
 now-bind T x slot a c e k r =

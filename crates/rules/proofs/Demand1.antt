@@ -1,7 +1,7 @@
 -- Demand 1, of the written rules' call.
 use mathlib.Core.Bool.{Bool, true, false}
 use mathlib.Core.List.{List, [], ◌∷◌, ◌++◌}
-use mathlib.Core.Option.{Option, some}
+use Rattle.std.specs.Prelude.{Option, Some}
 use mathlib.Core.Path.{◌≡◌, refl, sym, ap}
 use Prim.Native.Nat.{ℕ, zero, suc, ◌+◌, ◌-◌, ◌≤◌, ◌<◌, min}
 use native.Mathlib.Omega.{arith}
@@ -71,7 +71,7 @@ unfolding fault
 fault-in done T = nothing
 fault-in (more {x = c} {xs = cs} h hs) T = go (c.passes T) (fault-in hs T)
   where
-    go : (b : Bool) → Perhaps (λ n. Among n refusals) (fault cs T) → Perhaps (λ n. Among n refusals) (elim b [ true ↦ fault cs T | false ↦ some c.number ])
+    go : (b : Bool) → Perhaps (λ n. Among n refusals) (fault cs T) → Perhaps (λ n. Among n refusals) (elim b [ true ↦ fault cs T | false ↦ Some c.number ])
     go true r = r
     go false r = just h
 

@@ -1,7 +1,7 @@
 -- Demand 3, of every accepted file.
 use mathlib.Core.Bool.{false}
 use mathlib.Core.List.{List, [], ◌∷◌, ◌++◌}
-use mathlib.Core.Option.{Option, none, some}
+use Rattle.std.specs.Prelude.{Option, None, Some}
 use mathlib.Core.Path.{◌≡◌, refl, sym, ap, ◌∙◌, subst}
 use Prim.Native.Nat.{ℕ, zero, suc, ◌<◌, min}
 use native.Mathlib.Nat.{not-suc-le-zero, le_of_suc-le-suc}
@@ -139,7 +139,7 @@ ends-file [] T rest e = sym (ap rest_of e)
 ends-file (b ∷ bytes) T rest e = ends-sections (b ∷ bytes) T rest e
 
 -- Demand 3 of the tables that an accepted file holds.
-tables-kept : (bytes : List ℕ) (T : Tables) → file bytes ≡ got T [] → fault checks T ≡ none → any_mistyped (levels T) ≡ false → Demand3 bytes (plan_bytes (plan T))
+tables-kept : (bytes : List ℕ) (T : Tables) → file bytes ≡ got T [] → fault checks T ≡ None → any_mistyped (levels T) ≡ false → Demand3 bytes (plan_bytes (plan T))
 unfolding levels entry_at starting
 tables-kept bytes T e f m =
     let S = sound T (passed-all T f) in
@@ -176,11 +176,11 @@ written_out room bytes out =
 
 checked-kept : (bytes : List ℕ) (room : ℕ) (T : Tables) → file bytes ≡ got T [] → (o : Option ℕ) → fault checks T ≡ o → (out : List ℕ) → checked room T o ≡ Outcome.planned out → Demand3 bytes out
 unfolding checked walked
-checked-kept bytes room T e none f out q =
+checked-kept bytes room T e None f out q =
     by-test (λ (r : Outcome). r ≡ Outcome.planned out → Demand3 bytes out) (any_mistyped (levels T))
     (λ m p. absurd (refused≢planned 19 out p))
     (λ m p. subst (Demand3 bytes) (written_out room _ out p) (tables-kept bytes T e f m)) q
-checked-kept bytes room T e (some n) f out q = absurd (refused≢planned n out q)
+checked-kept bytes room T e (Some n) f out q = absurd (refused≢planned n out q)
 
 reading-kept : (bytes : List ℕ) (room : ℕ) (r : Read Tables) → file bytes ≡ r → (out : List ℕ) → reading room r ≡ Outcome.planned out → Demand3 bytes out
 unfolding reading Ends

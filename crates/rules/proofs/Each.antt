@@ -1,6 +1,6 @@
 -- Laws of `Each`: what holds of every element of the lists that the rules build.
 use mathlib.Core.List.{List, [], ◌∷◌, ◌++◌, map}
-use mathlib.Core.Option.{Option, none, some}
+use Rattle.std.specs.Prelude.{Option, None, Some}
 use mathlib.Core.Bool.{Bool, true}
 use mathlib.Core.Path.{◌≡◌, sym, subst}
 use Prim.Native.Nat.{ℕ, zero, suc, ◌<◌}
@@ -15,8 +15,8 @@ Any a = Unit {0}
 
 -- what is there has the property
 pub data Perhaps {A : Type 0} (P : A → Type 0) : Option A → Type 0 where
-  nothing : Perhaps P none
-  just : {x : A} → P x → Perhaps P (some x)
+  nothing : Perhaps P None
+  just : {x : A} → P x → Perhaps P (Some x)
 
 module _ {A : Type 0} {P : A → Type 0} where
   pub each_append : {xs ys : List A} → Each P xs → Each P ys → Each P (xs ++ ys)
@@ -48,10 +48,10 @@ module _ {A B : Type 0} {P : A → Type 0} {Q : B → Type 0} where
   perhaps-bind (just p) h = h _ p
 
 pub perhaps-any : {A : Type 0} (o : Option A) → Perhaps Any o
-perhaps-any none = nothing
-perhaps-any (some x) = just tt
+perhaps-any None = nothing
+perhaps-any (Some x) = just tt
 
-pub perhaps-some : {A : Type 0} {P : A → Type 0} (a : A) {o : Option A} → Perhaps P o → o ≡ some a → P a
+pub perhaps-some : {A : Type 0} {P : A → Type 0} (a : A) {o : Option A} → Perhaps P o → o ≡ Some a → P a
 perhaps-some a nothing e = absurd (some≢none a (sym e))
 perhaps-some {A} {P} a (just {x} p) e = subst P (some-injective x a e) p
 
@@ -77,18 +77,18 @@ module _ {A : Type 0} {P : A → Type 0} where
   each_at (more p h) zero d l = p
   each_at (more p h) (suc i) d l = each_at h i d (le_of_suc-le-suc l)
 
-  pub each_first : (p : A → Bool) {xs : List A} → Each P xs → (a : A) → first p xs ≡ some a → P a
+  pub each_first : (p : A → Bool) {xs : List A} → Each P xs → (a : A) → first p xs ≡ Some a → P a
   unfolding first
   each_first p done a e = absurd (some≢none a (sym e))
   each_first p (more {x} {xs} q h) a e =
-      by-test (λ r. r ≡ some a → P a) (p x) (λ t r. subst P (some-injective x a r) q) (λ t r. each_first p h a r) e
+      by-test (λ r. r ≡ Some a → P a) (p x) (λ t r. subst P (some-injective x a r) q) (λ t r. each_first p h a r) e
 
-  pub each_last : (p : A → Bool) (found : Option A) → ((b : A) → found ≡ some b → P b) → {xs : List A} → Each P xs → (a : A) → last_or found p xs ≡ some a → P a
+  pub each_last : (p : A → Bool) (found : Option A) → ((b : A) → found ≡ Some b → P b) → {xs : List A} → Each P xs → (a : A) → last_or found p xs ≡ Some a → P a
   unfolding last_or
   each_last p found g done a e = g a e
   each_last p found g (more {x} {xs} q h) a e =
-      by-test (λ r. r ≡ some a → P a) (p x)
-      (λ t r. each_last p (some x) (λ b q'. subst P (some-injective x b q') q) h a r)
+      by-test (λ r. r ≡ Some a → P a) (p x)
+      (λ t r. each_last p (Some x) (λ b q'. subst P (some-injective x b q') q) h a r)
       (λ t r. each_last p found g h a r) e
 
 pub each-unmap : {A B : Type 0} (P : B → Type 0) (f : A → B) (xs : List A) → Each P (map f xs) → Each (λ x. P (f x)) xs

@@ -1,7 +1,7 @@
 -- Request [5]: the flip by its formula and the flip by a table agree on all four ops, and every plan keeps its bytes.
 use mathlib.Core.Bool.{true, false}
 use mathlib.Core.List.{List, [], ◌∷◌}
-use mathlib.Core.Option.{Option, none, some}
+use Rattle.std.specs.Prelude.{Option, None, Some}
 use mathlib.Core.Path.{◌≡◌, refl, sym, ap, ap₂, ◌∙◌, fun_ext}
 use Prim.Native.Nat.{ℕ, suc}
 use lib.Dec.{leb}
@@ -44,10 +44,10 @@ module _ (flip : CompareOp → CompareOp) where
   unfoldable pub compared : Tables → ℕ → Comparison → Option Compared
   compared T x c =
       elim (is_var T x c.left) [
-        | true ↦ some (record { op = c.op; node = c.right })
+        | true ↦ Some (record { op = c.op; node = c.right })
         | false ↦ elim (is_var T x c.right) [
-          | true ↦ some (record { op = flip c.op; node = c.left })
-          | false ↦ none
+          | true ↦ Some (record { op = flip c.op; node = c.left })
+          | false ↦ None
         ]
       ]
 
@@ -56,11 +56,11 @@ module _ (flip : CompareOp → CompareOp) where
     other ← compared T x c
     constant' ← constant T other.node t
     value ← bytes_only constant'
-    some (record { op = other.op; value = value })
+    Some (record { op = other.op; value = value })
 
   unfoldable pub fold_from : Tables → ℕ → ℕ → ℕ → List Comparison → Edges → Edges
   fold_from T x t i [] e = e
-  fold_from T x t i (c ∷ cs) e = fold_from T x t (suc i) cs (elim (sided T x t c) [ none ↦ e | some s ↦ take_edge i s.op s.value e ])
+  fold_from T x t i (c ∷ cs) e = fold_from T x t (suc i) cs (elim (sided T x t c) [ None ↦ e | Some s ↦ take_edge i s.op s.value e ])
 
   unfoldable pub place_bound : Tables → ℕ → ℕ → SeekBuilder → SeekBuilder
   place_bound T x t b = elim b.building [ true ↦ with_edges (fold_from T x t 0 T.comparisons b.edges) b | false ↦ b ]
@@ -98,8 +98,8 @@ module _ (flip : CompareOp → CompareOp) where
   walked room T = elim (any_mistyped (levels T)) [ true ↦ Outcome.refused 19 | false ↦ written room (plan_bytes (plan T)) ]
 
   unfoldable pub checked : ℕ → Tables → Option ℕ → Outcome
-  checked room T (some n) = Outcome.refused n
-  checked room T none = walked room T
+  checked room T (Some n) = Outcome.refused n
+  checked room T None = walked room T
 
   unfoldable pub reading : ℕ → Read Tables → Outcome
   reading room (Read.refused n) = Outcome.refused n
@@ -153,8 +153,8 @@ walked-is room T =
 
 checked-is : (room : ℕ) (T : Tables) (o : Option ℕ) → checked flipped room T o ≡ Compile.checked room T o
 unfolding checked Compile.checked
-checked-is room T (some n) = refl
-checked-is room T none = walked-is room T
+checked-is room T (Some n) = refl
+checked-is room T None = walked-is room T
 
 reading-is : (room : ℕ) (r : Read Tables) → reading flipped room r ≡ Compile.reading room r
 unfolding reading Compile.reading

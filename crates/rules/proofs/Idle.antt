@@ -1,6 +1,6 @@
 -- Where every operation leaves a state as it is, so does the whole walk: a program that finds its memory full may return at once.
 use mathlib.Core.List.{List, [], ◌∷◌}
-use mathlib.Core.Option.{Option, none, some}
+use Rattle.std.specs.Prelude.{Option, None, Some}
 use mathlib.Core.Path.{◌≡◌, refl, sym, ap, ◌∙◌, subst}
 use Prim.Native.Nat.{ℕ, zero, suc}
 use lib.Dec.{eqb}
@@ -45,8 +45,8 @@ module _ {S : Type 0} (o : Ops S) (T : Tables) (s : S) (I : Idle o s) where
 
   pub idle-fetched : (n p : ℕ) (register : Option ℕ) → Rests (fetched_row o T n p register)
   unfolding fetched_row
-  idle-fetched n p none = idle-declined n Code.NyiFactField
-  idle-fetched n p (some register) = idle-give _
+  idle-fetched n p None = idle-declined n Code.NyiFactField
+  idle-fetched n p (Some register) = idle-give _
 
   pub idle-dereference : (n : ℕ) (slot : Slot) → Rests (dereference o T n slot)
   unfolding dereference
@@ -87,8 +87,8 @@ module _ {S : Type 0} (o : Ops S) (T : Tables) (s : S) (I : Idle o s) where
 
   pub idle-selected : (a : ℕ) (path : FieldPath) (alt : Option Alternative) → Rests (selected o T a path alt)
   unfolding selected
-  idle-selected a path none = idle-give _
-  idle-selected a path (some alt) = I.select a path alt.disc
+  idle-selected a path None = idle-give _
+  idle-selected a path (Some alt) = I.select a path alt.disc
 
   pub idle-select_slot : (n : ℕ) (slot : Slot) (x : ℕ) → Rests (select_slot o T n slot x)
   unfolding select_slot
@@ -178,9 +178,9 @@ module _ {S : Type 0} (o : Ops S) (T : Tables) (s : S) (I : Idle o s) where
   module _ (address : ℕ) (below : FieldWalk S) (B : Stays below) where
     pub idle-partial_fields : (fields : Option (List FieldPattern)) (fs : Option (List FieldTy)) (path : FieldPath) → partial_fields o T address below fields fs path s ≡ s
     unfolding partial_fields
-    idle-partial_fields none fs path = refl
-    idle-partial_fields (some fields) none path = refl
-    idle-partial_fields (some fields) (some fs) path = idle-each below (λ w. w) (then path) fields B refl 0 fs
+    idle-partial_fields None fs path = refl
+    idle-partial_fields (Some fields) None path = refl
+    idle-partial_fields (Some fields) (Some fs) path = idle-each below (λ w. w) (then path) fields B refl 0 fs
 
     pub idle-partial : Stays (partial o T address below)
     unfolding partial
@@ -201,16 +201,16 @@ module _ {S : Type 0} (o : Ops S) (T : Tables) (s : S) (I : Idle o s) where
 
     pub idle-inject_alternative : (n : ℕ) (f : FieldPattern) (alt : Option Alternative) (path : FieldPath) → inject_alternative o T address below n f alt path s ≡ s
     unfolding inject_alternative
-    idle-inject_alternative n f none path = reported n Code.RejectUnknownAlternative
-    idle-inject_alternative n f (some alt) path =
+    idle-inject_alternative n f None path = reported n Code.RejectUnknownAlternative
+    idle-inject_alternative n f (Some alt) path =
         ap (λ w. o.closer n (below f.node alt.type (payload path alt.disc) w)) (I.narrow n path _)
         ∙ ap (o.closer n) (B f.node alt.type (payload path alt.disc))
         ∙ I.closer n
 
     pub idle-inject_only : (n : ℕ) (f : Option FieldPattern) (alts : List Alternative) (path : FieldPath) → inject_only o T address below n f alts path s ≡ s
     unfolding inject_only
-    idle-inject_only n none alts path = reported n Code.RejectUnionArity
-    idle-inject_only n (some f) alts path = idle-inject_alternative n f (alternative_of alts f.name) path
+    idle-inject_only n None alts path = reported n Code.RejectUnionArity
+    idle-inject_only n (Some f) alts path = idle-inject_alternative n f (alternative_of alts f.name) path
 
     pub idle-inject : (fields : List FieldPattern) (alts : List Alternative) → Stays (inject o T address below fields alts)
     unfolding inject
@@ -219,8 +219,8 @@ module _ {S : Type 0} (o : Ops S) (T : Tables) (s : S) (I : Idle o s) where
 
     pub idle-read_answer : (n : ℕ) (slot : Option Slot) (t : ℕ) (path : FieldPath) (before : S) → read_answer o T address below n slot t path before s ≡ s
     unfolding read_answer
-    idle-read_answer n (some slot) t path before = idle-matched n slot t path
-    idle-read_answer n none t path before = by-option (λ w. w ≡ s) (record_fields (node_at T n)) (λ e. idle-unresolved n before) (λ fields e. idle-partial n t path)
+    idle-read_answer n (Some slot) t path before = idle-matched n slot t path
+    idle-read_answer n None t path before = by-option (λ w. w ≡ s) (record_fields (node_at T n)) (λ e. idle-unresolved n before) (λ fields e. idle-partial n t path)
 
     pub idle-read : Stays (read o T address below)
     unfolding read
@@ -235,8 +235,8 @@ module _ {S : Type 0} (o : Ops S) (T : Tables) (s : S) (I : Idle o s) where
     idle-variable x n t path = go (o.lookup s x) refl
       where
         go : (found : Option Slot) → o.lookup s x ≡ found → variable o T address below x n t path s ≡ s
-        go none e = new-is-bound o T address below x n t path s e ∙ ap (constrain o T x t path) (I.bind x _) ∙ idle-constrain x t path
-        go (some slot) e = bound-is-read o T address below x n t path s slot e ∙ idle-read n t path
+        go None e = new-is-bound o T address below x n t path s e ∙ ap (constrain o T x t path) (I.bind x _) ∙ idle-constrain x t path
+        go (Some slot) e = bound-is-read o T address below x n t path s slot e ∙ idle-read n t path
 
     pub idle-field_node : (node : Node) → Stays (field_node o T address below node)
     unfolding field_node
@@ -316,8 +316,8 @@ module _ {S : Type 0} (o : Ops S) (T : Tables) (s : S) (I : Idle o s) where
 
     pub idle-record_key : (fields : Option (List FieldPattern)) (n t : ℕ) (fs : List FieldTy) → record_key o T address fields n t fs s ≡ s
     unfolding record_key
-    idle-record_key (some fields) n t fs = idle-each (field o T address) o.skip field_path fields idle-field I.skip 0 fs
-    idle-record_key none n t fs = idle-whole_key (node_at T n) n t fs
+    idle-record_key (Some fields) n t fs = idle-each (field o T address) o.skip field_path fields idle-field I.skip 0 fs
+    idle-record_key None n t fs = idle-whole_key (node_at T n) n t fs
 
     pub idle-key : (n t : ℕ) → key o T address n t s ≡ s
     unfolding key

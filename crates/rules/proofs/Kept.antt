@@ -1,7 +1,7 @@
 -- Placement of events whose bounds a skip follows: what demand 3 says of one level.
 use mathlib.Core.Bool.{true, false}
 use mathlib.Core.List.{List, [], ◌∷◌, ◌++◌, append-nil, append_assoc}
-use mathlib.Core.Option.{Option, none, some}
+use Rattle.std.specs.Prelude.{Option, None, Some}
 use mathlib.Core.Path.{◌≡◌, refl, sym, ap, ◌∙◌, subst}
 use Prim.Native.Nat.{ℕ, suc, ◌+◌, ◌-◌, ◌≤◌, ◌<◌}
 use native.Mathlib.Omega.{arith}
@@ -42,14 +42,14 @@ edges_set e = number e.lo + number e.hi
 
 -- what stands while building holds
 pub record Building (range : Option Range) (guide : Option Guide) (e : Edges) : Type 0 where
-  pub no-range : range ≡ none
-  pub no-guide : guide ≡ none
+  pub no-range : range ≡ None
+  pub no-guide : guide ≡ None
   pub no_edge : edges_set e ≡ 0
 
 -- what stands always of range, guide and edges
 pub record Ranged (range : Option Range) (guide : Option Guide) (e : Edges) : Type 0 where
-  pub edge-excludes : 0 < edges_set e → (range ≡ none) × (guide ≡ none)
-  pub guide-path : (g : Guide) (r : Range) → guide ≡ some g → range ≡ some r → g.path ≡ r.path
+  pub edge-excludes : 0 < edges_set e → (range ≡ None) × (guide ≡ None)
+  pub guide-path : (g : Guide) (r : Range) → guide ≡ Some g → range ≡ Some r → g.path ≡ r.path
   pub edges-folded : edges_set e ≡ length e.folded
 
 -- what stands after any number of a walk's steps
@@ -118,17 +118,17 @@ module _ (b : SeekBuilder) (s : Steady b) where
       }
 
 -- where a guide may be set
-attach : (b : SeekBuilder) (path : FieldPath) → attachable b path ≡ true → (b.guide ≡ none) × (b.building ≡ false → range_at b.range path ≡ true)
+attach : (b : SeekBuilder) (path : FieldPath) → attachable b path ≡ true → (b.guide ≡ None) × (b.building ≡ false → range_at b.range path ≡ true)
 unfolding attachable
 attach b path =
-    by-option (λ r. r ≡ true → (b.guide ≡ none) × (b.building ≡ false → range_at b.range path ≡ true)) _
+    by-option (λ r. r ≡ true → (b.guide ≡ None) × (b.building ≡ false → range_at b.range path ≡ true)) _
     (λ e r. (e, by-test (λ q. q ≡ true → b.building ≡ false → range_at b.range path ≡ true) b.building (λ t q f. absurd (true≢false (sym t ∙ f))) (λ t q f. q) r))
     (λ g e r. absurd (true≢false (sym r)))
 
-range_at_lem : (o : Option Range) (path : FieldPath) → range_at o path ≡ true → (r : Range) × (o ≡ some r) × (r.path ≡ path)
+range_at_lem : (o : Option Range) (path : FieldPath) → range_at o path ≡ true → (r : Range) × (o ≡ Some r) × (r.path ≡ path)
 unfolding range_at
-range_at_lem none path e = absurd (true≢false (sym e))
-range_at_lem (some r) path e = (r, refl, same-path r.path path e)
+range_at_lem None path e = absurd (true≢false (sym e))
+range_at_lem (Some r) path e = (r, refl, same-path r.path path e)
 
 steady-guide : (b : SeekBuilder) (s : Steady b) (g : Guide) → attachable b g.path ≡ true → Steady (fall (with_guide g b))
 unfolding fall with_guide edges
@@ -417,8 +417,8 @@ made_all T (Event.bound x t ∷ es) b on = made-step T (Event.bound x t) es b (m
 -- lo and hi are two
 pub most-one : {A : Type 0} (o : Option A) → number o ≤ 1
 unfolding number
-most-one none = omega arith
-most-one (some a) = omega arith
+most-one None = omega arith
+most-one (Some a) = omega arith
 
 edges-two : (b : SeekBuilder) → edges b ≤ 2
 unfolding edges

@@ -1,7 +1,7 @@
 -- What a level adds to the four lists stands at their ends, and binds no name anew.
 use mathlib.Core.Bool.{false}
 use mathlib.Core.List.{List, [], ◌∷◌, ◌++◌, append-nil, append_assoc}
-use mathlib.Core.Option.{Option, none, some}
+use Rattle.std.specs.Prelude.{Option, None, Some}
 use mathlib.Core.Path.{◌≡◌, refl, sym, ap, ◌∙◌, subst}
 use Prim.Native.Nat.{ℕ}
 use lib.Dec.{eqb}
@@ -32,22 +32,22 @@ anew-next bound [] b g h = subst (λ l. NoneAnew l b) (append-nil bound) h
 anew-next bound (x ∷ a) b g h = (g.0, anew-next (bound ++ (x ∷ [])) a b g.1 (subst (λ l. NoneAnew l b) (sym (append_assoc bound (x ∷ []) a)) h))
 
 -- nothing looked up: no binding has the name
-last_none : (found : Option Binding) (bs : List Binding) (x : ℕ) → last_or found (λ b. eqb b.name x) bs ≡ none → (found ≡ none) × (already_bound bs x ≡ false)
+last_none : (found : Option Binding) (bs : List Binding) (x : ℕ) → last_or found (λ b. eqb b.name x) bs ≡ None → (found ≡ None) × (already_bound bs x ≡ false)
 unfolding last_or already_bound
 last_none found [] x e = (e, refl)
 last_none found (b ∷ bs) x e =
-    by-test (λ r. r ≡ none → (found ≡ none) × (already_bound (b ∷ bs) x ≡ false)) (eqb b.name x)
-    (λ q r. absurd (some≢none b (last_none (some b) bs x r).0))
+    by-test (λ r. r ≡ None → (found ≡ None) × (already_bound (b ∷ bs) x ≡ false)) (eqb b.name x)
+    (λ q r. absurd (some≢none b (last_none (Some b) bs x r).0))
     (λ q r. let h = last_none found bs x r in (h.0, rw (q, already_bound) h.1)) e
 
-bind-none : {A B : Type 0} (o : Option A) (f : A → B) → (o when_some λ a. some (f a)) ≡ none → o ≡ none
+bind-none : {A B : Type 0} (o : Option A) (f : A → B) → (o when_some λ a. Some (f a)) ≡ None → o ≡ None
 unfolding ◌when_some◌
-bind-none none f e = refl
-bind-none (some a) f e = absurd (some≢none (f a) e)
+bind-none None f e = refl
+bind-none (Some a) f e = absurd (some≢none (f a) e)
 
-pub unbound : (bs : List Binding) (x : ℕ) → lookup bs x ≡ none → already_bound bs x ≡ false
+pub unbound : (bs : List Binding) (x : ℕ) → lookup bs x ≡ None → already_bound bs x ≡ false
 unfolding lookup
-unbound bs x e = (last_none none bs x (bind-none _ (λ b. b.slot) e)).1
+unbound bs x e = (last_none None bs x (bind-none _ (λ b. b.slot) e)).1
 
 abbrev pub AddsTo : Walk → Walk → Type 0
 AddsTo w w' = Adds w.lists w'.lists

@@ -2,7 +2,7 @@
 -- are the file's.
 use mathlib.Core.Bool.{Bool, true, false}
 use mathlib.Core.List.{List, [], ◌∷◌}
-use mathlib.Core.Option.{Option, none, some, get_or}
+use Rattle.std.specs.Prelude.{Option, None, Some, unwrap_or}
 use mathlib.Core.Path.{◌≡◌, refl, sym, ap, ◌∙◌, subst}
 use Prim.Native.Nat.{ℕ, zero, suc, ◌≤◌, ◌<◌}
 use native.Mathlib.Nat.{zero-add}
@@ -42,7 +42,7 @@ either_true true = refl
 either_true false = refl
 
 -- A constant's form.
-pub record-node : (node : Node) (fs : List FieldPattern) → record_fields node ≡ some fs → node ≡ Node.Record fs
+pub record-node : (node : Node) (fs : List FieldPattern) → record_fields node ≡ Some fs → node ≡ Node.Record fs
 unfolding record_fields
 record-node (Node.Int bytes) fs e = absurd (some≢none fs (sym e))
 record-node (Node.Str x) fs e = absurd (some≢none fs (sym e))
@@ -62,7 +62,7 @@ record-node (Node.Fact p n) fs e = absurd (some≢none fs (sym e))
 record-node Node.Arith fs e = absurd (some≢none fs (sym e))
 record-node Node.Error fs e = absurd (some≢none fs (sym e))
 
-record-type : (ty : Ty) (fs : List FieldTy) → record_ty ty ≡ some fs → ty ≡ Ty.Record fs
+record-type : (ty : Ty) (fs : List FieldTy) → record_ty ty ≡ Some fs → ty ≡ Ty.Record fs
 unfolding record_ty
 record-type Ty.Int fs e = absurd (some≢none fs (sym e))
 record-type Ty.Str fs e = absurd (some≢none fs (sym e))
@@ -71,7 +71,7 @@ record-type (Ty.Fact p) fs e = absurd (some≢none fs (sym e))
 record-type (Ty.Record gs) fs e = ap Ty.Record (some-injective gs fs e)
 record-type (Ty.Union alts) fs e = absurd (some≢none fs (sym e))
 
-union-type : (ty : Ty) (alts : List Alternative) → union_ty ty ≡ some alts → ty ≡ Ty.Union alts
+union-type : (ty : Ty) (alts : List Alternative) → union_ty ty ≡ Some alts → ty ≡ Ty.Union alts
 unfolding union_ty
 union-type Ty.Int alts e = absurd (some≢none alts (sym e))
 union-type Ty.Str alts e = absurd (some≢none alts (sym e))
@@ -104,44 +104,44 @@ module _ (T : Tables) where
       go false q = refl
 
   -- a node that is no Var stands for itself
-  stands-itself : (n : ℕ) → var_name (node_at T n) ≡ none → stands_for T n ≡ n
+  stands-itself : (n : ℕ) → var_name (node_at T n) ≡ None → stands_for T n ≡ n
   unfolding stands_for const_of ◌when_some◌
-  stands-itself n e = ap (λ (o : Option ℕ). get_or (o when_some const_bound T.bindings) n) e
+  stands-itself n e = ap (λ (o : Option ℕ). unwrap_or (o when_some const_bound T.bindings) n) e
 
   -- `folded`, by one step
   abbrev step_by : (ℕ → Option ℕ) → ℕ → Bool → Node → Option ℕ
-  step_by below n constant node = elim constant [ true ↦ some n | false ↦ folded_node T below n node ]
+  step_by below n constant node = elim constant [ true ↦ Some n | false ↦ folded_node T below n node ]
 
-  folded-constant : (n : ℕ) → is_constant T n ≡ true → folded T n ≡ some n
+  folded-constant : (n : ℕ) → is_constant T n ≡ true → folded T n ≡ Some n
   unfolding folded folded_below
   folded-constant n e = go (length T.nodes) (constant-in n e)
     where
-      go : (limit : ℕ) → n < limit → folded_below T limit n ≡ some n
+      go : (limit : ℕ) → n < limit → folded_below T limit n ≡ Some n
       go zero h = absurd (omega arith)
       go (suc limit) h = ap (λ (b : Bool). step_by (folded_below T limit) n b (node_at T n)) e
 
   -- a node that is no constant and reads of no other
-  folded-none : (n : ℕ) (node : Node) → node_at T n ≡ node → is_constant T n ≡ false → ((below : ℕ → Option ℕ) → folded_node T below n node ≡ none) → folded T n ≡ none
+  folded-none : (n : ℕ) (node : Node) → node_at T n ≡ node → is_constant T n ≡ false → ((below : ℕ → Option ℕ) → folded_node T below n node ≡ None) → folded T n ≡ None
   unfolding folded folded_below
   folded-none n node e c h = go (length T.nodes)
     where
-      go : (limit : ℕ) → folded_below T limit n ≡ none
+      go : (limit : ℕ) → folded_below T limit n ≡ None
       go zero = refl
       go (suc limit) = ap (λ (b : Bool). step_by (folded_below T limit) n b (node_at T n)) c ∙ ap (folded_node T (folded_below T limit) n) e ∙ h (folded_below T limit)
 
-  folded-var : (n x : ℕ) → node_at T n ≡ Node.Var x → const_bound T.bindings x ≡ none → folded T n ≡ none
+  folded-var : (n x : ℕ) → node_at T n ≡ Node.Var x → const_bound T.bindings x ≡ None → folded T n ≡ None
   unfolding folded_node constant_of
   folded-var n x e h = folded-none n (Node.Var x) e (no-constant n (Node.Var x) e (λ cs. refl)) (λ below. h)
 
 module _ (T : Tables) (S : Sound T) where
   -- What has bytes is not met, and neither is anything in it.
   abbrev Fine : (ℕ → ℕ → Bool) → Type 0
-  Fine below = (n t : ℕ) (k : Const) → t < length T.types → constant T n t ≡ some k → below n t ≡ false
+  Fine below = (n t : ℕ) (k : Const) → t < length T.types → constant T n t ≡ Some k → below n t ≡ false
 
-  field-types : (t : ℕ) (fs : List FieldTy) → t < length T.types → record_ty (type_at T t) ≡ some fs → Each (λ f. f.type < length T.types) fs
+  field-types : (t : ℕ) (fs : List FieldTy) → t < length T.types → record_ty (type_at T t) ≡ Some fs → Each (λ f. f.type < length T.types) fs
   field-types t fs h e = each-imply (λ f c. c.in-types) (record-children (Child T t) (type_at T t) fs (S.children t h) e)
 
-  alternative-type : (t : ℕ) (alts : List Alternative) (x : ℕ) (alt : Alternative) → t < length T.types → union_ty (type_at T t) ≡ some alts → alternative_of alts x ≡ some alt → alt.type < length T.types
+  alternative-type : (t : ℕ) (alts : List Alternative) (x : ℕ) (alt : Alternative) → t < length T.types → union_ty (type_at T t) ≡ Some alts → alternative_of alts x ≡ Some alt → alt.type < length T.types
   unfolding alternative_of
   alternative-type t alts x alt h e q = (each_first _ (union-children (Child T t) (type_at T t) alts (S.children t h) e) alt q).in-types
 
@@ -153,9 +153,9 @@ module _ (T : Tables) (S : Sound T) where
       ∙ ap (λ (node : Node). constant_node T (constant T) node (type_at T t)) e
 
   abbrev pattern_meets : (ℕ → ℕ → Bool) → ℕ → Option ℕ → Bool
-  pattern_meets below t o = elim o [ none ↦ false | some pattern ↦ below pattern t ]
+  pattern_meets below t o = elim o [ None ↦ false | Some pattern ↦ below pattern t ]
 
-  fine-fields : (below : ℕ → ℕ → Bool) → Fine below → (fields : List FieldPattern) {fs : List FieldTy} → Each (λ f. f.type < length T.types) fs → (bytes : List ℕ) → constant_fields (constant T) fields fs ≡ some bytes → any_field below fields fs ≡ false
+  fine-fields : (below : ℕ → ℕ → Bool) → Fine below → (fields : List FieldPattern) {fs : List FieldTy} → Each (λ f. f.type < length T.types) fs → (bytes : List ℕ) → constant_fields (constant T) fields fs ≡ Some bytes → any_field below fields fs ≡ false
   unfolding constant_fields any_field
   fine-fields below h fields done bytes e = refl
   fine-fields below h fields (more {x = f} {xs = fs} l ls) bytes e =
@@ -167,7 +167,7 @@ module _ (T : Tables) (S : Sound T) where
       ∙ fine-fields below h fields ls d.0 d.1
 
   module _ (below : ℕ → ℕ → Bool) (B : Fine below) where
-    fine-opened : (n t : ℕ) (k : Const) (fields : List FieldPattern) (fs : List FieldTy) → t < length T.types → record_fields (node_at T n) ≡ some fields → record_ty (type_at T t) ≡ some fs → constant T n t ≡ some k → any_field below fields fs ≡ false
+    fine-opened : (n t : ℕ) (k : Const) (fields : List FieldPattern) (fs : List FieldTy) → t < length T.types → record_fields (node_at T n) ≡ Some fields → record_ty (type_at T t) ≡ Some fs → constant T n t ≡ Some k → any_field below fields fs ≡ false
     unfolding constant_record
     fine-opened n t k fields fs h p q e =
         let c = sym (constant-record n t fields h (record-node (node_at T n) fields p) ∙ ap (constant_record (constant T) fields) (record-type (type_at T t) fs q)) ∙ e in
@@ -179,17 +179,17 @@ module _ (T : Tables) (S : Sound T) where
     fine-brought n t k h e = go (record_fields (node_at T n)) (record_ty (type_at T t)) refl refl
       where
         go : (ps : Option (List FieldPattern)) (fs : Option (List FieldTy)) → record_fields (node_at T n) ≡ ps → record_ty (type_at T t) ≡ fs → brought_by T below n t ps fs ≡ false
-        go none fs p q = ap lacks_bytes e
-        go (some fields) none p q = ap lacks_bytes e
-        go (some fields) (some fs) p q = fine-opened n t k fields fs h p q e
+        go None fs p q = ap lacks_bytes e
+        go (Some fields) None p q = ap lacks_bytes e
+        go (Some fields) (Some fs) p q = fine-opened n t k fields fs h p q e
 
     abbrev chosen_meets : FieldPattern → Option Alternative → Bool
-    chosen_meets f o = elim o [ none ↦ false | some alt ↦ below f.node alt.type ]
+    chosen_meets f o = elim o [ None ↦ false | Some alt ↦ below f.node alt.type ]
 
     abbrev only_meets : List Alternative → Option FieldPattern → Bool
-    only_meets alts o = elim o [ none ↦ false | some f ↦ chosen_meets f (alternative_of alts f.name) ]
+    only_meets alts o = elim o [ None ↦ false | Some f ↦ chosen_meets f (alternative_of alts f.name) ]
 
-    fine-payload : (t : ℕ) (k : Const) (fields : List FieldPattern) (alts : List Alternative) → t < length T.types → union_ty (type_at T t) ≡ some alts → constant_record (constant T) fields (Ty.Union alts) ≡ some k → payload_meets T below fields alts ≡ false
+    fine-payload : (t : ℕ) (k : Const) (fields : List FieldPattern) (alts : List Alternative) → t < length T.types → union_ty (type_at T t) ≡ Some alts → constant_record (constant T) fields (Ty.Union alts) ≡ Some k → payload_meets T below fields alts ≡ false
     unfolding payload_meets constant_record
     fine-payload t k fields alts h u e =
         let a = bind-some (only_field fields) _ k e in
@@ -198,11 +198,11 @@ module _ (T : Tables) (S : Sound T) where
         ap (only_meets alts) a.1 ∙ ap (chosen_meets a.0) b.1
         ∙ B a.0.node b.0.type c.0 (alternative-type t alts a.0.name b.0 h u b.1) c.1
 
-    fine-record : (n t : ℕ) (k : Const) (fields : List FieldPattern) → t < length T.types → record_fields (node_at T n) ≡ some fields → constant T n t ≡ some k → record_meets T below n fields (type_at T t) ≡ false
+    fine-record : (n t : ℕ) (k : Const) (fields : List FieldPattern) → t < length T.types → record_fields (node_at T n) ≡ Some fields → constant T n t ≡ Some k → record_meets T below n fields (type_at T t) ≡ false
     unfolding record_meets record_ty union_ty constant_record
     fine-record n t k fields h p e = go (type_at T t) refl (sym (constant-record n t fields h (record-node (node_at T n) fields p)) ∙ e)
       where
-        go : (ty : Ty) → type_at T t ≡ ty → constant_record (constant T) fields (type_at T t) ≡ some k → record_meets T below n fields ty ≡ false
+        go : (ty : Ty) → type_at T t ≡ ty → constant_record (constant T) fields (type_at T t) ≡ Some k → record_meets T below n fields ty ≡ false
         go Ty.Int q r = absurd (some≢none k (sym r ∙ ap (constant_record (constant T) fields) q))
         go Ty.Str q r = absurd (some≢none k (sym r ∙ ap (constant_record (constant T) fields) q))
         go Ty.Bytes q r = absurd (some≢none k (sym r ∙ ap (constant_record (constant T) fields) q))
@@ -211,16 +211,16 @@ module _ (T : Tables) (S : Sound T) where
         go (Ty.Union alts) q r = fine-payload t k fields alts h (ap union_ty q) (sym (ap (constant_record (constant T) fields) q) ∙ r)
 
   -- a Var's Const has the Var's bytes
-  var-const : (n t x c : ℕ) (k : Const) → t < length T.types → node_at T n ≡ Node.Var x → const_bound T.bindings x ≡ some c → constant T n t ≡ some k → constant T c t ≡ some k
+  var-const : (n t x c : ℕ) (k : Const) → t < length T.types → node_at T n ≡ Node.Var x → const_bound T.bindings x ≡ Some c → constant T n t ≡ Some k → constant T c t ≡ Some k
   unfolding stands_for const_of var_name ◌when_some◌ constant_node
   var-const n t x c k h e q r =
-      let m : stands_for T n ≡ c = ap (λ (o : Option ℕ). get_or (o when_some const_bound T.bindings) n) (ap var_name e) ∙ ap (λ (o : Option ℕ). get_or o n) q in
-      let v : constant_node T (constant T) (node_at T c) (type_at T t) ≡ some k = sym (constant-is T S n t h ∙ ap (λ (y : ℕ). constant_node T (constant T) (node_at T y) (type_at T t)) m) ∙ r in
+      let m : stands_for T n ≡ c = ap (λ (o : Option ℕ). unwrap_or (o when_some const_bound T.bindings) n) (ap var_name e) ∙ ap (λ (o : Option ℕ). unwrap_or o n) q in
+      let v : constant_node T (constant T) (node_at T c) (type_at T t) ≡ Some k = sym (constant-is T S n t h ∙ ap (λ (y : ℕ). constant_node T (constant T) (node_at T y) (type_at T t)) m) ∙ r in
       constant-is T S c t h
       ∙ ap (λ (y : ℕ). constant_node T (constant T) (node_at T y) (type_at T t)) (stands-itself T c (no-var (node_at T c) v))
       ∙ v
     where
-      no-var : (node : Node) → constant_node T (constant T) node (type_at T t) ≡ some k → var_name node ≡ none
+      no-var : (node : Node) → constant_node T (constant T) node (type_at T t) ≡ Some k → var_name node ≡ None
       no-var (Node.Int bytes) v = refl
       no-var (Node.Str y) v = refl
       no-var (Node.Bytes bytes) v = refl
@@ -240,17 +240,17 @@ module _ (T : Tables) (S : Sound T) where
       no-var Node.Error v = refl
 
   -- a read has no bytes of its own
-  read-lacks : (n t : ℕ) (k : Const) (node : Node) → t < length T.types → node_at T n ≡ node → var_name node ≡ none → constant_node T (constant T) node (type_at T t) ≡ none → constant T n t ≡ some k → ⊥
+  read-lacks : (n t : ℕ) (k : Const) (node : Node) → t < length T.types → node_at T n ≡ node → var_name node ≡ None → constant_node T (constant T) node (type_at T t) ≡ None → constant T n t ≡ Some k → ⊥
   read-lacks n t k node h e v c r =
       some≢none k
       (sym r ∙ constant-is T S n t h ∙ ap (λ (y : ℕ). constant_node T (constant T) (node_at T y) (type_at T t)) (stands-itself T n (ap var_name e ∙ v))
       ∙ ap (λ (x : Node). constant_node T (constant T) x (type_at T t)) e ∙ c)
 
-  folded-bytes : (n t c : ℕ) (k : Const) → t < length T.types → folded T n ≡ some c → constant T n t ≡ some k → constant T c t ≡ some k
+  folded-bytes : (n t c : ℕ) (k : Const) → t < length T.types → folded T n ≡ Some c → constant T n t ≡ Some k → constant T c t ≡ Some k
   unfolding folded folded_below folded_node var_name constant_node
   folded-bytes n t c k h f r = go (length T.nodes) f
     where
-      other : (below : ℕ → Option ℕ) (node : Node) → node_at T n ≡ node → folded_node T below n node ≡ some c → constant T c t ≡ some k
+      other : (below : ℕ → Option ℕ) (node : Node) → node_at T n ≡ node → folded_node T below n node ≡ Some c → constant T c t ≡ Some k
       other below (Node.Int bytes) e q = absurd (some≢none c (sym q))
       other below (Node.Str x) e q = absurd (some≢none c (sym q))
       other below (Node.Bytes bytes) e q = absurd (some≢none c (sym q))
@@ -269,11 +269,11 @@ module _ (T : Tables) (S : Sound T) where
       other below Node.Arith e q = absurd (some≢none c (sym q))
       other below Node.Error e q = absurd (some≢none c (sym q))
 
-      go : (limit : ℕ) → folded_below T limit n ≡ some c → constant T c t ≡ some k
+      go : (limit : ℕ) → folded_below T limit n ≡ Some c → constant T c t ≡ Some k
       go zero q = absurd (some≢none c (sym q))
       go (suc limit) q =
-          by-test (λ (o : Option ℕ). o ≡ some c → constant T c t ≡ some k) (is_constant T n)
-          (λ e p. subst (λ (y : ℕ). constant T y t ≡ some k) (some-injective n c p) r)
+          by-test (λ (o : Option ℕ). o ≡ Some c → constant T c t ≡ Some k) (is_constant T n)
+          (λ e p. subst (λ (y : ℕ). constant T y t ≡ Some k) (some-injective n c p) r)
           (λ e p. other (folded_below T limit) (node_at T n) refl p) q
 
   fine-node : (below : ℕ → ℕ → Bool) → Fine below → Fine (field_meets T below)
@@ -313,7 +313,7 @@ module _ (T : Tables) where
   unfolding constrained
   holds-constrained x h = record { consts = h.consts; flag = h.flag }
 
-  holds-bind : (x : ℕ) (slot : Slot) {b : Bool} {w : Walk} → lookup w.lists.bindings x ≡ none → const_node slot ≡ none → Holds b w → Holds b (bind x slot w)
+  holds-bind : (x : ℕ) (slot : Slot) {b : Bool} {w : Walk} → lookup w.lists.bindings x ≡ None → const_node slot ≡ None → Holds b w → Holds b (bind x slot w)
   unfolding bind
   holds-bind x slot {b} {w} e c h =
       record { consts = λ y. const-snoc w.lists.bindings (record { name = x; slot = slot }) y e c ∙ h.consts y; flag = h.flag }
@@ -331,58 +331,58 @@ module _ (T : Tables) where
   unfolding give
   reads-give s c e h = record { const = e; held = h }
 
-  reads_none : {b : Bool} {w : Walk} → Holds b w → Reads b (give none w) none
+  reads_none : {b : Bool} {w : Walk} → Holds b w → Reads b (give None w) None
   unfolding ◌when_some◌
-  reads_none h = reads-give none none refl h
+  reads_none h = reads-give None None refl h
 
-  reads-slot : (s : Slot) {b : Bool} {w : Walk} → Holds b w → Reads b (give (some s) w) (const_node s)
+  reads-slot : (s : Slot) {b : Bool} {w : Walk} → Holds b w → Reads b (give (Some s) w) (const_node s)
   unfolding ◌when_some◌
-  reads-slot s h = reads-give (some s) (const_node s) refl h
+  reads-slot s h = reads-give (Some s) (const_node s) refl h
 
-  reads-declined : (n : ℕ) (code : Code) {b : Bool} {w : Walk} → Holds b w → Reads b (declined (walk_ops T) T n code w) none
+  reads-declined : (n : ℕ) (code : Code) {b : Bool} {w : Walk} → Holds b w → Reads b (declined (walk_ops T) T n code w) None
   unfolding declined ◌when_some◌
   reads-declined n code h = record { const = refl; held = holds-report n code h }
 
-  reads-next : (r : Resolver Walk) (g : Slot → Resolver Walk) (G : Option ℕ → Option ℕ) {c : Option ℕ} {b : Bool} {w : Walk} → G none ≡ none → Reads b (r w) c → ((s : Slot) (v : Walk) → Holds b v → Reads b (g s v) (G (const_node s))) → Reads b ((r when_found g) w) (G c)
+  reads-next : (r : Resolver Walk) (g : Slot → Resolver Walk) (G : Option ℕ → Option ℕ) {c : Option ℕ} {b : Bool} {w : Walk} → G None ≡ None → Reads b (r w) c → ((s : Slot) (v : Walk) → Holds b v → Reads b (g s v) (G (const_node s))) → Reads b ((r when_found g) w) (G c)
   unfolding ◌when_found◌ follow ◌when_some◌
   reads-next r g G {c} {b} {w} z h k = go (r w).slot refl
     where
-      go : (o : Option Slot) → (r w).slot ≡ o → Reads b (elim o [ none ↦ record { slot = none; walk = (r w).walk } | some s ↦ g s (r w).walk ]) (G c)
-      go none e = record { const = sym z ∙ ap G (sym (ap (λ (o : Option Slot). o when_some const_node) e) ∙ h.const); held = h.held }
-      go (some s) e = subst (Reads b (g s (r w).walk)) (ap G (sym (ap (λ (o : Option Slot). o when_some const_node) e) ∙ h.const)) (k s (r w).walk h.held)
+      go : (o : Option Slot) → (r w).slot ≡ o → Reads b (elim o [ None ↦ record { slot = None; walk = (r w).walk } | Some s ↦ g s (r w).walk ]) (G c)
+      go None e = record { const = sym z ∙ ap G (sym (ap (λ (o : Option Slot). o when_some const_node) e) ∙ h.const); held = h.held }
+      go (Some s) e = subst (Reads b (g s (r w).walk)) (ap G (sym (ap (λ (o : Option Slot). o when_some const_node) e) ∙ h.const)) (k s (r w).walk h.held)
 
   -- slots that are no Const
-  slot-at : (a : ℕ) (place : ℕ → FieldPath) (found : Option FieldAt) → (slot_at a place found when_some const_node) ≡ none
+  slot-at : (a : ℕ) (place : ℕ → FieldPath) (found : Option FieldAt) → (slot_at a place found when_some const_node) ≡ None
   unfolding slot_at ◌when_some◌ const_node
-  slot-at a place none = refl
-  slot-at a place (some f) = refl
+  slot-at a place None = refl
+  slot-at a place (Some f) = refl
 
-  row_field_lem : (a : ℕ) (p : Option ℕ) (x : ℕ) → (row_field T a p x when_some const_node) ≡ none
+  row_field_lem : (a : ℕ) (p : Option ℕ) (x : ℕ) → (row_field T a p x when_some const_node) ≡ None
   unfolding row_field ◌when_some◌
-  row_field_lem a none x = refl
-  row_field_lem a (some p) x = slot-at a field_path (field_of (type_at T (predicate_at T p).key) x)
+  row_field_lem a None x = refl
+  row_field_lem a (Some p) x = slot-at a field_path (field_of (type_at T (predicate_at T p).key) x)
 
-  row-value : (a : ℕ) (p : Option ℕ) → (row_value T a p when_some const_node) ≡ none
+  row-value : (a : ℕ) (p : Option ℕ) → (row_value T a p when_some const_node) ≡ None
   unfolding row_value ◌when_some◌ const_node
-  row-value a none = refl
-  row-value a (some p) = go (predicate_at T p).value
+  row-value a None = refl
+  row-value a (Some p) = go (predicate_at T p).value
     where
-      go : (v : Option ℕ) → ((v when_some λ t. some (Slot.Value a t)) when_some const_node) ≡ none
-      go none = refl
-      go (some t) = refl
+      go : (v : Option ℕ) → ((v when_some λ t. Some (Slot.Value a t)) when_some const_node) ≡ None
+      go None = refl
+      go (Some t) = refl
 
   folded-slot : (c x : ℕ) → (folded_slot T c x when_some const_node) ≡ folded_field T c x
   unfolding folded_slot ◌when_some◌ const_node
   folded-slot c x = go (folded_field T c x)
     where
-      go : (o : Option ℕ) → ((o when_some λ n. some (Slot.Const n)) when_some const_node) ≡ o
-      go none = refl
-      go (some n) = refl
+      go : (o : Option ℕ) → ((o when_some λ n. Some (Slot.Const n)) when_some const_node) ≡ o
+      go None = refl
+      go (Some n) = refl
 
-  reads_fetched : (n p : ℕ) (register : Option ℕ) {b : Bool} {w : Walk} → Holds b w → Reads b (fetched_row (walk_ops T) T n p register w) none
+  reads_fetched : (n p : ℕ) (register : Option ℕ) {b : Bool} {w : Walk} → Holds b w → Reads b (fetched_row (walk_ops T) T n p register w) None
   unfolding fetched_row const_node
-  reads_fetched n p none h = reads-declined n Code.NyiFactField h
-  reads_fetched n p (some r) h = reads-slot (Slot.Row r (some p)) h
+  reads_fetched n p None h = reads-declined n Code.NyiFactField h
+  reads_fetched n p (Some r) h = reads-slot (Slot.Row r (Some p)) h
 
   reads-dereference : (n : ℕ) (s : Slot) {b : Bool} {w : Walk} → Holds b w → Reads b (dereference (walk_ops T) T n s w) (const_node s)
   unfolding dereference const_node
@@ -390,14 +390,14 @@ module _ (T : Tables) where
   reads-dereference n (Slot.Key a t) h = reads-slot (Slot.Key a t) h
   reads-dereference n (Slot.Derived a) h = reads-slot (Slot.Derived a) h
   reads-dereference n (Slot.Field a path t) {b} {w} h =
-      by-option (λ (r : Resolver Walk). Reads b (r w) none) (fact_ty (type_at T t)) (λ e. reads-slot (Slot.Field a path t) h) (λ p e. reads_fetched n p (fetched_register T a path) h)
+      by-option (λ (r : Resolver Walk). Reads b (r w) None) (fact_ty (type_at T t)) (λ e. reads-slot (Slot.Field a path t) h) (λ p e. reads_fetched n p (fetched_register T a path) h)
   reads-dereference n (Slot.Value a t) {b} {w} h =
-      by-option (λ (r : Resolver Walk). Reads b (r w) none) (fact_ty (type_at T t)) (λ e. reads-slot (Slot.Value a t) h) (λ p e. reads-declined n Code.NyiFactField h)
+      by-option (λ (r : Resolver Walk). Reads b (r w) None) (fact_ty (type_at T t)) (λ e. reads-slot (Slot.Value a t) h) (λ p e. reads-declined n Code.NyiFactField h)
   reads-dereference n (Slot.Const c) h = reads-slot (Slot.Const c) h
 
-  reads-row : (x : ℕ) (s : Slot) {b : Bool} {w : Walk} → Holds b w → Reads b (field_of_row (walk_ops T) T x s w) none
+  reads-row : (x : ℕ) (s : Slot) {b : Bool} {w : Walk} → Holds b w → Reads b (field_of_row (walk_ops T) T x s w) None
   unfolding field_of_row
-  reads-row x (Slot.Row a p) h = reads-give _ none (row_field_lem a p x) h
+  reads-row x (Slot.Row a p) h = reads-give _ None (row_field_lem a p x) h
   reads-row x (Slot.Key a t) h = reads_none h
   reads-row x (Slot.Derived a) h = reads_none h
   reads-row x (Slot.Field a path t) h = reads_none h
@@ -406,42 +406,42 @@ module _ (T : Tables) where
 
   reads-field : (n : ℕ) (s : Slot) (x : ℕ) {b : Bool} {w : Walk} → Holds b w → Reads b (field_slot (walk_ops T) T n s x w) (const_node s when_some λ c. folded_field T c x)
   unfolding field_slot const_node ◌when_some◌
-  reads-field n (Slot.Row a p) x h = reads-give _ none (row_field_lem a p x) h
-  reads-field n (Slot.Key a t) x h = reads-give _ none (slot-at a field_path (field_of (type_at T t) x)) h
+  reads-field n (Slot.Row a p) x h = reads-give _ None (row_field_lem a p x) h
+  reads-field n (Slot.Key a t) x h = reads-give _ None (slot-at a field_path (field_of (type_at T t) x)) h
   reads-field n (Slot.Derived a) x h = reads_none h
   reads-field n (Slot.Field a path t) x {b} {w} h =
-      by-option (λ (r : Resolver Walk). Reads b (r w) none) (fact_ty (type_at T t))
-      (λ e. reads-give _ none (slot-at a (then path) (field_of (type_at T t) x)) h)
-      (λ p e. reads-next (dereference (walk_ops T) T n (Slot.Field a path t)) (field_of_row (walk_ops T) T x) (λ o. none) refl (reads-dereference n (Slot.Field a path t) h) (λ s v k. reads-row x s k))
+      by-option (λ (r : Resolver Walk). Reads b (r w) None) (fact_ty (type_at T t))
+      (λ e. reads-give _ None (slot-at a (then path) (field_of (type_at T t) x)) h)
+      (λ p e. reads-next (dereference (walk_ops T) T n (Slot.Field a path t)) (field_of_row (walk_ops T) T x) (λ o. None) refl (reads-dereference n (Slot.Field a path t) h) (λ s v k. reads-row x s k))
   reads-field n (Slot.Value a t) x h = reads-declined n Code.NyiValueField h
   reads-field n (Slot.Const c) x h = reads-give _ _ (folded-slot c x) h
 
-  reads-value : (s : Slot) {b : Bool} {w : Walk} → Holds b w → Reads b (value_slot (walk_ops T) T s w) none
+  reads-value : (s : Slot) {b : Bool} {w : Walk} → Holds b w → Reads b (value_slot (walk_ops T) T s w) None
   unfolding value_slot
-  reads-value (Slot.Row a p) h = reads-give _ none (row-value a p) h
+  reads-value (Slot.Row a p) h = reads-give _ None (row-value a p) h
   reads-value (Slot.Key a t) h = reads_none h
   reads-value (Slot.Derived a) h = reads_none h
   reads-value (Slot.Field a path t) h = reads_none h
   reads-value (Slot.Value a t) h = reads_none h
   reads-value (Slot.Const c) h = reads_none h
 
-  reads-selected : (a : ℕ) (path : FieldPath) (alt : Option Alternative) {b : Bool} {w : Walk} → Holds b w → Reads b (selected (walk_ops T) T a path alt w) none
+  reads-selected : (a : ℕ) (path : FieldPath) (alt : Option Alternative) {b : Bool} {w : Walk} → Holds b w → Reads b (selected (walk_ops T) T a path alt w) None
   unfolding selected ◌when_some◌ const_node
-  reads-selected a path none h = reads_none h
-  reads-selected a path (some alt) h = record { const = refl; held = holds-select a path alt.disc h }
+  reads-selected a path None h = reads_none h
+  reads-selected a path (Some alt) h = record { const = refl; held = holds-select a path alt.disc h }
 
-  reads-select : (n : ℕ) (s : Slot) (x : ℕ) {b : Bool} {w : Walk} → Holds b w → Reads b (select_slot (walk_ops T) T n s x w) none
+  reads-select : (n : ℕ) (s : Slot) (x : ℕ) {b : Bool} {w : Walk} → Holds b w → Reads b (select_slot (walk_ops T) T n s x w) None
   unfolding select_slot
   reads-select n (Slot.Row a p) x h = reads-declined n Code.NyiFactField h
   reads-select n (Slot.Key a t) x h = reads-declined n Code.NyiFactField h
   reads-select n (Slot.Derived a) x h = reads-declined n Code.NyiFactField h
   reads-select n (Slot.Field a path t) x {b} {w} h =
-      by-option (λ (r : Resolver Walk). Reads b (r w) none) (union_ty (type_at T t)) (λ e. reads-declined n Code.NyiFactField h) (λ alts e. reads-selected a path (alternative_of alts x) h)
+      by-option (λ (r : Resolver Walk). Reads b (r w) None) (union_ty (type_at T t)) (λ e. reads-declined n Code.NyiFactField h) (λ alts e. reads-selected a path (alternative_of alts x) h)
   reads-select n (Slot.Value a t) x h = reads-declined n Code.NyiFactField h
   reads-select n (Slot.Const c) x h = reads-declined n Code.NyiFactField h
 
   -- a base read and dereferenced
-  reads-base : (below : ℕ → Resolver Walk) (n base : ℕ) (g : Slot → Resolver Walk) (G : Option ℕ → Option ℕ) {c : Option ℕ} {b : Bool} {w : Walk} → G none ≡ none → Reads b (below base w) c → ((s : Slot) (v : Walk) → Holds b v → Reads b (g s v) (G (const_node s))) → Reads b ((below base when_found λ slot. (dereference (walk_ops T) T n slot when_found g)) w) (G c)
+  reads-base : (below : ℕ → Resolver Walk) (n base : ℕ) (g : Slot → Resolver Walk) (G : Option ℕ → Option ℕ) {c : Option ℕ} {b : Bool} {w : Walk} → G None ≡ None → Reads b (below base w) c → ((s : Slot) (v : Walk) → Holds b v → Reads b (g s v) (G (const_node s))) → Reads b ((below base when_found λ slot. (dereference (walk_ops T) T n slot when_found g)) w) (G c)
   reads-base below n base g G z h k =
       reads-next (below base) (λ slot. (dereference (walk_ops T) T n slot when_found g)) G z h (λ s v q. reads-next (dereference (walk_ops T) T n s) g G z (reads-dereference n s q) k)
 
@@ -450,8 +450,8 @@ module _ (T : Tables) where
   hoisted-const bs n h = go (first (λ h. eqb h.node n) T.hoisted)
     where
       go : (o : Option Hoisted) → ((o when_some λ e. lookup bs e.name) when_some const_node) ≡ (o when_some λ e. const_bound T.bindings e.name)
-      go none = refl
-      go (some e) = h e.name
+      go None = refl
+      go (Some e) = h e.name
 
   reads-node : (below : ℕ → Resolver Walk) (below' : ℕ → Option ℕ) {b : Bool} {w : Walk} → ((m : ℕ) → Reads b (below m w) (below' m)) → (n : ℕ) (node : Node) → Holds b w → Reads b (resolve_node (walk_ops T) T below n node w) (folded_node T below' n node)
   unfolding resolve_node folded_node ◌when_some◌
@@ -466,8 +466,8 @@ module _ (T : Tables) where
   reads-node below below' k n (Node.Record fs) h = reads_none h
   reads-node below below' k n (Node.Access x base) h =
       reads-base below n base (λ place. field_slot (walk_ops T) T n place x) (λ o. o when_some λ c. folded_field T c x) refl (k base) (λ s v q. reads-field n s x q)
-  reads-node below below' k n (Node.Value base) h = reads-base below n base (value_slot (walk_ops T) T) (λ o. none) refl (k base) (λ s v q. reads-value s q)
-  reads-node below below' k n (Node.Select x base) h = reads-base below n base (λ place. select_slot (walk_ops T) T n place x) (λ o. none) refl (k base) (λ s v q. reads-select n s x q)
+  reads-node below below' k n (Node.Value base) h = reads-base below n base (value_slot (walk_ops T) T) (λ o. None) refl (k base) (λ s v q. reads-value s q)
+  reads-node below below' k n (Node.Select x base) h = reads-base below n base (λ place. select_slot (walk_ops T) T n place x) (λ o. None) refl (k base) (λ s v q. reads-select n s x q)
   reads-node below below' k n Node.Disjunction h = reads_none h
   reads-node below below' k n Node.Subquery h = reads_none h
   reads-node below below' {b} {w} k n (Node.Fact p key') h = record { const = hoisted-const w.lists.bindings n h.consts; held = h }
@@ -548,50 +548,50 @@ module _ (T : Tables) (S : Sound T) where
       (λ e. by-test (λ w'. Goes w w' false) (eqb (length w.lists.diagnostics) (length before.lists.diagnostics)) (λ q. goes-skipped n Code.RejectUnresolvedAccess w) (λ q. goes-skip w))
 
   -- a constant is read as itself, and a Record that is none gives no slot
-  resolve-constant : (n : ℕ) (w : Walk) → is_constant T n ≡ true → resolve (walk_ops T) T n w ≡ give (some (Slot.Const n)) w
+  resolve-constant : (n : ℕ) (w : Walk) → is_constant T n ≡ true → resolve (walk_ops T) T n w ≡ give (Some (Slot.Const n)) w
   unfolding resolve resolve_below
   resolve-constant n w e = go (length T.nodes) (constant-in T n e)
     where
-      go : (limit : ℕ) → n < limit → resolve_below (walk_ops T) T limit n w ≡ give (some (Slot.Const n)) w
+      go : (limit : ℕ) → n < limit → resolve_below (walk_ops T) T limit n w ≡ give (Some (Slot.Const n)) w
       go zero h = absurd (omega arith)
-      go (suc limit) h = ap (λ (b : Bool). (elim b as (λ _. Resolver Walk) [ true ↦ give (some (Slot.Const n)) | false ↦ resolve_node (walk_ops T) T (resolve_below (walk_ops T) T limit) n (node_at T n) ]) w) e
+      go (suc limit) h = ap (λ (b : Bool). (elim b as (λ _. Resolver Walk) [ true ↦ give (Some (Slot.Const n)) | false ↦ resolve_node (walk_ops T) T (resolve_below (walk_ops T) T limit) n (node_at T n) ]) w) e
 
-  resolve-record : (n : ℕ) (fields : List FieldPattern) (w : Walk) → node_at T n ≡ Node.Record fields → is_constant T n ≡ false → resolve (walk_ops T) T n w ≡ give none w
+  resolve-record : (n : ℕ) (fields : List FieldPattern) (w : Walk) → node_at T n ≡ Node.Record fields → is_constant T n ≡ false → resolve (walk_ops T) T n w ≡ give None w
   unfolding resolve resolve_below resolve_node
   resolve-record n fields w e c = go (length T.nodes)
     where
-      go : (limit : ℕ) → resolve_below (walk_ops T) T limit n w ≡ give none w
+      go : (limit : ℕ) → resolve_below (walk_ops T) T limit n w ≡ give None w
       go zero = refl
       go (suc limit) =
-          ap (λ (b : Bool). (elim b as (λ _. Resolver Walk) [ true ↦ give (some (Slot.Const n)) | false ↦ resolve_node (walk_ops T) T (resolve_below (walk_ops T) T limit) n (node_at T n) ]) w) c
+          ap (λ (b : Bool). (elim b as (λ _. Resolver Walk) [ true ↦ give (Some (Slot.Const n)) | false ↦ resolve_node (walk_ops T) T (resolve_below (walk_ops T) T limit) n (node_at T n) ]) w) c
           ∙ ap (λ (node : Node). resolve_node (walk_ops T) T (resolve_below (walk_ops T) T limit) n node w) e
 
   module _ (address : ℕ) (below : FieldWalk Walk) (m : ℕ → ℕ → Bool) (B : Walks below m) (F : Fine T S m) where
     -- a Record that is opened at a Record
     abbrev opened : Option (List FieldPattern) → Option (List FieldTy) → Bool
-    opened none fs = false
-    opened (some fields) none = false
-    opened (some fields) (some fs) = any_field m fields fs
+    opened None fs = false
+    opened (Some fields) None = false
+    opened (Some fields) (Some fs) = any_field m fields fs
 
     goes-opened : (ps : Option (List FieldPattern)) (t : ℕ) (fs : Option (List FieldTy)) (path : FieldPath) (w : Walk) → t < length T.types → record_ty (type_at T t) ≡ fs → Goes w (partial_fields (walk_ops T) T address below ps fs path w) (opened ps fs)
     unfolding partial_fields
-    goes-opened none t fs path w h e = quiet (λ b k. k)
-    goes-opened (some fields) t none path w h e = quiet (λ b k. k)
-    goes-opened (some fields) t (some fs) path w h e = goes-each below m (λ w'. w') (then path) fields B (λ w'. quiet (λ b k. k)) 0 (field-types T S t fs h e) w
+    goes-opened None t fs path w h e = quiet (λ b k. k)
+    goes-opened (Some fields) t None path w h e = quiet (λ b k. k)
+    goes-opened (Some fields) t (Some fs) path w h e = goes-each below m (λ w'. w') (then path) fields B (λ w'. quiet (λ b k. k)) 0 (field-types T S t fs h e) w
 
     goes-partial : (n t : ℕ) (path : FieldPath) (w : Walk) → t < length T.types → Goes w (partial (walk_ops T) T address below n t path w) (opened (record_fields (node_at T n)) (record_ty (type_at T t)))
     unfolding partial
     goes-partial n t path w h = next (goes-skip w) (goes-opened (record_fields (node_at T n)) t (record_ty (type_at T t)) path (skip w) h refl)
 
     -- a Const that has no bytes: noted, or opened
-    lacking : (ps : Option (List FieldPattern)) (fs : Option (List FieldTy)) (c t : ℕ) → constant T c t ≡ none → either (unless_records ps fs) (opened ps fs) ≡ brought_by T m c t ps fs
+    lacking : (ps : Option (List FieldPattern)) (fs : Option (List FieldTy)) (c t : ℕ) → constant T c t ≡ None → either (unless_records ps fs) (opened ps fs) ≡ brought_by T m c t ps fs
     unfolding unless_records brought_by lacks_bytes
-    lacking none fs c t e = sym (ap lacks_bytes e)
-    lacking (some fields) none c t e = sym (ap lacks_bytes e)
-    lacking (some fields) (some fs) c t e = refl
+    lacking None fs c t e = sym (ap lacks_bytes e)
+    lacking (Some fields) None c t e = sym (ap lacks_bytes e)
+    lacking (Some fields) (Some fs) c t e = refl
 
     abbrev slot_meets : ℕ → Option ℕ → Bool
-    slot_meets t o = elim o [ none ↦ false | some c ↦ brought_meets T m c t ]
+    slot_meets t o = elim o [ None ↦ false | Some c ↦ brought_meets T m c t ]
 
     goes_const : (n c t : ℕ) (path : FieldPath) (w : Walk) → t < length T.types → Goes w (matched (walk_ops T) T address below n (Slot.Const c) t path w) (brought_meets T m c t)
     unfolding matched narrow_by is_mistyped brought_meets
@@ -613,21 +613,21 @@ module _ (T : Tables) (S : Sound T) where
 
     -- a Record at a Union
     abbrev chosen : FieldPattern → Option Alternative → Bool
-    chosen f o = elim o [ none ↦ false | some alt ↦ m f.node alt.type ]
+    chosen f o = elim o [ None ↦ false | Some alt ↦ m f.node alt.type ]
 
-    goes-alternative : (n : ℕ) (f : FieldPattern) (alt : Option Alternative) (path : FieldPath) (w : Walk) → ((a : Alternative) → alt ≡ some a → a.type < length T.types) → Goes w (inject_alternative (walk_ops T) T address below n f alt path w) (chosen f alt)
+    goes-alternative : (n : ℕ) (f : FieldPattern) (alt : Option Alternative) (path : FieldPath) (w : Walk) → ((a : Alternative) → alt ≡ Some a → a.type < length T.types) → Goes w (inject_alternative (walk_ops T) T address below n f alt path w) (chosen f alt)
     unfolding inject_alternative
-    goes-alternative n f none path w h = goes-skipped n Code.RejectUnknownAlternative w
-    goes-alternative n f (some alt) path w h =
+    goes-alternative n f None path w h = goes-skipped n Code.RejectUnknownAlternative w
+    goes-alternative n f (Some alt) path w h =
         λ b k. holds-emit T (Event.closer n) (B f.node alt.type (payload path alt.disc) (narrow n path (Narrowing.Tag alt.disc) w) (h alt refl) b (holds-emit T _ k))
 
-    goes-only : (n : ℕ) (fields : List FieldPattern) (alts : List Alternative) (t : ℕ) (path : FieldPath) (w : Walk) → t < length T.types → union_ty (type_at T t) ≡ some alts → Goes w (inject_only (walk_ops T) T address below n (only_field fields) alts path w) (payload_meets T m fields alts)
+    goes-only : (n : ℕ) (fields : List FieldPattern) (alts : List Alternative) (t : ℕ) (path : FieldPath) (w : Walk) → t < length T.types → union_ty (type_at T t) ≡ Some alts → Goes w (inject_only (walk_ops T) T address below n (only_field fields) alts path w) (payload_meets T m fields alts)
     unfolding inject_only payload_meets
     goes-only n fields alts t path w h u = go (only_field fields)
       where
-        go : (o : Option FieldPattern) → Goes w (inject_only (walk_ops T) T address below n o alts path w) (elim o [ none ↦ false | some f ↦ chosen f (alternative_of alts f.name) ])
-        go none = goes-skipped n Code.RejectUnionArity w
-        go (some f) = goes-alternative n f (alternative_of alts f.name) path w (λ a q. alternative-type T S t alts f.name a h u q)
+        go : (o : Option FieldPattern) → Goes w (inject_only (walk_ops T) T address below n o alts path w) (elim o [ None ↦ false | Some f ↦ chosen f (alternative_of alts f.name) ])
+        go None = goes-skipped n Code.RejectUnionArity w
+        go (Some f) = goes-alternative n f (alternative_of alts f.name) path w (λ a q. alternative-type T S t alts f.name a h u q)
 
     goes-inject : (n t : ℕ) (fields : List FieldPattern) (alts : List Alternative) (path : FieldPath) (w : Walk) → t < length T.types → node_at T n ≡ Node.Record fields → type_at T t ≡ Ty.Union alts → Goes w (inject (walk_ops T) T address below fields alts n t path w) (payload_meets T m fields alts)
     unfolding inject narrow_by union_ty
@@ -638,7 +638,7 @@ module _ (T : Tables) (S : Sound T) where
         (sym (fine-payload T S m F t k fields alts h (ap union_ty u) (ap (constant_record (constant T) fields) (sym u) ∙ sym (constant-record T S n t fields h e) ∙ q)))
         (goes-narrow n path (narrowing k) w))
 
-    goes-pieces : (n t : ℕ) (path : FieldPath) (before w : Walk) → t < length T.types → Goes w (read_answer (walk_ops T) T address below n none t path before w) (opened (record_fields (node_at T n)) (record_ty (type_at T t)))
+    goes-pieces : (n t : ℕ) (path : FieldPath) (before w : Walk) → t < length T.types → Goes w (read_answer (walk_ops T) T address below n None t path before w) (opened (record_fields (node_at T n)) (record_ty (type_at T t)))
     unfolding read_answer
     goes-pieces n t path before w h =
         by-option (λ w'. Goes w w' (opened (record_fields (node_at T n)) (record_ty (type_at T t)))) (record_fields (node_at T n))
@@ -646,25 +646,25 @@ module _ (T : Tables) (S : Sound T) where
         (λ fields e. goes-partial n t path w h)
 
     -- a read of a pattern that is no Record: what it stands for
-    goes-answer : (n t : ℕ) (path : FieldPath) (before w : Walk) (slot : Option Slot) → t < length T.types → record_fields (node_at T n) ≡ none → Goes w (read_answer (walk_ops T) T address below n slot t path before w) (slot_meets t (slot when_some const_node))
+    goes-answer : (n t : ℕ) (path : FieldPath) (before w : Walk) (slot : Option Slot) → t < length T.types → record_fields (node_at T n) ≡ None → Goes w (read_answer (walk_ops T) T address below n slot t path before w) (slot_meets t (slot when_some const_node))
     unfolding read_answer ◌when_some◌
-    goes-answer n t path before w none h e = met-as (ap (λ ps. opened ps (record_ty (type_at T t))) e) (goes-pieces n t path before w h)
-    goes-answer n t path before w (some slot) h e = goes-matched n slot t path w h
+    goes-answer n t path before w None h e = met-as (ap (λ ps. opened ps (record_ty (type_at T t))) e) (goes-pieces n t path before w h)
+    goes-answer n t path before w (Some slot) h e = goes-matched n slot t path w h
 
-    goes-read : (n t : ℕ) (path : FieldPath) (w : Walk) → t < length T.types → record_fields (node_at T n) ≡ none → Goes w (read (walk_ops T) T address below n t path w) (field_meets T m n t)
+    goes-read : (n t : ℕ) (path : FieldPath) (w : Walk) → t < length T.types → record_fields (node_at T n) ≡ None → Goes w (read (walk_ops T) T address below n t path w) (field_meets T m n t)
     unfolding read field_meets
     goes-read n t path w h e b k =
         let r = reads-resolve T n k in
         let a = resolve (walk_ops T) T n w in
         let as-found : slot_meets t (a.slot when_some const_node) ≡ slot_meets t (folded T n) = ap (slot_meets t) r.const in
-        let as-field = ap {B = Bool} (λ (ps : Option (List FieldPattern)). elim ps [ some fields ↦ record_meets T m n fields (type_at T t) | none ↦ slot_meets t (folded T n) ]) e in
+        let as-field = ap {B = Bool} (λ (ps : Option (List FieldPattern)). elim ps [ Some fields ↦ record_meets T m n fields (type_at T t) | None ↦ slot_meets t (folded T n) ]) e in
         met-as (as-found ∙ sym as-field) (goes-answer n t path w a.walk a.slot h e) b r.held
 
     -- a read of a Record: itself where it is constant, else its pieces
     abbrev read_of : ℕ → ℕ → FieldPath → Walk → Answer Walk → Walk
     read_of n t path w a = read_answer (walk_ops T) T address below n a.slot t path w a.walk
 
-    record-met : (n : ℕ) (fields : List FieldPattern) (ty : Ty) (t : ℕ) → t < length T.types → node_at T n ≡ Node.Record fields → type_at T t ≡ ty → union_ty ty ≡ none → is_constant T n ≡ true → brought_by T m n t (some fields) (record_ty ty) ≡ record_meets T m n fields ty
+    record-met : (n : ℕ) (fields : List FieldPattern) (ty : Ty) (t : ℕ) → t < length T.types → node_at T n ≡ Node.Record fields → type_at T t ≡ ty → union_ty ty ≡ None → is_constant T n ≡ true → brought_by T m n t (Some fields) (record_ty ty) ≡ record_meets T m n fields ty
     unfolding brought_by record_meets record_ty union_ty constant_record lacks_bytes
     record-met n fields Ty.Int t h e q u c = ap lacks_bytes (constant-record T S n t fields h e ∙ ap (constant_record (constant T) fields) q) ∙ sym c
     record-met n fields Ty.Str t h e q u c = ap lacks_bytes (constant-record T S n t fields h e ∙ ap (constant_record (constant T) fields) q) ∙ sym c
@@ -673,7 +673,7 @@ module _ (T : Tables) (S : Sound T) where
     record-met n fields (Ty.Record fs) t h e q u c = refl
     record-met n fields (Ty.Union alts) t h e q u c = absurd (some≢none alts u)
 
-    record-open : (n : ℕ) (fields : List FieldPattern) (ty : Ty) → union_ty ty ≡ none → is_constant T n ≡ false → opened (some fields) (record_ty ty) ≡ record_meets T m n fields ty
+    record-open : (n : ℕ) (fields : List FieldPattern) (ty : Ty) → union_ty ty ≡ None → is_constant T n ≡ false → opened (Some fields) (record_ty ty) ≡ record_meets T m n fields ty
     unfolding record_meets record_ty union_ty
     record-open n fields Ty.Int u c = sym c
     record-open n fields Ty.Str u c = sym c
@@ -682,15 +682,15 @@ module _ (T : Tables) (S : Sound T) where
     record-open n fields (Ty.Record fs) u c = refl
     record-open n fields (Ty.Union alts) u c = absurd (some≢none alts u)
 
-    given-slot : (n c t : ℕ) (path : FieldPath) (before w : Walk) → t < length T.types → Goes w (read_of n t path before (give (some (Slot.Const c)) w)) (brought_meets T m c t)
+    given-slot : (n c t : ℕ) (path : FieldPath) (before w : Walk) → t < length T.types → Goes w (read_of n t path before (give (Some (Slot.Const c)) w)) (brought_meets T m c t)
     unfolding read_answer give
     given-slot n c t path before w h = goes_const n c t path w h
 
-    given-pieces : (n t : ℕ) (path : FieldPath) (before w : Walk) → t < length T.types → Goes w (read_of n t path before (give none w)) (opened (record_fields (node_at T n)) (record_ty (type_at T t)))
+    given-pieces : (n t : ℕ) (path : FieldPath) (before w : Walk) → t < length T.types → Goes w (read_of n t path before (give None w)) (opened (record_fields (node_at T n)) (record_ty (type_at T t)))
     unfolding give
     given-pieces n t path before w h = goes-pieces n t path before w h
 
-    goes-record : (n t : ℕ) (fields : List FieldPattern) (path : FieldPath) (w : Walk) → t < length T.types → node_at T n ≡ Node.Record fields → union_ty (type_at T t) ≡ none → Goes w (read (walk_ops T) T address below n t path w) (record_meets T m n fields (type_at T t))
+    goes-record : (n t : ℕ) (fields : List FieldPattern) (path : FieldPath) (w : Walk) → t < length T.types → node_at T n ≡ Node.Record fields → union_ty (type_at T t) ≡ None → Goes w (read (walk_ops T) T address below n t path w) (record_meets T m n fields (type_at T t))
     unfolding read record_fields brought_meets
     goes-record n t fields path w h e u =
         ways (is_constant T n) _
@@ -703,24 +703,24 @@ module _ (T : Tables) (S : Sound T) where
     unfolding record_fields field_meets const_node ◌when_some◌
     goes-variable x n t path w h e b k = go (lookup w.lists.bindings x) refl
       where
-        none-met : lookup w.lists.bindings x ≡ none → field_meets T m n t ≡ false
+        none-met : lookup w.lists.bindings x ≡ None → field_meets T m n t ≡ false
         none-met q =
-            ap {B = Bool} (λ (node : Node). elim (record_fields node) [ some fields ↦ record_meets T m n fields (type_at T t) | none ↦ slot_meets t (folded T n) ]) e
+            ap {B = Bool} (λ (node : Node). elim (record_fields node) [ Some fields ↦ record_meets T m n fields (type_at T t) | None ↦ slot_meets t (folded T n) ]) e
             ∙ ap (slot_meets t) (folded-var T n x e (sym (k.consts x) ∙ ap (λ (o : Option Slot). o when_some const_node) q))
 
         go : (found : Option Slot) → lookup w.lists.bindings x ≡ found → Holds T (either b (field_meets T m n t)) (variable (walk_ops T) T address below x n t path w)
-        go none q =
+        go None q =
             subst (λ (w' : Walk). Holds T (either b (field_meets T m n t)) w') (sym (new-is-bound (walk_ops T) T address below x n t path w q))
             (met-as (sym (none-met q)) (quiet (λ c held. still-constrain x t path c _ (holds-bind T x (Slot.Field address path t) q refl held))) b k)
-        go (some slot) q =
+        go (Some slot) q =
             subst (λ (w' : Walk). Holds T (either b (field_meets T m n t)) w') (sym (bound-is-read (walk_ops T) T address below x n t path w slot q))
             (goes-read n t path w h (ap record_fields e) b k)
 
     -- a pattern that the walk passes over
-    passed_over : (n t : ℕ) (node : Node) → node_at T n ≡ node → record_fields node ≡ none → ((cs : List Bool) → constant_of cs node ≡ false) → ((below' : ℕ → Option ℕ) → folded_node T below' n node ≡ none) → false ≡ field_meets T m n t
+    passed_over : (n t : ℕ) (node : Node) → node_at T n ≡ node → record_fields node ≡ None → ((cs : List Bool) → constant_of cs node ≡ false) → ((below' : ℕ → Option ℕ) → folded_node T below' n node ≡ None) → false ≡ field_meets T m n t
     unfolding field_meets
     passed_over n t node e p c f =
-        sym (ap {B = Bool} (λ (ps : Option (List FieldPattern)). elim ps [ some fields ↦ record_meets T m n fields (type_at T t) | none ↦ slot_meets t (folded T n) ]) (ap record_fields e ∙ p)
+        sym (ap {B = Bool} (λ (ps : Option (List FieldPattern)). elim ps [ Some fields ↦ record_meets T m n fields (type_at T t) | None ↦ slot_meets t (folded T n) ]) (ap record_fields e ∙ p)
         ∙ ap (slot_meets t) (folded-none T n node e (no-constant T n node e c) f))
 
     goes-ranged : (n t : ℕ) (path : FieldPath) (w : Walk) → Goes w (ranged (walk_ops T) T address below n t path w) false
@@ -732,7 +732,7 @@ module _ (T : Tables) (S : Sound T) where
     goes-written : (n t : ℕ) (fields : List FieldPattern) (path : FieldPath) (w : Walk) → node_at T n ≡ Node.Record fields → t < length T.types → Goes w (field_node (walk_ops T) T address below (Node.Record fields) n t path w) (field_meets T m n t)
     unfolding field_node field_meets record_fields record_meets union_ty
     goes-written n t fields path w e h =
-        met-as (sym (ap {B = Bool} (λ (node : Node). elim (record_fields node) [ some fs ↦ record_meets T m n fs (type_at T t) | none ↦ slot_meets t (folded T n) ]) e))
+        met-as (sym (ap {B = Bool} (λ (node : Node). elim (record_fields node) [ Some fs ↦ record_meets T m n fs (type_at T t) | None ↦ slot_meets t (folded T n) ]) e))
         (by-option (λ w'. Goes w w' (record_meets T m n fields (type_at T t))) (union_ty (type_at T t))
         (λ u. goes-record n t fields path w h e u)
         (λ alts u. met-as (ap (record_meets T m n fields) (sym (union-type (type_at T t) alts u))) (goes-inject n t fields alts path w h e (union-type (type_at T t) alts u))))
@@ -773,20 +773,20 @@ module _ (T : Tables) (S : Sound T) where
     fine-meets = fine-below T S (length T.types)
 
     -- The whole key: a field of a Const is brought to the key's field, one of any other slot is none.
-    goes-whole-matched : (n : ℕ) (slot : Slot) (t : ℕ) (path : FieldPath) (w : Walk) → t < length T.types → Goes w (matched (walk_ops T) T address (field (walk_ops T) T address) n slot t path w) (elim (const_node slot) [ none ↦ false | some c ↦ brought_meets T (meets T) c t ])
+    goes-whole-matched : (n : ℕ) (slot : Slot) (t : ℕ) (path : FieldPath) (w : Walk) → t < length T.types → Goes w (matched (walk_ops T) T address (field (walk_ops T) T address) n slot t path w) (elim (const_node slot) [ None ↦ false | Some c ↦ brought_meets T (meets T) c t ])
     goes-whole-matched n slot t path w h = goes-matched address (field (walk_ops T) T address) (meets T) goes-field fine-meets n slot t path w h
 
     abbrev const_meets : ℕ → Option ℕ → Bool
-    const_meets t o = elim o [ none ↦ false | some c ↦ brought_meets T (meets T) c t ]
+    const_meets t o = elim o [ None ↦ false | Some c ↦ brought_meets T (meets T) c t ]
 
     unfoldable const_fields : Option ℕ → List FieldTy → Bool
     const_fields o [] = false
     const_fields o (f ∷ fs) = either (const_meets f.type (o when_some λ c. folded_field T c f.name)) (const_fields o fs)
 
-    whole-turn : (n t : ℕ) (path : FieldPath) (slot : Option Slot) (w : Walk) → t < length T.types → Goes w (elim slot [ none ↦ skip w | some s ↦ matched (walk_ops T) T address (field (walk_ops T) T address) (whole_node n s) s t path w ]) (const_meets t (slot when_some const_node))
+    whole-turn : (n t : ℕ) (path : FieldPath) (slot : Option Slot) (w : Walk) → t < length T.types → Goes w (elim slot [ None ↦ skip w | Some s ↦ matched (walk_ops T) T address (field (walk_ops T) T address) (whole_node n s) s t path w ]) (const_meets t (slot when_some const_node))
     unfolding ◌when_some◌
-    whole-turn n t path none w h = goes-skip w
-    whole-turn n t path (some s) w h = goes-whole-matched (whole_node n s) s t path w h
+    whole-turn n t path None w h = goes-skip w
+    whole-turn n t path (Some s) w h = goes-whole-matched (whole_node n s) s t path w h
 
     goes-whole-fields : (n : ℕ) (slot : Slot) (i : ℕ) {fs : List FieldTy} → Each (λ f. f.type < length T.types) fs → (w : Walk) → Goes w (whole_fields (walk_ops T) T address n slot i fs w) (const_fields (const_node slot) fs)
     unfolding whole_fields const_fields
@@ -800,25 +800,25 @@ module _ (T : Tables) (S : Sound T) where
         (goes-whole-fields n slot (suc i) ls _)
 
     -- the fields of no Const, and those of a Const that is a Record
-    no_fields : (fs : List FieldTy) → const_fields none fs ≡ false
+    no_fields : (fs : List FieldTy) → const_fields None fs ≡ false
     unfolding const_fields ◌when_some◌
     no_fields [] = refl
     no_fields (f ∷ fs) = no_fields fs
 
-    own-fields : (c : ℕ) (fields : List FieldPattern) (fs : List FieldTy) → record_fields (node_at T c) ≡ some fields → const_fields (some c) fs ≡ any_field (brought_meets T (meets T)) fields fs
+    own-fields : (c : ℕ) (fields : List FieldPattern) (fs : List FieldTy) → record_fields (node_at T c) ≡ Some fields → const_fields (Some c) fs ≡ any_field (brought_meets T (meets T)) fields fs
     unfolding const_fields any_field ◌when_some◌ folded_field
     own-fields c fields [] e = refl
     own-fields c fields (f ∷ fs) e =
-        ap (λ (o : Option (List FieldPattern)). either (const_meets f.type (o when_some λ ps. field_pattern ps f.name)) (const_fields (some c) fs)) e
+        ap (λ (o : Option (List FieldPattern)). either (const_meets f.type (o when_some λ ps. field_pattern ps f.name)) (const_fields (Some c) fs)) e
         ∙ ap (either (const_meets f.type (field_pattern fields f.name))) (own-fields c fields fs e)
 
-    whole-const : (c : ℕ) (fs : List FieldTy) → either (is_mistyped T (Slot.Const c) (Ty.Record fs)) (const_fields (some c) fs) ≡ whole_meets T (some c) fs
+    whole-const : (c : ℕ) (fs : List FieldTy) → either (is_mistyped T (Slot.Const c) (Ty.Record fs)) (const_fields (Some c) fs) ≡ whole_meets T (Some c) fs
     unfolding is_mistyped record_ty whole_meets unless_records
     whole-const c fs = go (record_fields (node_at T c)) refl
       where
-        go : (ps : Option (List FieldPattern)) → record_fields (node_at T c) ≡ ps → either (unless_records ps (some fs)) (const_fields (some c) fs) ≡ elim ps [ none ↦ true | some fields ↦ any_field (brought_meets T (meets T)) fields fs ]
-        go none e = refl
-        go (some fields) e = own-fields c fields fs e
+        go : (ps : Option (List FieldPattern)) → record_fields (node_at T c) ≡ ps → either (unless_records ps (Some fs)) (const_fields (Some c) fs) ≡ elim ps [ None ↦ true | Some fields ↦ any_field (brought_meets T (meets T)) fields fs ]
+        go None e = refl
+        go (Some fields) e = own-fields c fields fs e
 
     whole-slot : (slot : Slot) (fs : List FieldTy) → either (is_mistyped T slot (Ty.Record fs)) (const_fields (const_node slot) fs) ≡ whole_meets T (const_node slot) fs
     unfolding is_mistyped const_node whole_meets
@@ -829,10 +829,10 @@ module _ (T : Tables) (S : Sound T) where
     whole-slot (Slot.Value a t) fs = no_fields fs
     whole-slot (Slot.Const c) fs = whole-const c fs
 
-    whole-answer : (n : ℕ) (slot : Option Slot) {fs : List FieldTy} → Each (λ f. f.type < length T.types) fs → (w : Walk) → Goes w (elim slot [ none ↦ skip w | some s ↦ whole_fields (walk_ops T) T address n s 0 fs (brings T s (Ty.Record fs) w) ]) (whole_meets T (slot when_some const_node) fs)
+    whole-answer : (n : ℕ) (slot : Option Slot) {fs : List FieldTy} → Each (λ f. f.type < length T.types) fs → (w : Walk) → Goes w (elim slot [ None ↦ skip w | Some s ↦ whole_fields (walk_ops T) T address n s 0 fs (brings T s (Ty.Record fs) w) ]) (whole_meets T (slot when_some const_node) fs)
     unfolding ◌when_some◌ whole_meets
-    whole-answer n none ls w = goes-skip w
-    whole-answer n (some s) {fs} ls w = met-as (whole-slot s fs) (next (λ b k. holds-brings T s (Ty.Record fs) k) (goes-whole-fields n s 0 ls _))
+    whole-answer n None ls w = goes-skip w
+    whole-answer n (Some s) {fs} ls w = met-as (whole-slot s fs) (next (λ b k. holds-brings T s (Ty.Record fs) k) (goes-whole-fields n s 0 ls _))
 
     goes-whole-read : (n : ℕ) {fs : List FieldTy} → Each (λ f. f.type < length T.types) fs → (w : Walk) → Goes w (whole_read (walk_ops T) T address n fs w) (whole_meets T (folded T n) fs)
     unfolding whole_read
@@ -870,10 +870,10 @@ module _ (T : Tables) (S : Sound T) where
     goes-whole Node.Arith n t e ls w = goes-whole-read n ls w
     goes-whole Node.Error n t e ls w = goes-whole-read n ls w
 
-    goes-record-key : (fields : Option (List FieldPattern)) (n t : ℕ) {fs : List FieldTy} → Each (λ f. f.type < length T.types) fs → (w : Walk) → Goes w (record_key (walk_ops T) T address fields n t fs w) (elim fields [ some ps ↦ any_field (meets T) ps fs | none ↦ whole_meets T (folded T n) fs ])
+    goes-record-key : (fields : Option (List FieldPattern)) (n t : ℕ) {fs : List FieldTy} → Each (λ f. f.type < length T.types) fs → (w : Walk) → Goes w (record_key (walk_ops T) T address fields n t fs w) (elim fields [ Some ps ↦ any_field (meets T) ps fs | None ↦ whole_meets T (folded T n) fs ])
     unfolding record_key
-    goes-record-key (some fields) n t ls w = goes-each (field (walk_ops T) T address) (meets T) skip field_path fields goes-field goes-skip 0 ls w
-    goes-record-key none n t ls w = goes-whole (node_at T n) n t refl ls w
+    goes-record-key (Some fields) n t ls w = goes-each (field (walk_ops T) T address) (meets T) skip field_path fields goes-field goes-skip 0 ls w
+    goes-record-key None n t ls w = goes-whole (node_at T n) n t refl ls w
 
     goes-key : (n t : ℕ) (w : Walk) → t < length T.types → Goes w (key (walk_ops T) T address n t w) (key_meets T n t)
     unfolding key key_meets

@@ -1,7 +1,7 @@
 -- What the compile writes is accepted by the plan reader, and read as the very plan it was made from.
 use mathlib.Core.Bool.{Bool, true, false}
 use mathlib.Core.List.{List, [], ◌∷◌}
-use mathlib.Core.Option.{none}
+use Rattle.std.specs.Prelude.{None}
 use mathlib.Core.Path.{◌≡◌, refl, sym, ap, ◌∙◌, subst}
 use Prim.Native.Nat.{ℕ, zero, suc, ◌≤◌, ◌<◌, min}
 use native.Mathlib.Omega.{arith}
@@ -162,7 +162,7 @@ module _ (T : Tables) (S : Sound T) (N : TablesWithin T) where
 pub record Origin (bytes out : List ℕ) : Type 0 where
   pub tables : Tables
   pub reads : file bytes ≡ got tables []
-  pub accepted : fault checks tables ≡ none
+  pub accepted : fault checks tables ≡ None
   pub written : plan_bytes (plan tables) ≡ out
   pub short : length out ≤ plan_limit
 
@@ -189,7 +189,7 @@ origin bytes room area out e =
     let d = outcome-kept bytes room area out e in
     let T = d.tables in
     let r : reading room (got T []) ≡ Outcome.planned out = subst (λ x. reading room x ≡ Outcome.planned out) d.reads (outcome-reading bytes room area out e) in
-    let c : checked room T none ≡ Outcome.planned out = subst (λ o. checked room T o ≡ Outcome.planned out) d.accepted r in
+    let c : checked room T None ≡ Outcome.planned out = subst (λ o. checked room T o ≡ Outcome.planned out) d.accepted r in
     let p : written room (plan_bytes (plan T)) ≡ Outcome.planned out =
     by-test (λ (r : Outcome). r ≡ Outcome.planned out → written room (plan_bytes (plan T)) ≡ Outcome.planned out) (any_mistyped (levels T)) (λ m q. refused-not 19 out q) (λ m q. q) c in
     let w = written_is room (plan_bytes (plan T)) out p in

@@ -1,7 +1,7 @@
 -- One level as it stands in a plan: its rules hold, and its numbers are within their fields where its bytes are few.
 use mathlib.Core.Bool.{Bool, true, false}
 use mathlib.Core.List.{List, [], ◌∷◌, ◌++◌}
-use mathlib.Core.Option.{Option, none, some}
+use Rattle.std.specs.Prelude.{Option, None, Some}
 use mathlib.Core.Path.{◌≡◌, refl, ap, ◌∙◌, subst}
 use Prim.Native.Nat.{ℕ, ◌+◌, ◌≤◌, ◌<◌}
 use native.Mathlib.Omega.{arith}
@@ -71,24 +71,24 @@ module _ {parts : List Part} (h : Each PartFits parts) where
 
   sought : {range : Option Range} (lo hi : Option RangeEdge) → Perhaps RangeFits range → Sought parts (seek parts range lo hi)
   unfolding seek Plan.seek
-  sought (some lo) hi r =
-      record { fits = (refl, h); counted = omega (arith, after-parts (Plan.edge (some lo)), length-append (concat_map Plan.part parts ++ Plan.edge (some lo)) (Plan.edge hi)) }
-  sought none (some hi) r =
-      record { fits = (refl, h); counted = omega (arith, after-parts (Plan.edge none), length-append (concat_map Plan.part parts ++ Plan.edge none) (Plan.edge (some hi))) }
-  sought none none (just {x = range} r) =
+  sought (Some lo) hi r =
+      record { fits = (refl, h); counted = omega (arith, after-parts (Plan.edge (Some lo)), length-append (concat_map Plan.part parts ++ Plan.edge (Some lo)) (Plan.edge hi)) }
+  sought None (Some hi) r =
+      record { fits = (refl, h); counted = omega (arith, after-parts (Plan.edge None), length-append (concat_map Plan.part parts ++ Plan.edge None) (Plan.edge (Some hi))) }
+  sought None None (just {x = range} r) =
       let front = concat_map Plan.part parts ++ Plan.text range.prefix in
       record {
         fits = (refl, h, r);
         counted = omega (arith, after-parts (Plan.text range.prefix), length-append front (Plan.path range.path), length-append (front ++ Plan.path range.path) (Plan.u16 range.node));
       }
-  sought none none nothing = sought-unranged
+  sought None None nothing = sought-unranged
 
 -- What adds up keeps the reader's rules.
-seek-keeps : (s : SeekKey) (g : Option Guide) → WellFormed s → (0 < seek_edges s → (seek_range s ≡ none) × (g ≡ none))
-    → ((k : Guide) (r : Range) → g ≡ some k → seek_range s ≡ some r → k.path ≡ r.path) → Reader.seek_keeps s g ≡ true
+seek-keeps : (s : SeekKey) (g : Option Guide) → WellFormed s → (0 < seek_edges s → (seek_range s ≡ None) × (g ≡ None))
+    → ((k : Guide) (r : Range) → g ≡ Some k → seek_range s ≡ Some r → k.path ≡ r.path) → Reader.seek_keeps s g ≡ true
 unfolding Reader.seek_keeps seek_range seek_edges number
 seek-keeps (SeekKey.Prefix bytes nodes) g w x p = refl
-seek-keeps (SeekKey.Composite parts) g w x p = ap (λ (o : Option (List ℕ)). elim o as (λ _. Bool) [ none ↦ true | some bytes ↦ false ]) w
+seek-keeps (SeekKey.Composite parts) g w x p = ap (λ (o : Option (List ℕ)). elim o as (λ _. Bool) [ None ↦ true | Some bytes ↦ false ]) w
 seek-keeps (SeekKey.PrefixRange parts range) g w x p =
     by-option (λ b. b ≡ true) g (λ _. refl) (λ guide e. path-same guide.path range.path (p guide range e refl))
 seek-keeps (SeekKey.Bounded parts lo hi) g w x p = both_true _ _ (le-leb 1 _ w) (ap (λ (o : Option Guide). eqb (number o) 0) (x w).1)

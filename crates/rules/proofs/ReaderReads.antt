@@ -1,7 +1,7 @@
 -- A plan whose numbers are within their fields is read back from its bytes as itself.
 use mathlib.Core.Bool.{Bool, true, false}
 use mathlib.Core.List.{List, [], ◌∷◌, ◌++◌, append_assoc, append-nil}
-use mathlib.Core.Option.{Option, none, some}
+use Rattle.std.specs.Prelude.{Option, None, Some}
 use mathlib.Core.Path.{◌≡◌, refl, sym, ap, ◌∙◌, subst}
 use Prim.Native.Nat.{ℕ, ◌+◌, ◌%◌, ◌≤◌, ◌<◌}
 use native.Mathlib.Omega.{arith}
@@ -262,10 +262,10 @@ takes_part p h = step _ (takes_key p.key h.key) (last _ (takes-u16 p.node h.node
 
 takes-edge : (e : Option RangeEdge) → Takes Reader.edge (Plan.edge e) e
 unfolding Reader.edge Plan.edge Reader.edge_that Plan.inclusive pure
-takes-edge none = takes-kind _ 0 (takes-pure none)
-takes-edge (some e) = go e e.inclusive refl
+takes-edge None = takes-kind _ 0 (takes-pure None)
+takes-edge (Some e) = go e e.inclusive refl
   where
-    go : (e : RangeEdge) (b : Bool) → e.inclusive ≡ b → Takes Reader.edge (Plan.inclusive b ∷ Plan.text e.value) (some (record { value = e.value; inclusive = b }))
+    go : (e : RangeEdge) (b : Bool) → e.inclusive ≡ b → Takes Reader.edge (Plan.inclusive b ∷ Plan.text e.value) (Some (record { value = e.value; inclusive = b }))
     go e false q = takes-kind _ 1 (last _ (takes-text e.value) (λ rest. refl))
     go e true q = takes-kind _ 2 (last _ (takes-text e.value) (λ rest. refl))
 
@@ -292,7 +292,7 @@ takes-seek n (SeekKey.Bounded parts lo hi) h =
 
 takes-guide : {g : Option Guide} → Perhaps GuideFits g → Takes Reader.guide (Plan.guide g) g
 unfolding Reader.guide Plan.guide Reader.guide_that Plan.fuzzy Plan.u16 pure
-takes-guide nothing = takes-kind _ 0 (takes-pure none)
+takes-guide nothing = takes-kind _ 0 (takes-pure None)
 takes-guide (just {x = g} h) =
     takes-kind _ 1
     (same (append_assoc (Plan.path g.path) (Plan.fuzzy g.term g.distance g.anchor) (Plan.u16 g.node))

@@ -1,7 +1,7 @@
 -- What the plan reader's call comes to, for every list of bytes; what is accepted keeps the rules, in demand 3's words.
 use mathlib.Core.Bool.{Bool, true, false}
 use mathlib.Core.List.{List, [], ◌++◌}
-use mathlib.Core.Option.{Option, none, some}
+use Rattle.std.specs.Prelude.{Option, None, Some}
 use mathlib.Core.Path.{◌≡◌, refl, sym, ap, ◌∙◌, subst}
 use Prim.Native.Nat.{ℕ, ◌+◌, ◌-◌, ◌*◌, ◌/◌, ◌%◌, ◌≤◌, ◌<◌, min}
 use native.Mathlib.Omega.{arith}
@@ -29,8 +29,8 @@ use Rattle.rules.proofs.ReaderWrites.{Reading, whole, ends-or-unknown, reading}
 
 pub number-most : {A : Type 0} (o : Option A) → number o ≤ 1
 unfolding number
-number-most none = omega arith
-number-most (some a) = omega arith
+number-most None = omega arith
+number-most (Some a) = omega arith
 
 edges_most : (s : SeekKey) → seek_edges s ≤ 2
 unfolding seek_edges
@@ -39,18 +39,18 @@ edges_most (SeekKey.Composite parts) = omega arith
 edges_most (SeekKey.PrefixRange parts range) = omega arith
 edges_most (SeekKey.Bounded parts lo hi) = omega (arith, number-most lo, number-most hi)
 
-number-none : {A : Type 0} (o : Option A) → number o ≡ 0 → o ≡ none
+number-none : {A : Type 0} (o : Option A) → number o ≡ 0 → o ≡ None
 unfolding number
-number-none none e = refl
-number-none (some a) e = absurd (omega arith)
+number-none None e = refl
+number-none (Some a) e = absurd (omega arith)
 
 seek-kept : (s : SeekKey) (g : Option Guide) → Reader.seek_keeps s g ≡ true → SeekKept s g
 unfolding Reader.seek_keeps
 seek-kept (SeekKey.Prefix bytes nodes) g e = tt
 seek-kept (SeekKey.Composite parts) g e =
-    by-option (λ r. r ≡ true → joined parts ≡ none) (joined parts) (λ q _. q) (λ bytes q r. absurd (true≢false (sym r))) e
-seek-kept (SeekKey.PrefixRange parts range) none e = λ h q. absurd (some≢none h (sym q))
-seek-kept (SeekKey.PrefixRange parts range) (some g) e = λ h q. ap (λ k. k.path) (sym (some-injective g h q)) ∙ same-path g.path range.path e
+    by-option (λ r. r ≡ true → joined parts ≡ None) (joined parts) (λ q _. q) (λ bytes q r. absurd (true≢false (sym r))) e
+seek-kept (SeekKey.PrefixRange parts range) None e = λ h q. absurd (some≢none h (sym q))
+seek-kept (SeekKey.PrefixRange parts range) (Some g) e = λ h q. ap (λ k. k.path) (sym (some-injective g h q)) ∙ same-path g.path range.path e
 seek-kept (SeekKey.Bounded parts lo hi) g e =
     (leb-le 1 _ (both_left (leb 1 (number lo + number hi)) _ e), number-none g (eqb-eq _ 0 (both_right (leb 1 (number lo + number hi)) _ e)))
 

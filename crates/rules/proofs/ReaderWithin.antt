@@ -1,7 +1,7 @@
 -- The numbers that a level's walk puts into its lists and events are within their fields, where those of the tables are.
 use mathlib.Core.Bool.{Bool, true, false}
 use mathlib.Core.List.{List, [], ◌∷◌}
-use mathlib.Core.Option.{Option, none, some}
+use Rattle.std.specs.Prelude.{Option, None, Some}
 use Prim.Native.Nat.{ℕ, zero, suc, ◌+◌, ◌<◌}
 use native.Mathlib.Omega.{arith}
 use lib.Dec.{eqb}
@@ -236,7 +236,7 @@ constant-node T below Node.Arith h ty = nothing
 constant-node T below Node.Error h ty = nothing
 
 -- A choice by an option, of which what is there has a property.
-by-perhaps : {A B : Type 0} {Q : A → Type 0} (P : B → Type 0) {o : Option A} {x : B} {f : A → B} → Perhaps Q o → P x → ((a : A) → Q a → P (f a)) → P (elim o [ none ↦ x | some a ↦ f a ])
+by-perhaps : {A B : Type 0} {Q : A → Type 0} (P : B → Type 0) {o : Option A} {x : B} {f : A → B} → Perhaps Q o → P x → ((a : A) → Q a → P (f a)) → P (elim o [ None ↦ x | Some a ↦ f a ])
 by-perhaps P nothing g h = g
 by-perhaps P (just {x} q) g h = h x q
 

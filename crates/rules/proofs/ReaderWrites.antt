@@ -1,8 +1,7 @@
 -- What a plan's reader reads is written back to the bytes it was read from, so one plan has one form; and it refuses by 16 or 17 and by nothing else.
 use mathlib.Core.Bool.{true, false}
 use mathlib.Core.List.{List, [], ◌∷◌, ◌++◌, append_assoc, append-nil}
-use mathlib.Core.Option
-use mathlib.Core.Option.{Option, none, some}
+use Rattle.std.specs.Prelude.{Option, None, Some, unwrap_or}
 use mathlib.Core.Path.{◌≡◌, refl, sym, ap, ◌∙◌, subst}
 use Prim.Native.Nat.{ℕ, zero, suc, ◌+◌, ◌*◌, ◌/◌, ◌%◌, ◌≤◌, ◌<◌}
 use native.Mathlib.Omega.{arith}
@@ -133,8 +132,8 @@ item-u32 : Item Read.u32 Plan.u32 (λ n. n < 4294967296)
 unfolding Read.u32
 item-u32 = item item-u16 λ lo l. item item-u16 λ hi h. made (lo + 65536 * hi) (halves lo hi l h, omega arith)
 
-none_or_lem : (n : ℕ) → n ≡ Option.get_or (elim (eqb n 65535) as (λ _. Option ℕ) [ true ↦ none | false ↦ some n ]) 65535
-none_or_lem n = by-test (λ (o : Option ℕ). n ≡ Option.get_or o 65535) (eqb n 65535) (λ e. eqb-eq n 65535 e) (λ e. refl)
+none_or_lem : (n : ℕ) → n ≡ unwrap_or (elim (eqb n 65535) as (λ _. Option ℕ) [ true ↦ None | false ↦ Some n ]) 65535
+none_or_lem n = by-test (λ (o : Option ℕ). n ≡ unwrap_or o 65535) (eqb n 65535) (λ e. eqb-eq n 65535 e) (λ e. refl)
 
 item-optional : Item Read.optional Plan.optional Any
 unfolding Read.optional Plan.optional

@@ -1,6 +1,6 @@
 -- Request [8]: "For these diagnostic 4 is no longer made." Nothing else ever made it, so no plan of an accepted file has it.
 use mathlib.Core.List.{List}
-use mathlib.Core.Option.{none}
+use Rattle.std.specs.Prelude.{None}
 use mathlib.Core.Path.{◌≡◌, subst}
 use Prim.Native.Nat.{◌<◌}
 use lib.ListN.{length}
@@ -49,7 +49,7 @@ left-reported T S start (more {x = l} p ps) fit r =
     left-reported T S (walk_level T l start).lists ps a.1 (a.0 r)
 
 -- of the plan of every accepted file
-pub never-repeated : (T : Tables) → fault checks T ≡ none → Each (λ (d : Diagnostic). d.code ≡ Code.NyiRepeatedVariable → ⊥) (plan T).diagnostics
+pub never-repeated : (T : Tables) → fault checks T ≡ None → Each (λ (d : Diagnostic). d.code ≡ Code.NyiRepeatedVariable → ⊥) (plan T).diagnostics
 unfolding plan plan_of levels starting
 never-repeated T f =
     let S = sound T (passed-all T f) in

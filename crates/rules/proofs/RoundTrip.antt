@@ -1,6 +1,6 @@
 -- Reading back what a plan holds: a binding in plan form, its numbers within their fields, is read as itself.
 use mathlib.Core.List.{List, ◌∷◌, ◌++◌, append_assoc}
-use mathlib.Core.Option.{Option, none, some}
+use Rattle.std.specs.Prelude.{Option, None, Some}
 use mathlib.Core.Path.{◌≡◌, refl, sym, ap, ◌∙◌}
 use Prim.Native.Nat.{ℕ, suc, ◌/◌, ◌%◌, ◌<◌}
 use native.Mathlib.Omega.{arith}
@@ -23,8 +23,8 @@ pub record PathNumbers (p : FieldPath) : Type 0 where
 
 -- FFFF stands for none
 abbrev pub OptionNumber : Option ℕ → Type 0
-OptionNumber none = Unit {0}
-OptionNumber (some n) = n < 65535
+OptionNumber None = Unit {0}
+OptionNumber (Some n) = n < 65535
 
 abbrev pub SlotNumbers : Slot → Type 0
 SlotNumbers (Slot.Row a p) = (a < 65536) × OptionNumber p
@@ -62,11 +62,11 @@ back-u32 n h =
 
 pub back-optional : (n : Option ℕ) → OptionNumber n → Back Read.optional (Plan.optional n) n
 unfolding Read.optional Plan.optional pure
-back-optional none h = record { reads = λ rest. step (back-u16 65535 (omega arith)) _ rest refl }
-back-optional (some n) h =
+back-optional None h = record { reads = λ rest. step (back-u16 65535 (omega arith)) _ rest refl }
+back-optional (Some n) h =
     record {
       reads = λ rest. step (back-u16 n (omega arith)) _ rest
-          (ap (λ (o : Option ℕ). got o rest) (by-test (λ (o : Option ℕ). o ≡ some n) (eqb n 65535) (λ e. absurd (true≢false (sym e ∙ ne_eqb n 65535 (λ q. omega arith)))) (λ e. refl)));
+          (ap (λ (o : Option ℕ). got o rest) (by-test (λ (o : Option ℕ). o ≡ Some n) (eqb n 65535) (λ e. absurd (true≢false (sym e ∙ ne_eqb n 65535 (λ q. omega arith)))) (λ e. refl)));
     }
 
 module _ {A : Type 0} (r : Reader A) (encode : A → List ℕ) where

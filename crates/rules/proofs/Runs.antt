@@ -3,7 +3,7 @@
 -- as that run goes on alone.
 use mathlib.Core.Bool.{Bool, true, false}
 use mathlib.Core.List.{List, [], ◌∷◌}
-use mathlib.Core.Option.{Option, none, some}
+use Rattle.std.specs.Prelude.{Option, None, Some}
 use mathlib.Core.Path.{◌≡◌, refl, sym, ap, ◌∙◌, subst, fun_ext}
 use Prim.Native.Nat.{ℕ, zero, suc, ◌+◌, ◌<◌}
 use native.Mathlib.Omega.{arith}
@@ -26,9 +26,9 @@ use Rattle.rules.proofs.Idle.{Idle, Rests, Stays, idle-next, idle-dereference, i
 -- What is known of the walk's own paths and of the names that it binds: P and N, however the tables give them.
 pub record Numbers (T : Tables) (P : FieldPath → Type 0) (N : ℕ → Type 0) : Type 0 where
   pub scalar : P (field_path 0)
-  pub first : (t i : ℕ) (fs : List FieldTy) → record_ty (type_at T t) ≡ some fs → i < length fs → P (field_path i)
-  pub next : (p : FieldPath) (t i : ℕ) (fs : List FieldTy) → P p → record_ty (type_at T t) ≡ some fs → i < length fs → P (then p i)
-  pub tag : (p : FieldPath) (t : ℕ) (alts : List Alternative) → P p → union_ty (type_at T t) ≡ some alts → Each (λ a. P (payload p a.disc)) alts
+  pub first : (t i : ℕ) (fs : List FieldTy) → record_ty (type_at T t) ≡ Some fs → i < length fs → P (field_path i)
+  pub next : (p : FieldPath) (t i : ℕ) (fs : List FieldTy) → P p → record_ty (type_at T t) ≡ Some fs → i < length fs → P (then p i)
+  pub tag : (p : FieldPath) (t : ℕ) (alts : List Alternative) → P p → union_ty (type_at T t) ≡ Some alts → Each (λ a. P (payload p a.disc)) alts
   pub names : (n x : ℕ) → node_at T n ≡ Node.Var x → N x
 
 -- a path of the walk, at a type
@@ -43,14 +43,14 @@ pub record Sim (T : Tables) (P : FieldPath → Type 0) (N : ℕ → Type 0) {C :
   pub lookups : (a : Walk) (c : C) → Each (BindingOk T) a.lists.bindings → stopped c ≡ false → R a c → (x : ℕ) → o.lookup c x ≡ lookup a.lists.bindings x
   pub reported : (a b : Walk) (c d : C) → stopped c ≡ false → stopped d ≡ false → R a c → R b d → eqb (o.reported c) (o.reported d) ≡ eqb (length a.lists.diagnostics) (length b.lists.diagnostics)
   pub constant-is : (a : Walk) (c : C) → R a c → (n t : ℕ) → o.constant c n t ≡ constant T n t
-  pub fields : (x t : ℕ) (p : FieldPath) (a : Walk) (c : C) → lookup a.lists.bindings x ≡ none → N x → Stands T P p t → R a c → R (bind x (Slot.Field address p t) a) (o.bind x (Slot.Field address p t) c)
-  pub keys : (x t : ℕ) (a : Walk) (c : C) → lookup a.lists.bindings x ≡ none → N x → t < length T.types → R a c → R (bind x (Slot.Key address t) a) (o.bind x (Slot.Key address t) c)
+  pub fields : (x t : ℕ) (p : FieldPath) (a : Walk) (c : C) → lookup a.lists.bindings x ≡ None → N x → Stands T P p t → R a c → R (bind x (Slot.Field address p t) a) (o.bind x (Slot.Field address p t) c)
+  pub keys : (x t : ℕ) (a : Walk) (c : C) → lookup a.lists.bindings x ≡ None → N x → t < length T.types → R a c → R (bind x (Slot.Key address t) a) (o.bind x (Slot.Key address t) c)
   pub constrains : (x : ℕ) (a : Walk) (c : C) → R a c → R (constrained x a) (o.constrained x c)
   pub selects : (n : ℕ) (p : FieldPath) (d : ℕ) (a : Walk) (c : C) → Short p → R a c → R (select n p d a) (o.select n p d c)
   pub reports : (n : ℕ) (code : Code) (a : Walk) (c : C) → R a c → R (report n code a) (o.report n code c)
   pub skips : (a : Walk) (c : C) → R a c → R (skip a) (o.skip c)
   pub bounds : (x t : ℕ) (a : Walk) (c : C) → R a c → R (skip (emit (Event.bound x t) a)) (o.skip (o.bound x t c))
-  pub constants : (m n t : ℕ) (k : Const) (p : FieldPath) (a : Walk) (c : C) → constant T n t ≡ some k → Short p → R a c → R (narrow m p (narrowing k) a) (o.narrow m p (narrowing k) c)
+  pub constants : (m n t : ℕ) (k : Const) (p : FieldPath) (a : Walk) (c : C) → constant T n t ≡ Some k → Short p → R a c → R (narrow m p (narrowing k) a) (o.narrow m p (narrowing k) c)
   pub registers : (m n : ℕ) (at p : FieldPath) (a : Walk) (c : C) → Short at → Short p → R a c → R (narrow m p (Narrowing.RegisterField n at) a) (o.narrow m p (Narrowing.RegisterField n at) c)
   pub facts : (m n : ℕ) (p : FieldPath) (a : Walk) (c : C) → Short p → R a c → R (narrow m p (Narrowing.FactId n) a) (o.narrow m p (Narrowing.FactId n) c)
   pub own-fields : (m : ℕ) (at p : FieldPath) (a : Walk) (c : C) → Short at → Short p → R a c → R (narrow m p (Narrowing.OwnField at) a) (o.narrow m p (Narrowing.OwnField at) c)
@@ -116,24 +116,24 @@ module _ (T : Tables) (S : Sound T) (P : FieldPath → Type 0) (N : ℕ → Type
   unfolding select
   goes_select n p d a c s f r = record { grew = K.selects n p d a s; fit = f; rel = sim.selects n p d a c s r; still = λ h. ap stopped ((sim.idle c h).select n p d) ∙ h }
 
-  goes-bind-field : (x t : ℕ) (p : FieldPath) (a : Walk) (c : C) → lookup a.lists.bindings x ≡ none → N x → Stands T P p t → Goes a (bind x (Slot.Field address p t) a) c (o.bind x (Slot.Field address p t) c)
+  goes-bind-field : (x t : ℕ) (p : FieldPath) (a : Walk) (c : C) → lookup a.lists.bindings x ≡ None → N x → Stands T P p t → Goes a (bind x (Slot.Field address p t) a) c (o.bind x (Slot.Field address p t) c)
   unfolding bind const_node
   goes-bind-field x t p a c e n s f r =
       record { grew = K.binds x (Slot.Field address p t) a e s.fits refl; fit = each_append f (more s.fits done); rel = sim.fields x t p a c e n s r; still = λ h. ap stopped ((sim.idle c h).bind x (Slot.Field address p t)) ∙ h }
 
-  goes-bind-key : (x t : ℕ) (a : Walk) (c : C) → lookup a.lists.bindings x ≡ none → N x → t < length T.types → Goes a (bind x (Slot.Key address t) a) c (o.bind x (Slot.Key address t) c)
+  goes-bind-key : (x t : ℕ) (a : Walk) (c : C) → lookup a.lists.bindings x ≡ None → N x → t < length T.types → Goes a (bind x (Slot.Key address t) a) c (o.bind x (Slot.Key address t) c)
   unfolding bind const_node
   goes-bind-key x t a c e n l f r =
       record { grew = K.binds x (Slot.Key address t) a e l refl; fit = each_append f (more l done); rel = sim.keys x t a c e n l r; still = λ h. ap stopped ((sim.idle c h).bind x (Slot.Key address t)) ∙ h }
 
-  goes-constant : (m n t : ℕ) (k : Const) (p : FieldPath) (a : Walk) (c : C) → constant T n t ≡ some k → Short p → Goes a (narrow m p (narrowing k) a) c (o.narrow m p (narrowing k) c)
+  goes-constant : (m n t : ℕ) (k : Const) (p : FieldPath) (a : Walk) (c : C) → constant T n t ≡ Some k → Short p → Goes a (narrow m p (narrowing k) a) c (o.narrow m p (narrowing k) c)
   unfolding emit
   goes-constant m n t k p a c e s f r = record { grew = K.constants m n t k p a e s; fit = f; rel = sim.constants m n t k p a c e s r; still = λ h. ap stopped ((sim.idle c h).narrow m p (narrowing k)) ∙ h }
 
   -- a constant, or what stands in its place where there is none: both runs find the same
-  goes-constant-or : (m n t : ℕ) (p : FieldPath) (a x : Walk) (c y : C) → Short p → Goes a x c y → Goes a (elim (constant T n t) [ none ↦ x | some k ↦ narrow m p (narrowing k) a ]) c (elim (o.constant c n t) [ none ↦ y | some k ↦ o.narrow m p (narrowing k) c ])
+  goes-constant-or : (m n t : ℕ) (p : FieldPath) (a x : Walk) (c y : C) → Short p → Goes a x c y → Goes a (elim (constant T n t) [ None ↦ x | Some k ↦ narrow m p (narrowing k) a ]) c (elim (o.constant c n t) [ None ↦ y | Some k ↦ o.narrow m p (narrowing k) c ])
   goes-constant-or m n t p a x c y s g f r =
-      subst (λ (found : Option Const). Both a (elim (constant T n t) [ none ↦ x | some k ↦ narrow m p (narrowing k) a ]) c (elim found [ none ↦ y | some k ↦ o.narrow m p (narrowing k) c ])) (sym (sim.constant-is a c r n t))
+      subst (λ (found : Option Const). Both a (elim (constant T n t) [ None ↦ x | Some k ↦ narrow m p (narrowing k) a ]) c (elim found [ None ↦ y | Some k ↦ o.narrow m p (narrowing k) c ])) (sym (sim.constant-is a c r n t))
       (by-option₂ (λ a' c'. Goes a a' c c') (constant T n t) (λ e. g) (λ k e. goes-constant m n t k p a c e s) f r)
 
   goes-register : (m n : ℕ) (at p : FieldPath) (a : Walk) (c : C) → Short at → Short p → Goes a (narrow m p (Narrowing.RegisterField n at) a) c (o.narrow m p (Narrowing.RegisterField n at) c)
@@ -172,7 +172,7 @@ module _ (T : Tables) (S : Sound T) (P : FieldPath → Type 0) (N : ℕ → Type
     pub fit : Fit x.walk
     pub rel : R x.walk y.walk
     pub still : stopped c ≡ true → stopped y.walk ≡ true
-    pub ok : (s : Slot) → x.slot ≡ some s → SlotOk T s
+    pub ok : (s : Slot) → x.slot ≡ Some s → SlotOk T s
     pub same : stopped y.walk ≡ false → y.slot ≡ x.slot
 
   abbrev Reads : Walk → Answer Walk → C → Answer C → Type 0
@@ -181,15 +181,15 @@ module _ (T : Tables) (S : Sound T) (P : FieldPath → Type 0) (N : ℕ → Type
   reads-walk : {a : Walk} {x : Answer Walk} {c : C} {y : Answer C} → Found a x c y → Both a x.walk c y.walk
   reads-walk h = record { grew = h.grew; fit = h.fit; rel = h.rel; still = h.still }
 
-  reads-give : (s : Option Slot) (a : Walk) (c : C) → ((s' : Slot) → s ≡ some s' → SlotOk T s') → Reads a (give s a) c (give s c)
+  reads-give : (s : Option Slot) (a : Walk) (c : C) → ((s' : Slot) → s ≡ Some s' → SlotOk T s') → Reads a (give s a) c (give s c)
   unfolding give
   reads-give s a c ok f r = record { grew = K.same a; fit = f; rel = r; still = λ h. h; ok = ok; same = λ h. refl }
 
-  reads_none : (a : Walk) (c : C) → Reads a (give none a) c (give none c)
-  reads_none a c = reads-give none a c (λ s e. absurd (some≢none s (sym e)))
+  reads_none : (a : Walk) (c : C) → Reads a (give None a) c (give None c)
+  reads_none a c = reads-give None a c (λ s e. absurd (some≢none s (sym e)))
 
-  reads-some : (s : Slot) (a : Walk) (c : C) → SlotOk T s → Reads a (give (some s) a) c (give (some s) c)
-  reads-some s a c ok = reads-give (some s) a c (λ s' e. subst (SlotOk T) (some-injective s s' e) ok)
+  reads-some : (s : Slot) (a : Walk) (c : C) → SlotOk T s → Reads a (give (Some s) a) c (give (Some s) c)
+  reads-some s a c ok = reads-give (Some s) a c (λ s' e. subst (SlotOk T) (some-injective s s' e) ok)
 
   reads-declined : (n : ℕ) (code : Code) → Reported code → (a : Walk) (c : C) → Reads a (declined (walk_ops T) T n code a) c (declined o T n code c)
   unfolding declined
@@ -216,19 +216,19 @@ module _ (T : Tables) (S : Sound T) (P : FieldPath → Type 0) (N : ℕ → Type
       let p = h f rel in
       found-next p
       (sync-reads (r a).walk (r' c).walk (r a).slot (r' c).slot (follow (r a) g)
-      (λ (s : Option Slot). elim s [ none ↦ record { slot = none; walk = (r' c).walk } | some x ↦ g' x (r' c).walk ])
+      (λ (s : Option Slot). elim s [ None ↦ record { slot = None; walk = (r' c).walk } | Some x ↦ g' x (r' c).walk ])
       (λ e _. p.same e)
       (by-option₂ (λ x y. Reads (r a).walk x (r' c).walk y) (r a).slot (λ e. reads_none (r a).walk (r' c).walk) (λ s e. k s (r a).walk (r' c).walk (p.ok s e)))
       (λ e. stays_by e (r' c).slot) p.fit p.rel)
     where
-      stays_by : stopped (r' c).walk ≡ true → (s : Option Slot) → (elim s as (λ _. Answer C) [ none ↦ record { slot = none; walk = (r' c).walk } | some x ↦ g' x (r' c).walk ]).walk ≡ (r' c).walk
-      stays_by e none = refl
-      stays_by e (some x) = rests x (r' c).walk e
+      stays_by : stopped (r' c).walk ≡ true → (s : Option Slot) → (elim s as (λ _. Answer C) [ None ↦ record { slot = None; walk = (r' c).walk } | Some x ↦ g' x (r' c).walk ]).walk ≡ (r' c).walk
+      stays_by e None = refl
+      stays_by e (Some x) = rests x (r' c).walk e
 
   reads_fetched : (n p : ℕ) (register : Option ℕ) (a : Walk) (c : C) → p < length T.predicates → Reads a (fetched_row (walk_ops T) T n p register a) c (fetched_row o T n p register c)
   unfolding fetched_row
-  reads_fetched n p none a c h = reads-declined n Code.NyiFactField tt a c
-  reads_fetched n p (some r) a c h = reads-some (Slot.Row r (some p)) a c (λ q e. subst (λ x. x < length T.predicates) (some-injective p q e) h)
+  reads_fetched n p None a c h = reads-declined n Code.NyiFactField tt a c
+  reads_fetched n p (Some r) a c h = reads-some (Slot.Row r (Some p)) a c (λ q e. subst (λ x. x < length T.predicates) (some-injective p q e) h)
 
   reads-dereference : (n : ℕ) (s : Slot) (a : Walk) (c : C) → SlotOk T s → Reads a (dereference (walk_ops T) T n s a) c (dereference o T n s c)
   unfolding dereference
@@ -277,10 +277,10 @@ module _ (T : Tables) (S : Sound T) (P : FieldPath → Type 0) (N : ℕ → Type
   reads-value (Slot.Value n t) a c ok = reads_none a c
   reads-value (Slot.Const n) a c ok = reads_none a c
 
-  reads-selected : (n : ℕ) (path : FieldPath) (t : ℕ) (alt : Option Alternative) (a : Walk) (c : C) → Fits T path t → ((b : Alternative) → alt ≡ some b → Child T t b.type) → Reads a (selected (walk_ops T) T n path alt a) c (selected o T n path alt c)
+  reads-selected : (n : ℕ) (path : FieldPath) (t : ℕ) (alt : Option Alternative) (a : Walk) (c : C) → Fits T path t → ((b : Alternative) → alt ≡ Some b → Child T t b.type) → Reads a (selected (walk_ops T) T n path alt a) c (selected o T n path alt c)
   unfolding selected payload
-  reads-selected n path t none a c ok child = reads_none a c
-  reads-selected n path t (some alt) a c ok child = λ f r.
+  reads-selected n path t None a c ok child = reads_none a c
+  reads-selected n path t (Some alt) a c ok child = λ f r.
       let g = goes_select n path alt.disc a c (fits-short T S path t ok) f r in
       record { grew = g.grew; fit = g.fit; rel = g.rel; still = g.still; ok = λ s e. subst (SlotOk T) (some-injective _ s e) (fits-then T S path alt.disc t alt.type ok (child alt refl)); same = λ h. refl }
 
@@ -387,9 +387,9 @@ module _ (T : Tables) (S : Sound T) (P : FieldPath → Type 0) (N : ℕ → Type
   module _ (below : FieldWalk Walk) (below' : FieldWalk C) (B : Walks below below') (D : RestsWhole below') where
     goes-partial-fields : (fields : Option (List FieldPattern)) (t : ℕ) (fs : Option (List FieldTy)) (path : FieldPath) (a : Walk) (c : C) → Stands T P path t → fs ≡ record_ty (type_at T t) → Goes a (partial_fields (walk_ops T) T address below fields fs path a) c (partial_fields o T address below' fields fs path c)
     unfolding partial_fields
-    goes-partial-fields none t fs path a c s e = goes_same a c
-    goes-partial-fields (some fields) t none path a c s e = goes_same a c
-    goes-partial-fields (some fields) t (some fs) path a c s e =
+    goes-partial-fields None t fs path a c s e = goes_same a c
+    goes-partial-fields (Some fields) t None path a c s e = goes_same a c
+    goes-partial-fields (Some fields) t (Some fs) path a c s e =
         goes-each below below' (λ w. w) (λ w. w) (then path) fields B goes_same 0
         (each-imply (λ g h k. fits-then T S path k t g.type s.fits h) (record-children (Child T t) (type_at T t) fs (S.children t s.fits.in-types) (sym e)))
         (λ k l. numbers.next path t k fs s.within (sym e) (omega arith)) a c
@@ -412,31 +412,31 @@ module _ (T : Tables) (S : Sound T) (P : FieldPath → Type 0) (N : ℕ → Type
         goes-constant-or n folded t path a _ c _ (stands-short path t s)
         (goes-brings (Slot.Const folded) (type_at T t) a c and goes-partial folded t path _ _ s)
 
-    goes-alternative : (n : ℕ) (g : FieldPattern) (alt : Option Alternative) (t : ℕ) (path : FieldPath) (a : Walk) (c : C) → Stands T P path t → ((b : Alternative) → alt ≡ some b → Child T t b.type) → ((b : Alternative) → alt ≡ some b → P (payload path b.disc)) → Goes a (inject_alternative (walk_ops T) T address below n g alt path a) c (inject_alternative o T address below' n g alt path c)
+    goes-alternative : (n : ℕ) (g : FieldPattern) (alt : Option Alternative) (t : ℕ) (path : FieldPath) (a : Walk) (c : C) → Stands T P path t → ((b : Alternative) → alt ≡ Some b → Child T t b.type) → ((b : Alternative) → alt ≡ Some b → P (payload path b.disc)) → Goes a (inject_alternative (walk_ops T) T address below n g alt path a) c (inject_alternative o T address below' n g alt path c)
     unfolding inject_alternative payload
-    goes-alternative n g none t path a c s child within = goes-skip a c and goes-report n Code.RejectUnknownAlternative tt (skip a) (o.skip c)
-    goes-alternative n g (some alt) t path a c s child within =
+    goes-alternative n g None t path a c s child within = goes-skip a c and goes-report n Code.RejectUnknownAlternative tt (skip a) (o.skip c)
+    goes-alternative n g (Some alt) t path a c s child within =
         goes-union n alt.disc path a _ c _ (stands-short path t s)
         (B g.node alt.type (then path alt.disc) (narrow n path (Narrowing.Tag alt.disc) a) (o.narrow n path (Narrowing.Tag alt.disc) c)
         (record { fits = fits-then T S path alt.disc t alt.type s.fits (child alt refl); within = within alt refl }))
 
-    goes-only : (n : ℕ) (g : Option FieldPattern) (alts : List Alternative) (t : ℕ) (path : FieldPath) (a : Walk) (c : C) → Stands T P path t → union_ty (type_at T t) ≡ some alts → Goes a (inject_only (walk_ops T) T address below n g alts path a) c (inject_only o T address below' n g alts path c)
+    goes-only : (n : ℕ) (g : Option FieldPattern) (alts : List Alternative) (t : ℕ) (path : FieldPath) (a : Walk) (c : C) → Stands T P path t → union_ty (type_at T t) ≡ Some alts → Goes a (inject_only (walk_ops T) T address below n g alts path a) c (inject_only o T address below' n g alts path c)
     unfolding inject_only alternative_of
-    goes-only n none alts t path a c s e = goes-skip a c and goes-report n Code.RejectUnionArity tt (skip a) (o.skip c)
-    goes-only n (some g) alts t path a c s e =
+    goes-only n None alts t path a c s e = goes-skip a c and goes-report n Code.RejectUnionArity tt (skip a) (o.skip c)
+    goes-only n (Some g) alts t path a c s e =
         goes-alternative n g _ t path a c s
         (λ b q. each_first _ (union-children (Child T t) (type_at T t) alts (S.children t s.fits.in-types) e) b q)
         (λ b q. each_first _ (numbers.tag path t alts s.within e) b q)
 
-    goes-inject : (fields : List FieldPattern) (alts : List Alternative) (n t : ℕ) (path : FieldPath) (a : Walk) (c : C) → Stands T P path t → union_ty (type_at T t) ≡ some alts → Goes a (inject (walk_ops T) T address below fields alts n t path a) c (inject o T address below' fields alts n t path c)
+    goes-inject : (fields : List FieldPattern) (alts : List Alternative) (n t : ℕ) (path : FieldPath) (a : Walk) (c : C) → Stands T P path t → union_ty (type_at T t) ≡ Some alts → Goes a (inject (walk_ops T) T address below fields alts n t path a) c (inject o T address below' fields alts n t path c)
     unfolding inject narrow_by
     goes-inject fields alts n t path a c s e =
         goes-constant-or n n t path a _ c _ (stands-short path t s) (goes-only n (only_field fields) alts t path a c s e)
 
-    goes-answer : (n : ℕ) (slot : Option Slot) (t : ℕ) (path : FieldPath) (a₀ a : Walk) (c₀ c : C) → ((s' : Slot) → slot ≡ some s' → SlotOk T s') → R a₀ c₀ → (stopped c ≡ false → stopped c₀ ≡ false) → Stands T P path t → Goes a (read_answer (walk_ops T) T address below n slot t path a₀ a) c (read_answer o T address below' n slot t path c₀ c)
+    goes-answer : (n : ℕ) (slot : Option Slot) (t : ℕ) (path : FieldPath) (a₀ a : Walk) (c₀ c : C) → ((s' : Slot) → slot ≡ Some s' → SlotOk T s') → R a₀ c₀ → (stopped c ≡ false → stopped c₀ ≡ false) → Stands T P path t → Goes a (read_answer (walk_ops T) T address below n slot t path a₀ a) c (read_answer o T address below' n slot t path c₀ c)
     unfolding read_answer
-    goes-answer n (some slot) t path a₀ a c₀ c ok r₀ on s = goes-matched n slot t path a c (ok slot refl) s
-    goes-answer n none t path a₀ a c₀ c ok r₀ on s =
+    goes-answer n (Some slot) t path a₀ a c₀ c ok r₀ on s = goes-matched n slot t path a c (ok slot refl) s
+    goes-answer n None t path a₀ a c₀ c ok r₀ on s =
         by-option₂ (λ a' c'. Goes a a' c c') (record_fields (node_at T n)) (λ e. goes-unresolved n a₀ a c₀ c r₀ on) (λ fields e. goes-partial n t path a c s)
 
     goes-read : Walks (read (walk_ops T) T address below) (read o T address below')
@@ -459,7 +459,7 @@ module _ (T : Tables) (S : Sound T) (P : FieldPath → Type 0) (N : ℕ → Type
     unfolding variable
     goes-variable x nx n t path a c s =
         sync a c (lookup a.lists.bindings x) (o.lookup c x) _
-        (λ (found : Option Slot). elim found [ none ↦ constrain o T x t path (o.bind x (Slot.Field address path t) c) | some slot ↦ read o T address below' n t path c ])
+        (λ (found : Option Slot). elim found [ None ↦ constrain o T x t path (o.bind x (Slot.Field address path t) c) | Some slot ↦ read o T address below' n t path c ])
         (λ f e r. sim.lookups a c f e r x)
         (by-option₂ (λ a' c'. Goes a a' c c') (lookup a.lists.bindings x)
         (λ e. goes-bind-field x t path a c e nx s and goes-constrain x t path (bind x (Slot.Field address path t) a) (o.bind x (Slot.Field address path t) c) (stands-short path t s))
@@ -514,7 +514,7 @@ module _ (T : Tables) (S : Sound T) (P : FieldPath → Type 0) (N : ℕ → Type
       let c' = (field_slot o T n slot f.name c).walk in
       ((λ _ _. reads-walk x)
       and sync a' c' (field_slot (walk_ops T) T n slot f.name a).slot (field_slot o T n slot f.name c).slot _
-      (λ (found : Option Slot). elim found [ none ↦ o.skip c' | some s ↦ matched o T address (field o T address) (whole_node n s) s f.type (field_path i) c' ])
+      (λ (found : Option Slot). elim found [ None ↦ o.skip c' | Some s ↦ matched o T address (field o T address) (whole_node n s) s f.type (field_path i) c' ])
       (λ _ e _. x.same e)
       (by-option₂ (λ b d. Goes a' b c' d) (field_slot (walk_ops T) T n slot f.name a).slot
       (λ e. goes-skip a' c')
@@ -522,9 +522,9 @@ module _ (T : Tables) (S : Sound T) (P : FieldPath → Type 0) (N : ℕ → Type
       (λ e. rests-at (field_slot o T n slot f.name c).slot e)
       and goes-whole-fields n slot ok (suc i) rest (λ k l. within k (omega arith)) _ _) fit r
     where
-      rests-at : (found : Option Slot) (e : stopped (field_slot o T n slot f.name c).walk ≡ true) → (elim found as (λ _. C) [ none ↦ o.skip (field_slot o T n slot f.name c).walk | some s ↦ matched o T address (field o T address) (whole_node n s) s f.type (field_path i) (field_slot o T n slot f.name c).walk ]) ≡ (field_slot o T n slot f.name c).walk
-      rests-at none e = (sim.idle _ e).skip
-      rests-at (some s) e = idle-matched o T _ (sim.idle _ e) address (field o T address) (rests-field _ e) (whole_node n s) s f.type (field_path i)
+      rests-at : (found : Option Slot) (e : stopped (field_slot o T n slot f.name c).walk ≡ true) → (elim found as (λ _. C) [ None ↦ o.skip (field_slot o T n slot f.name c).walk | Some s ↦ matched o T address (field o T address) (whole_node n s) s f.type (field_path i) (field_slot o T n slot f.name c).walk ]) ≡ (field_slot o T n slot f.name c).walk
+      rests-at None e = (sim.idle _ e).skip
+      rests-at (Some s) e = idle-matched o T _ (sim.idle _ e) address (field o T address) (rests-field _ e) (whole_node n s) s f.type (field_path i)
 
   goes-whole-read : (n : ℕ) {fs : List FieldTy} → KeyFields 0 fs → (a : Walk) (c : C) → Goes a (whole_read (walk_ops T) T address n fs a) c (whole_read o T address n fs c)
   unfolding whole_read
@@ -532,22 +532,22 @@ module _ (T : Tables) (S : Sound T) (P : FieldPath → Type 0) (N : ℕ → Type
       let x = reads-resolve n a c fit r in
       ((λ _ _. reads-walk x)
       and sync (resolve (walk_ops T) T n a).walk (resolve o T n c).walk (resolve (walk_ops T) T n a).slot (resolve o T n c).slot _
-      (λ (found : Option Slot). elim found [ none ↦ o.skip (resolve o T n c).walk | some s ↦ whole_fields o T address n s 0 fs (o.brings s (Ty.Record fs) (resolve o T n c).walk) ])
+      (λ (found : Option Slot). elim found [ None ↦ o.skip (resolve o T n c).walk | Some s ↦ whole_fields o T address n s 0 fs (o.brings s (Ty.Record fs) (resolve o T n c).walk) ])
       (λ _ e _. x.same e)
       (by-option₂ (λ b d. Goes (resolve (walk_ops T) T n a).walk b (resolve o T n c).walk d) (resolve (walk_ops T) T n a).slot
       (λ e. goes-skip _ _)
       (λ s e. goes-brings s (Ty.Record fs) _ _ and goes-whole-fields n s (x.ok s e) 0 k.fits k.within _ _))
       (λ e. rests-at (resolve o T n c).slot e)) fit r
     where
-      rests-at : (found : Option Slot) (e : stopped (resolve o T n c).walk ≡ true) → (elim found as (λ _. C) [ none ↦ o.skip (resolve o T n c).walk | some s ↦ whole_fields o T address n s 0 fs (o.brings s (Ty.Record fs) (resolve o T n c).walk) ]) ≡ (resolve o T n c).walk
-      rests-at none e = (sim.idle _ e).skip
-      rests-at (some s) e = ap (whole_fields o T address n s 0 fs) ((sim.idle _ e).brings s (Ty.Record fs)) ∙ idle-whole_fields o T _ (sim.idle _ e) address n s 0 fs
+      rests-at : (found : Option Slot) (e : stopped (resolve o T n c).walk ≡ true) → (elim found as (λ _. C) [ None ↦ o.skip (resolve o T n c).walk | Some s ↦ whole_fields o T address n s 0 fs (o.brings s (Ty.Record fs) (resolve o T n c).walk) ]) ≡ (resolve o T n c).walk
+      rests-at None e = (sim.idle _ e).skip
+      rests-at (Some s) e = ap (whole_fields o T address n s 0 fs) ((sim.idle _ e).brings s (Ty.Record fs)) ∙ idle-whole_fields o T _ (sim.idle _ e) address n s 0 fs
 
   goes-whole-variable : (x n t : ℕ) {fs : List FieldTy} → N x → t < length T.types → KeyFields 0 fs → (a : Walk) (c : C) → Goes a (whole_variable (walk_ops T) T address x n t fs a) c (whole_variable o T address x n t fs c)
   unfolding whole_variable emit
   goes-whole-variable x n t {fs} nx l k a c =
       sync a c (lookup a.lists.bindings x) (o.lookup c x) _
-      (λ (found : Option Slot). elim found [ none ↦ o.bind x (Slot.Key address t) (o.skip c) | some slot ↦ whole_read o T address n fs c ])
+      (λ (found : Option Slot). elim found [ None ↦ o.bind x (Slot.Key address t) (o.skip c) | Some slot ↦ whole_read o T address n fs c ])
       (λ f e r. sim.lookups a c f e r x)
       (by-option₂ (λ b d. Goes a b c d) (lookup a.lists.bindings x)
       (λ e. goes-skip a c and goes-bind-key x t (skip a) (o.skip c) e nx l)
@@ -576,8 +576,8 @@ module _ (T : Tables) (S : Sound T) (P : FieldPath → Type 0) (N : ℕ → Type
 
   goes-record : (fields : Option (List FieldPattern)) (n t : ℕ) {fs : List FieldTy} → t < length T.types → KeyFields 0 fs → (a : Walk) (c : C) → Goes a (record_key (walk_ops T) T address fields n t fs a) c (record_key o T address fields n t fs c)
   unfolding record_key
-  goes-record (some fields) n t l k a c = goes-each (field (walk_ops T) T address) (field o T address) skip o.skip field_path fields goes-field goes-skip 0 k.fits k.within a c
-  goes-record none n t l k a c = goes-whole (node_at T n) n t refl l k a c
+  goes-record (Some fields) n t l k a c = goes-each (field (walk_ops T) T address) (field o T address) skip o.skip field_path fields goes-field goes-skip 0 k.fits k.within a c
+  goes-record None n t l k a c = goes-whole (node_at T n) n t refl l k a c
 
   -- the walk of a level's key
   pub goes-key : (n t : ℕ) (a : Walk) (c : C) → t < length T.types → Goes a (key (walk_ops T) T address n t a) c (key o T address n t c)

@@ -1,5 +1,5 @@
 -- A scalar pattern's constant at a type: it is the constant itself, or there is none.
-use mathlib.Core.Option.{some}
+use Rattle.std.specs.Prelude.{Some}
 use mathlib.Core.Path.{◌≡◌, refl}
 use Rattle.rules.specs.File.{Ty}
 use Rattle.rules.specs.Constant.{Const, at_int, at_str, at_bytes}
@@ -35,11 +35,11 @@ module _ (P : Const → Type 0) where
   at-bytes (Ty.Union alts) c h = nothing
 
 -- the constant itself
-pub same_int : (ty : Ty) (c k : Const) → at_int ty c ≡ some k → c ≡ k
+pub same_int : (ty : Ty) (c k : Const) → at_int ty c ≡ Some k → c ≡ k
 same_int ty c k e = perhaps-some k (at-int (λ x. c ≡ x) ty c refl) e
 
-pub same-str : (ty : Ty) (c k : Const) → at_str ty c ≡ some k → c ≡ k
+pub same-str : (ty : Ty) (c k : Const) → at_str ty c ≡ Some k → c ≡ k
 same-str ty c k e = perhaps-some k (at-str (λ x. c ≡ x) ty c refl) e
 
-pub same_bytes_lem : (ty : Ty) (c k : Const) → at_bytes ty c ≡ some k → c ≡ k
+pub same_bytes_lem : (ty : Ty) (c k : Const) → at_bytes ty c ≡ Some k → c ≡ k
 same_bytes_lem ty c k e = perhaps-some k (at-bytes (λ x. c ≡ x) ty c refl) e

@@ -1,7 +1,7 @@
 -- Single sentences of documents 01 and 02, told of one step of the rules. They stand before the inductions, so that a rule that breaks one of them is refused by it.
 use mathlib.Core.Bool.{true, false}
 use mathlib.Core.List.{List, [], ◌∷◌, ◌++◌}
-use mathlib.Core.Option.{none, some}
+use Rattle.std.specs.Prelude.{None, Some}
 use mathlib.Core.Path.{◌≡◌, refl, sym, ◌∙◌}
 use Prim.Native.Nat.{ℕ}
 use borrow.Author.Tests.{eq-eqb}
@@ -17,13 +17,13 @@ use Rattle.rules.proofs.Cases.{by-test, by-option, true≢false, some≢none}
 
 module _ {S : Type 0} (o : Ops S) (T : Tables) (address : ℕ) (below : FieldWalk S) (x n t : ℕ) (path : FieldPath) (w : S) where
   -- "A Var binds only while new": a bound one is read
-  pub bound-is-read : (slot : Slot) → o.lookup w x ≡ some slot → variable o T address below x n t path w ≡ read o T address below n t path w
+  pub bound-is-read : (slot : Slot) → o.lookup w x ≡ Some slot → variable o T address below x n t path w ≡ read o T address below n t path w
   unfolding variable
   bound-is-read slot e =
       by-option (λ after. after ≡ read o T address below n t path w) (o.lookup w x) (λ q. absurd (some≢none slot (sym e ∙ q))) (λ found q. refl)
 
   -- "a new Var binds before its constraints are read"
-  pub new-is-bound : o.lookup w x ≡ none → variable o T address below x n t path w ≡ constrain o T x t path (o.bind x (Slot.Field address path t) w)
+  pub new-is-bound : o.lookup w x ≡ None → variable o T address below x n t path w ≡ constrain o T x t path (o.bind x (Slot.Field address path t) w)
   unfolding variable
   new-is-bound e =
       by-option (λ after. after ≡ constrain o T x t path (o.bind x (Slot.Field address path t) w)) (o.lookup w x)

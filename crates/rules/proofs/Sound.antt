@@ -1,7 +1,7 @@
 -- What the checks 8 to 14 give: numbers in range, children lower and less deep, starting slots that fit.
 use mathlib.Core.Bool.{Bool, true}
 use mathlib.Core.List.{List, [], ◌∷◌}
-use mathlib.Core.Option.{Option, none, some}
+use Rattle.std.specs.Prelude.{Option, None, Some}
 use mathlib.Core.Path.{◌≡◌, refl, sym, ap, ◌∙◌, subst}
 use Prim.Native.Nat.{ℕ, zero, suc, ◌+◌, ◌≤◌, ◌<◌}
 use native.Mathlib.Nat.{zero-add, not-suc-le-zero, le_of_suc-le-suc}
@@ -18,10 +18,10 @@ use Rattle.rules.proofs.Each.{each-passes, each-imply, each_both, each_at}
 use Rattle.rules.proofs.BottomUp.{extends, at_place}
 
 -- a check that was passed, and the checks after it
-pub fault-passed : (c : Check) (cs : List Check) (T : Tables) → fault (c ∷ cs) T ≡ none → (c.passes T ≡ true) × (fault cs T ≡ none)
+pub fault-passed : (c : Check) (cs : List Check) (T : Tables) → fault (c ∷ cs) T ≡ None → (c.passes T ≡ true) × (fault cs T ≡ None)
 unfolding fault
 fault-passed c cs T =
-    by-test (λ r. r ≡ none → (c.passes T ≡ true) × (fault cs T ≡ none)) (c.passes T) (λ q r. (q, r)) (λ q r. absurd (some≢none c.number r))
+    by-test (λ r. r ≡ None → (c.passes T ≡ true) × (fault cs T ≡ None)) (c.passes T) (λ q r. (q, r)) (λ q r. absurd (some≢none c.number r))
 
 -- every check of an accepted file
 pub record Passed (T : Tables) : Type 0 where
@@ -33,7 +33,7 @@ pub record Passed (T : Tables) : Type 0 where
   pub consts : consts_constant T ≡ true
   pub paths : paths_fit T ≡ true
 
-pub passed-all : (T : Tables) → fault checks T ≡ none → Passed T
+pub passed-all : (T : Tables) → fault checks T ≡ None → Passed T
 passed-all T e =
     let a = fault-passed _ _ T e in
     let b = fault-passed _ _ T a.1 in
@@ -59,7 +59,7 @@ pub record Child (T : Tables) (t c : ℕ) : Type 0 where
   pub less-deep : depth T c + 1 ≤ depth T t
 
 abbrev pub SlotOk : Tables → Slot → Type 0
-SlotOk T (Slot.Row a p) = (q : ℕ) → p ≡ some q → q < length T.predicates
+SlotOk T (Slot.Row a p) = (q : ℕ) → p ≡ Some q → q < length T.predicates
 SlotOk T (Slot.Key a t) = t < length T.types
 SlotOk T (Slot.Derived a) = Unit {0}
 SlotOk T (Slot.Field a p t) = Fits T p t
@@ -71,7 +71,7 @@ BindingOk T b = SlotOk T b.slot
 
 pub record Sound (T : Tables) : Type 0 where
   pub children : (t : ℕ) → t < length T.types → Each (Child T t) (child_types (type_at T t))
-  pub facts : (t p : ℕ) → t < length T.types → fact_ty (type_at T t) ≡ some p → p < length T.predicates
+  pub facts : (t p : ℕ) → t < length T.types → fact_ty (type_at T t) ≡ Some p → p < length T.predicates
   pub keys : (p : ℕ) → p < length T.predicates → (predicate_at T p).key < length T.types
   pub positive : (t : ℕ) → t < length T.types → 1 ≤ depth T t
   pub shallow : (t : ℕ) → t < length T.types → depth T t ≤ depth_limit
@@ -149,7 +149,7 @@ numbers-in T k =
       levels = each-passes (level_in T) T.levels (both_right (all (comparison_in T) T.comparisons) _ g);
     }
 
-fact-in : (T : Tables) (ty : Ty) (p : ℕ) → type_in T ty ≡ true → fact_ty ty ≡ some p → p < length T.predicates
+fact-in : (T : Tables) (ty : Ty) (p : ℕ) → type_in T ty ≡ true → fact_ty ty ≡ Some p → p < length T.predicates
 unfolding type_in fact_ty is_predicate
 fact-in T Ty.Int p h e = absurd (some≢none p (sym e))
 fact-in T Ty.Str p h e = absurd (some≢none p (sym e))
@@ -158,10 +158,10 @@ fact-in T (Ty.Fact q) p h e = subst (λ x. x < length T.predicates) (some-inject
 fact-in T (Ty.Record fs) p h e = absurd (some≢none p (sym e))
 fact-in T (Ty.Union alts) p h e = absurd (some≢none p (sym e))
 
-row_in : (T : Tables) (p : Option ℕ) (q : ℕ) → none_or (is_predicate T) p ≡ true → p ≡ some q → q < length T.predicates
+row_in : (T : Tables) (p : Option ℕ) (q : ℕ) → none_or (is_predicate T) p ≡ true → p ≡ Some q → q < length T.predicates
 unfolding none_or is_predicate
-row_in T none q h e = absurd (some≢none q (sym e))
-row_in T (some x) q h e = subst (λ y. y < length T.predicates) (some-injective x q e) (ltb-lt _ _ h)
+row_in T None q h e = absurd (some≢none q (sym e))
+row_in T (Some x) q h e = subst (λ y. y < length T.predicates) (some-injective x q e) (ltb-lt _ _ h)
 
 slot_ok : (T : Tables) (s : Slot) → slot_in T s ≡ true → slot_fits T s ≡ true → SlotOk T s
 unfolding slot_in slot_fits is_type
@@ -178,7 +178,7 @@ sound T k =
     record {
       children = λ t h. each_both (λ c l d. record { lower = l; in-types = omega arith; less-deep = omega (arith, depth_is T t h (lower-children T k t h)) }) (lower-children T k t h) (deepest-bounds (depths T) (child_types (type_at T t)));
       facts = λ t p h e. fact-in T (type_at T t) p (each_at n.types t Ty.Int h) e;
-      keys = λ p h. ltb-lt _ _ (both_left (is_type T (predicate_at T p).key) _ (each_at n.predicates p (record { key = 0; value = none }) h));
+      keys = λ p h. ltb-lt _ _ (both_left (is_type T (predicate_at T p).key) _ (each_at n.predicates p (record { key = 0; value = None }) h));
       positive = λ t h. omega (arith, depth_is T t h (lower-children T k t h));
       shallow = λ t h. leb-le _ _ (each_at (each-passes (λ d. leb d depth_limit) (depths T) k.shallow) t 0 (rw (depths-length T) h));
       bindings = each_both (λ b g f. slot_ok T b.slot (both_right (is_name T b.name) _ g) f) n.bindings (each-passes (λ b. slot_fits T b.slot) T.bindings (both_left (all (λ b. slot_fits T b.slot) T.bindings) _ k.paths));

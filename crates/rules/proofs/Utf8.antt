@@ -1,7 +1,7 @@
 -- RFC 3629's grammar (specs/Utf8.antt) accepts exactly the concatenations of the shortest encodings of 0 to D7FF and E000 to 10FFFF.
 use mathlib.Core.Bool.{Bool, true, false}
 use mathlib.Core.List.{List, [], ◌∷◌, ◌++◌}
-use mathlib.Core.Option.{Option, none, some}
+use Rattle.std.specs.Prelude.{Option, None, Some}
 use mathlib.Core.Path.{◌≡◌, refl, sym, ap, ◌∙◌, subst}
 use Prim.Native.Nat.{ℕ, zero, suc, ◌+◌, ◌-◌, ◌*◌, ◌/◌, ◌≤◌, ◌<◌}
 use native.Mathlib.Omega.{arith}
@@ -32,7 +32,7 @@ has_above r b h = go (leb r.least b)
 
 -- Which row an octet begins: those whose first octets lie below it are passed over.
 abbrev begun : ℕ → List Row → Option (List Octets)
-begun b rows = first (λ r. has r.lead b) rows when_some λ r. some r.rest
+begun b rows = first (λ r. has r.lead b) rows when_some λ r. Some r.rest
 
 passed : (k b bound : ℕ) (rows : List Row) → all (λ r. ltb r.lead.most bound) (take k rows) ≡ true → bound ≤ b → begun b rows ≡ begun b (drop k rows)
 unfolding all first
@@ -50,11 +50,11 @@ passed (suc k) b bound (r ∷ rows) e h =
         simp (first, has_above r.lead b k)
 
 -- and an octet below all of them begins none
-beneath : (b bound : ℕ) (rows : List Row) → all (λ r. ltb bound r.lead.least) rows ≡ true → b ≤ bound → begun b rows ≡ none
+beneath : (b bound : ℕ) (rows : List Row) → all (λ r. ltb bound r.lead.least) rows ≡ true → b ≤ bound → begun b rows ≡ None
 unfolding all first ◌when_some◌
 beneath b bound [] e h = refl
 beneath b bound (r ∷ rows) e h =
-    by-test (λ t. t ≡ true → begun b (r ∷ rows) ≡ none) (ltb bound r.lead.least)
+    by-test (λ t. t ≡ true → begun b (r ∷ rows) ≡ None) (ltb bound r.lead.least)
     (λ q g. above q ∙ beneath b bound rows g h)
     (λ q g. absurd (true≢false (sym g)))
     e
@@ -65,52 +65,52 @@ beneath b bound (r ∷ rows) e h =
         simp (first, has-below r.lead b k)
 
 -- row k of the grammar, the rows counted from 0
-row-begins : (k b : ℕ) (r : Row) (later : List Row) → drop k UTF8-char ≡ r ∷ later → all (λ p. ltb p.lead.most r.lead.least) (take k UTF8-char) ≡ true → r.lead.least ≤ b → b ≤ r.lead.most → begins b ≡ some r.rest
+row-begins : (k b : ℕ) (r : Row) (later : List Row) → drop k UTF8-char ≡ r ∷ later → all (λ p. ltb p.lead.most r.lead.least) (take k UTF8-char) ≡ true → r.lead.least ≤ b → b ≤ r.lead.most → begins b ≡ Some r.rest
 unfolding begins first ◌when_some◌
 row-begins k b r later d e h g = passed k b r.lead.least UTF8-char e h ∙ ap (begun b) d ∙ simp (first, has_in r.lead b h g)
 
 -- the octets as first ones, in ascending order
-pub begins-one : (b : ℕ) → b ≤ 0x7F → begins b ≡ some []
+pub begins-one : (b : ℕ) → b ≤ 0x7F → begins b ≡ Some []
 unfolding all
 begins-one b g = row-begins 0 b _ _ refl refl (omega arith) g
 
-pub begins-tail : (b : ℕ) → 0x80 ≤ b → b ≤ 0xC1 → begins b ≡ none
+pub begins-tail : (b : ℕ) → 0x80 ≤ b → b ≤ 0xC1 → begins b ≡ None
 unfolding all begins
 begins-tail b h g = passed 1 b 0x80 UTF8-char refl h ∙ beneath b 0xC1 (drop 1 UTF8-char) refl g
 
-pub begins-two : (b : ℕ) → 0xC2 ≤ b → b ≤ 0xDF → begins b ≡ some (UTF8-tail ∷ [])
+pub begins-two : (b : ℕ) → 0xC2 ≤ b → b ≤ 0xDF → begins b ≡ Some (UTF8-tail ∷ [])
 unfolding all
 begins-two b h g = row-begins 1 b _ _ refl refl h g
 
-pub begins-E0 : (b : ℕ) → b ≡ 0xE0 → begins b ≡ some ((0xA0 to 0xBF) ∷ UTF8-tail ∷ [])
+pub begins-E0 : (b : ℕ) → b ≡ 0xE0 → begins b ≡ Some ((0xA0 to 0xBF) ∷ UTF8-tail ∷ [])
 unfolding all
 begins-E0 b h = row-begins 2 b _ _ refl refl (omega arith) (omega arith)
 
-pub begins-E1 : (b : ℕ) → 0xE1 ≤ b → b ≤ 0xEC → begins b ≡ some (UTF8-tail ∷ UTF8-tail ∷ [])
+pub begins-E1 : (b : ℕ) → 0xE1 ≤ b → b ≤ 0xEC → begins b ≡ Some (UTF8-tail ∷ UTF8-tail ∷ [])
 unfolding all
 begins-E1 b h g = row-begins 3 b _ _ refl refl h g
 
-pub begins-ED : (b : ℕ) → b ≡ 0xED → begins b ≡ some ((0x80 to 0x9F) ∷ UTF8-tail ∷ [])
+pub begins-ED : (b : ℕ) → b ≡ 0xED → begins b ≡ Some ((0x80 to 0x9F) ∷ UTF8-tail ∷ [])
 unfolding all
 begins-ED b h = row-begins 4 b _ _ refl refl (omega arith) (omega arith)
 
-pub begins-EE : (b : ℕ) → 0xEE ≤ b → b ≤ 0xEF → begins b ≡ some (UTF8-tail ∷ UTF8-tail ∷ [])
+pub begins-EE : (b : ℕ) → 0xEE ≤ b → b ≤ 0xEF → begins b ≡ Some (UTF8-tail ∷ UTF8-tail ∷ [])
 unfolding all
 begins-EE b h g = row-begins 5 b _ _ refl refl h g
 
-pub begins-F0 : (b : ℕ) → b ≡ 0xF0 → begins b ≡ some ((0x90 to 0xBF) ∷ UTF8-tail ∷ UTF8-tail ∷ [])
+pub begins-F0 : (b : ℕ) → b ≡ 0xF0 → begins b ≡ Some ((0x90 to 0xBF) ∷ UTF8-tail ∷ UTF8-tail ∷ [])
 unfolding all
 begins-F0 b h = row-begins 6 b _ _ refl refl (omega arith) (omega arith)
 
-pub begins-F1 : (b : ℕ) → 0xF1 ≤ b → b ≤ 0xF3 → begins b ≡ some (UTF8-tail ∷ UTF8-tail ∷ UTF8-tail ∷ [])
+pub begins-F1 : (b : ℕ) → 0xF1 ≤ b → b ≤ 0xF3 → begins b ≡ Some (UTF8-tail ∷ UTF8-tail ∷ UTF8-tail ∷ [])
 unfolding all
 begins-F1 b h g = row-begins 7 b _ _ refl refl h g
 
-pub begins-F4 : (b : ℕ) → b ≡ 0xF4 → begins b ≡ some ((0x80 to 0x8F) ∷ UTF8-tail ∷ UTF8-tail ∷ [])
+pub begins-F4 : (b : ℕ) → b ≡ 0xF4 → begins b ≡ Some ((0x80 to 0x8F) ∷ UTF8-tail ∷ UTF8-tail ∷ [])
 unfolding all
 begins-F4 b h = row-begins 8 b _ _ refl refl (omega arith) (omega arith)
 
-pub begins-above : (b : ℕ) → 0xF5 ≤ b → begins b ≡ none
+pub begins-above : (b : ℕ) → 0xF5 ≤ b → begins b ≡ None
 unfolding all begins first ◌when_some◌
 begins-above b h = passed 9 b 0xF5 UTF8-char refl h
 
@@ -119,13 +119,13 @@ pub data Fit : List Octets → List ℕ → Type 0 where
   nothing : Fit [] []
   next : {r : Octets} {rs : List Octets} {b : ℕ} {bytes : List ℕ} → r.least ≤ b → b ≤ r.most → Fit rs bytes → Fit (r ∷ rs) (b ∷ bytes)
 
-pub fit-after : {rs : List Octets} {bytes : List ℕ} (rest : List ℕ) → Fit rs bytes → after_all (some rs) (bytes ++ rest) ≡ after_all (some []) rest
+pub fit-after : {rs : List Octets} {bytes : List ℕ} (rest : List ℕ) → Fit rs bytes → after_all (Some rs) (bytes ++ rest) ≡ after_all (Some []) rest
 unfolding after_all after
 fit-after rest nothing = refl
 fit-after rest (next {r} {rs} {b} {bytes} h g f) =
-    ap (λ (t : Bool). after_all (elim t [ true ↦ some rs | false ↦ none ]) (bytes ++ rest)) (has_in r b h g) ∙ fit-after rest f
+    ap (λ (t : Bool). after_all (elim t [ true ↦ Some rs | false ↦ None ]) (bytes ++ rest)) (has_in r b h g) ∙ fit-after rest f
 
-none_after : (bytes : List ℕ) → after_all none bytes ≡ none
+none_after : (bytes : List ℕ) → after_all None bytes ≡ None
 unfolding after_all after
 none_after [] = refl
 none_after (b ∷ bytes) = none_after bytes
@@ -138,13 +138,13 @@ record Taken (rs : List Octets) (bytes : List ℕ) : Type 0 where
   fit : Fit rs octets
   goes_on : UTF8-octets rest ≡ true
 
-taken : (rs : List Octets) (bytes : List ℕ) → whole (after_all (some rs) bytes) ≡ true → Taken rs bytes
+taken : (rs : List Octets) (bytes : List ℕ) → whole (after_all (Some rs) bytes) ≡ true → Taken rs bytes
 unfolding after_all after whole UTF8-octets has
 taken [] bytes e = record { octets = []; rest = bytes; is = refl; fit = nothing; goes_on = e }
 taken (r ∷ rs) [] e = absurd (true≢false (sym e))
 taken (r ∷ rs) (b ∷ bytes) e = go (has r b) refl e (λ g. taken rs bytes g)
   where
-    go : (t : Bool) → has r b ≡ t → whole (after_all (elim t [ true ↦ some rs | false ↦ none ]) bytes) ≡ true → (whole (after_all (some rs) bytes) ≡ true → Taken rs bytes) → Taken (r ∷ rs) (b ∷ bytes)
+    go : (t : Bool) → has r b ≡ t → whole (after_all (elim t [ true ↦ Some rs | false ↦ None ]) bytes) ≡ true → (whole (after_all (Some rs) bytes) ≡ true → Taken rs bytes) → Taken (r ∷ rs) (b ∷ bytes)
     go true h g rec =
         let x = rec g in
         let low : r.least ≤ b = leb-le r.least b (both_left (leb r.least b) (leb b r.most) h) in
@@ -255,12 +255,12 @@ row-four b {lo} {hi} hb gb l m overlong above (next {b = c} hc gc (next {b = d} 
 
 -- the row that an octet begins, with what makes a number of it
 record Begun (b : ℕ) (rs : List Octets) : Type 0 where
-  is : begins b ≡ some rs
+  is : begins b ≡ Some rs
   coded : {octets : List ℕ} → Fit rs octets → Coded (b ∷ octets)
 
 data Lead (b : ℕ) : Type 0 where
   leads : (rs : List Octets) → Begun b rs → Lead b
-  cannot : begins b ≡ none → Lead b
+  cannot : begins b ≡ None → Lead b
 
 lead-two : (b : ℕ) → 0xC2 ≤ b → b ≤ 0xDF → {octets : List ℕ} → Fit (UTF8-tail ∷ []) octets → Coded (b ∷ octets)
 lead-two b h g (next {b = c} hc gc nothing) = coded-two b c h g hc gc
@@ -323,7 +323,7 @@ decodes zero = decodes-none
 decodes (suc size) = decodes-more size (decodes size)
 
 -- A character's octets, whatever stands behind them, lead from between two characters to between two.
-crossed : (b : ℕ) {rs : List Octets} {octets : List ℕ} (rest : List ℕ) → begins b ≡ some rs → Fit rs octets → after_all (some []) ((b ∷ octets) ++ rest) ≡ after_all (some []) rest
+crossed : (b : ℕ) {rs : List Octets} {octets : List ℕ} (rest : List ℕ) → begins b ≡ Some rs → Fit rs octets → after_all (Some []) ((b ∷ octets) ++ rest) ≡ after_all (Some []) rest
 unfolding after_all after
 crossed b {rs} {octets} rest e f = ap (λ (w : Option (List Octets)). after_all w (octets ++ rest)) e ∙ fit-after rest f
 
@@ -336,7 +336,7 @@ six-bits n f = fits UTF8-tail (six_bits n) (omega arith) (omega arith) f
 
 module _ (n : ℕ) (rest : List ℕ) where
   abbrev Crosses : List ℕ → Type 0
-  Crosses octets = after_all (some []) (octets ++ rest) ≡ after_all (some []) rest
+  Crosses octets = after_all (Some []) (octets ++ rest) ≡ after_all (Some []) rest
 
   crosses-three : 0x800 ≤ n → n < 0x10000 → Scalar n → Crosses ((0xE0 + n / 4096) ∷ six_bits (n / 64) ∷ six_bits n ∷ [])
   crosses-three h g s =
@@ -369,7 +369,7 @@ module _ (n : ℕ) (rest : List ℕ) where
       most (lower k) = omega arith
       most (upper k j) = j
 
-encodings-cross : (numbers : List ℕ) → Each Scalar numbers → after_all (some []) (concat_map shortest numbers) ≡ some []
+encodings-cross : (numbers : List ℕ) → Each Scalar numbers → after_all (Some []) (concat_map shortest numbers) ≡ Some []
 unfolding concat_map after_all
 encodings-cross [] done = refl
 encodings-cross (n ∷ numbers) (more s h) = crosses n (concat_map shortest numbers) s ∙ encodings-cross numbers h

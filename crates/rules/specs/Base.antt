@@ -1,6 +1,5 @@
 -- What the rules need of lists, options and tests, and nothing of document 01.
-use Rattle.std.specs.Prelude.{Bool, true, false, List, [], ◌∷◌, ◌++◌, ℕ, suc, eqb}
-use Rattle.std.proofs.Math.Option.{Option, none, some}
+use Rattle.std.specs.Prelude.{Bool, true, false, List, [], ◌∷◌, ◌++◌, ℕ, suc, eqb, Option, None, Some}
 
 -- each element has the property
 pub data Each {A : Type 0} (P : A → Type 0) : List A → Type 0 where
@@ -18,8 +17,8 @@ either false b = b
 -- Options: go on with what is there.
 infixl 1 ◌when_some◌
 unfoldable pub ◌when_some◌ : {A B : Type 0} → Option A → (A → Option B) → Option B
-◌when_some◌ none f = none
-◌when_some◌ (some a) f = f a
+◌when_some◌ None f = None
+◌when_some◌ (Some a) f = f a
 
 -- each element passes
 unfoldable pub all : {A : Type 0} → (A → Bool) → List A → Bool
@@ -38,13 +37,13 @@ filter p (x ∷ xs) = elim (p x) [ true ↦ x ∷ filter p xs | false ↦ filter
 
 -- the first element that passes
 unfoldable pub first : {A : Type 0} → (A → Bool) → List A → Option A
-first p [] = none
-first p (x ∷ xs) = elim (p x) [ true ↦ some x | false ↦ first p xs ]
+first p [] = None
+first p (x ∷ xs) = elim (p x) [ true ↦ Some x | false ↦ first p xs ]
 
 -- the last element that passes, or what was found before the list
 unfoldable pub last_or : {A : Type 0} → Option A → (A → Bool) → List A → Option A
 last_or found p [] = found
-last_or found p (x ∷ xs) = elim (p x) [ true ↦ last_or (some x) p xs | false ↦ last_or found p xs ]
+last_or found p (x ∷ xs) = elim (p x) [ true ↦ last_or (Some x) p xs | false ↦ last_or found p xs ]
 
 -- what each element gives, one after another
 unfoldable pub concat_map : {A B : Type 0} → (A → List B) → List A → List B
@@ -54,7 +53,7 @@ concat_map f (x ∷ xs) = f x ++ concat_map f xs
 -- each number stands once
 unfoldable pub distinct : List ℕ → Bool
 distinct [] = true
-distinct (x ∷ xs) = elim (first (eqb x) xs) [ none ↦ distinct xs | some y ↦ false ]
+distinct (x ∷ xs) = elim (first (eqb x) xs) [ None ↦ distinct xs | Some y ↦ false ]
 
 -- what each entry gives of itself and of what the entries before it gave
 unfoldable pub bottom_up : {A B : Type 0} → (List B → A → B) → List B → List A → List B

@@ -1,6 +1,5 @@
 -- "Refusals, by place", whole file: 8 to 14, each tried over the whole file before the next.
-use Rattle.std.specs.Prelude.{Bool, true, false, List, [], ◌∷◌, map, ℕ, ◌+◌, length, ltb, leb}
-use Rattle.std.proofs.Math.Option.{Option, none, some}
+use Rattle.std.specs.Prelude.{Bool, true, false, List, [], ◌∷◌, map, ℕ, ◌+◌, length, ltb, leb, Option, None, Some}
 use Rattle.rules.specs.Base.{both, all, all_from, concat_map, distinct}
 use Rattle.rules.specs.Limits.{depth_limit, step_limit}
 use Rattle.rules.specs.File.{Tables, Ty, Predicate, Node, Slot, Binding, Hoisted, Constraint, Comparison, LevelEntry, child_types}
@@ -21,8 +20,8 @@ is_node T n = ltb n (length T.nodes)
 
 -- none, or a number that passes
 unfoldable pub none_or : (ℕ → Bool) → Option ℕ → Bool
-none_or p none = true
-none_or p (some n) = p n
+none_or p None = true
+none_or p (Some n) = p n
 
 unfoldable pub type_in : Tables → Ty → Bool
 type_in T Ty.Int = true
@@ -153,8 +152,8 @@ checks =
 
 -- the first check that a file does not pass
 unfoldable pub fault : List Check → Tables → Option ℕ
-fault [] T = none
-fault (c ∷ cs) T = elim (c.passes T) [ true ↦ fault cs T | false ↦ some c.number ]
+fault [] T = None
+fault (c ∷ cs) T = elim (c.passes T) [ true ↦ fault cs T | false ↦ Some c.number ]
 
 unfoldable pub open_checks : Unit {0}
 unfolding is_name is_type is_predicate is_node none_or type_in predicate_in node_in slot_in binding_in hoisted_in constraint_in comparison_in level_in

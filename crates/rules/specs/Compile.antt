@@ -1,6 +1,5 @@
 -- "Refusals, by place": the call. For any file, plan buffer and work area: the number returned and what the two buffers hold afterwards.
-use Rattle.std.specs.Prelude.{true, false, List, ◌++◌, ℕ, ◌-◌, ◌*◌, min, length, replicate, leb}
-use Rattle.std.proofs.Math.Option.{Option, none, some}
+use Rattle.std.specs.Prelude.{true, false, List, ◌++◌, ℕ, ◌-◌, ◌*◌, min, length, replicate, leb, Option, None, Some}
 use Rattle.rules.specs.Limits.{file_limit, work_limit, plan_limit}
 use Rattle.rules.specs.File.{Tables}
 use Rattle.rules.specs.Read.{Read, got, file}
@@ -23,8 +22,8 @@ walked room T = elim (any_mistyped (levels T)) [ true ↦ Outcome.refused 19 | f
 
 -- whole file, then its levels
 unfoldable pub checked : ℕ → Tables → Option ℕ → Outcome
-checked room T (some n) = Outcome.refused n
-checked room T none = walked room T
+checked room T (Some n) = Outcome.refused n
+checked room T None = walked room T
 
 -- reading, then the whole file
 unfoldable pub reading : ℕ → Read Tables → Outcome

@@ -1,6 +1,5 @@
 -- Demand 3: one claim about a file's whole list of levels, in the words of "A file's list of levels".
-use Rattle.std.specs.Prelude.{Bool, true, false, List, [], ◌∷◌, ◌++◌, map, ◌≡◌, ℕ, zero, suc, ◌+◌, ◌-◌, ◌≤◌, ◌<◌, length, get_or, take, eqb}
-use Rattle.std.proofs.Math.Option.{Option, none, some}
+use Rattle.std.specs.Prelude.{Bool, true, false, List, [], ◌∷◌, ◌++◌, map, ◌≡◌, ℕ, zero, suc, ◌+◌, ◌-◌, ◌≤◌, ◌<◌, length, get_or, take, eqb, Option, None, Some}
 use Rattle.rules.specs.Base.{concat_map}
 use Rattle.rules.specs.File.{Tables, Binding, LevelEntry}
 use Rattle.rules.specs.Read.{got, file}
@@ -53,8 +52,8 @@ closers_in (e ∷ es) = closers_of e + closers_in es
 
 -- "Ranges and guides are each 0 or 1."
 unfoldable pub number : {A : Type 0} → Option A → ℕ
-number none = 0
-number (some a) = 1
+number None = 0
+number (Some a) = 1
 
 -- "An edge is lo or hi, once set. Edges and folded are compared by number."
 unfoldable pub edges : SeekBuilder → ℕ
@@ -88,9 +87,9 @@ pub record Kept (T : Tables) (events : List Event) (b : SeekBuilder) : Type 0 wh
   -- the closers that became parts are "all closer events before the fall"
   pub closers : b.closers ≡ closers_in (before_fall T new events)
   -- "an edge excludes range and guide"
-  pub edge-excludes : 0 < edges b → (b.range ≡ none) × (b.guide ≡ none)
+  pub edge-excludes : 0 < edges b → (b.range ≡ None) × (b.guide ≡ None)
   -- "a guide beside a range has the range's path"
-  pub guide-path : (g : Guide) (r : Range) → b.guide ≡ some g → b.range ≡ some r → g.path ≡ r.path
+  pub guide-path : (g : Guide) (r : Range) → b.guide ≡ Some g → b.range ≡ Some r → g.path ≡ r.path
   -- "edges = folded, at most 2"
   pub edges-folded : edges b ≡ length b.edges.folded
   pub edges_most : edges b ≤ 2
@@ -135,7 +134,7 @@ pub record Holds (T : Tables) (ls : List Level) (left : Lists) (p : Plan) : Type
 pub record Demand3 (bytes out : List ℕ) : Type 0 where
   pub tables : Tables
   pub reads : file bytes ≡ got tables []
-  pub accepted : fault checks tables ≡ none
+  pub accepted : fault checks tables ≡ None
   pub levels : List Level
   pub every-level : length levels ≡ length tables.levels
   pub kept : (k : ℕ) → k < length tables.levels → LevelKept tables (entry_at tables k) (start_of tables levels k) (level_at tables levels k)
@@ -157,10 +156,10 @@ seek_nodes (SeekKey.PrefixRange parts range) = nodes_of parts
 seek_nodes (SeekKey.Bounded parts lo hi) = nodes_of parts
 
 unfoldable pub seek_range : SeekKey → Option Range
-seek_range (SeekKey.Prefix bytes nodes) = none
-seek_range (SeekKey.Composite parts) = none
-seek_range (SeekKey.PrefixRange parts range) = some range
-seek_range (SeekKey.Bounded parts lo hi) = none
+seek_range (SeekKey.Prefix bytes nodes) = None
+seek_range (SeekKey.Composite parts) = None
+seek_range (SeekKey.PrefixRange parts range) = Some range
+seek_range (SeekKey.Bounded parts lo hi) = None
 
 unfoldable pub seek_edges : SeekKey → ℕ
 seek_edges (SeekKey.Prefix bytes nodes) = 0
@@ -171,7 +170,7 @@ seek_edges (SeekKey.Bounded parts lo hi) = number lo + number hi
 -- Composite has a part that is not bytes, and Bounded an edge
 abbrev pub WellFormed : SeekKey → Type 0
 WellFormed (SeekKey.Prefix bytes nodes) = Unit {0}
-WellFormed (SeekKey.Composite parts) = joined parts ≡ none
+WellFormed (SeekKey.Composite parts) = joined parts ≡ None
 WellFormed (SeekKey.PrefixRange parts range) = Unit {0}
 WellFormed (SeekKey.Bounded parts lo hi) = 0 < number lo + number hi
 
@@ -179,8 +178,8 @@ pub record AddsUp (l : PlanLevel) : Type 0 where
   pub closers-most : l.closers ≤ l.parts
   pub sum : l.narrowings ≡ l.parts - l.closers + length l.residuals + number (seek_range l.seek) + number l.guide
   pub edges-folded : seek_edges l.seek ≡ length l.folded
-  pub edge-excludes : 0 < seek_edges l.seek → (seek_range l.seek ≡ none) × (l.guide ≡ none)
-  pub guide-path : (g : Guide) (r : Range) → l.guide ≡ some g → seek_range l.seek ≡ some r → g.path ≡ r.path
+  pub edge-excludes : 0 < seek_edges l.seek → (seek_range l.seek ≡ None) × (l.guide ≡ None)
+  pub guide-path : (g : Guide) (r : Range) → l.guide ≡ Some g → seek_range l.seek ≡ Some r → g.path ≡ r.path
   pub parts_held : length (seek_nodes l.seek) ≡ l.parts
   pub well-formed : WellFormed l.seek
 

@@ -1,6 +1,5 @@
 -- "Walk", what a level's walk gives: the level's events, and what it adds to the four lists.
-use Rattle.std.specs.Prelude.{Bool, true, false, List, [], ◌∷◌, ◌++◌, ℕ, length}
-use Rattle.std.proofs.Math.Option.{Option, none, some}
+use Rattle.std.specs.Prelude.{Bool, true, false, List, [], ◌∷◌, ◌++◌, ℕ, length, Option, None, Some}
 use Rattle.rules.specs.Base.{either}
 use Rattle.rules.specs.File.{Tables, FieldTy, Ty, Anchor, FieldPattern, FieldPath, Slot, Binding, node_at, record_fields, record_ty}
 use Rattle.rules.specs.Constant.{Const, lookup, constant}
@@ -122,9 +121,9 @@ emit e w = record { lists = w.lists; events = w.events ++ (e ∷ []); mistyped =
 
 -- Request [7], refusal 19: ".. a constant, or a pattern whose slot is a Const .., unless both are records"
 unfoldable pub unless_records : Option (List FieldPattern) → Option (List FieldTy) → Bool
-unless_records none fs = true
-unless_records (some fields) none = true
-unless_records (some fields) (some fs) = false
+unless_records None fs = true
+unless_records (Some fields) None = true
+unless_records (Some fields) (Some fs) = false
 
 unfoldable pub is_mistyped : Tables → Slot → Ty → Bool
 is_mistyped T (Slot.Row a p) ty = false

@@ -1,6 +1,5 @@
 -- "Rule file": the ten sections as data. A name, type, predicate, node or address is its number.
-use Rattle.std.specs.Prelude.{List, [], ◌∷◌, ◌++◌, map, Bool, true, false, ℕ, ◌+◌, max, get_or}
-use Rattle.std.proofs.Math.Option.{Option, none, some}
+use Rattle.std.specs.Prelude.{List, [], ◌∷◌, ◌++◌, map, Bool, true, false, ℕ, ◌+◌, max, get_or, Option, None, Some}
 use Rattle.rules.specs.Base.{all, bottom_up}
 
 -- Record: n pairs name, type
@@ -144,7 +143,7 @@ unfoldable pub type_at : Tables → ℕ → Ty
 type_at T t = get_or T.types t Ty.Int
 
 unfoldable pub predicate_at : Tables → ℕ → Predicate
-predicate_at T p = get_or T.predicates p (record { key = 0; value = none })
+predicate_at T p = get_or T.predicates p (record { key = 0; value = None })
 
 unfoldable pub node_at : Tables → ℕ → Node
 node_at T n = get_or T.nodes n Node.Error
@@ -153,67 +152,67 @@ node_at T n = get_or T.nodes n Node.Error
 
 -- a Var's name
 unfoldable pub var_name : Node → Option ℕ
-var_name (Node.Int bytes) = none
-var_name (Node.Str x) = none
-var_name (Node.Bytes bytes) = none
-var_name (Node.Var x) = some x
-var_name Node.Wildcard = none
-var_name Node.Never = none
-var_name (Node.Prefix x) = none
-var_name (Node.Fuzzy x d a) = none
-var_name (Node.Record fs) = none
-var_name (Node.Access x n) = none
-var_name (Node.Value n) = none
-var_name (Node.Select x n) = none
-var_name Node.Disjunction = none
-var_name Node.Subquery = none
-var_name (Node.Fact p n) = none
-var_name Node.Arith = none
-var_name Node.Error = none
+var_name (Node.Int bytes) = None
+var_name (Node.Str x) = None
+var_name (Node.Bytes bytes) = None
+var_name (Node.Var x) = Some x
+var_name Node.Wildcard = None
+var_name Node.Never = None
+var_name (Node.Prefix x) = None
+var_name (Node.Fuzzy x d a) = None
+var_name (Node.Record fs) = None
+var_name (Node.Access x n) = None
+var_name (Node.Value n) = None
+var_name (Node.Select x n) = None
+var_name Node.Disjunction = None
+var_name Node.Subquery = None
+var_name (Node.Fact p n) = None
+var_name Node.Arith = None
+var_name Node.Error = None
 
 -- a Record's patterns
 unfoldable pub record_fields : Node → Option (List FieldPattern)
-record_fields (Node.Int bytes) = none
-record_fields (Node.Str x) = none
-record_fields (Node.Bytes bytes) = none
-record_fields (Node.Var x) = none
-record_fields Node.Wildcard = none
-record_fields Node.Never = none
-record_fields (Node.Prefix x) = none
-record_fields (Node.Fuzzy x d a) = none
-record_fields (Node.Record fs) = some fs
-record_fields (Node.Access x n) = none
-record_fields (Node.Value n) = none
-record_fields (Node.Select x n) = none
-record_fields Node.Disjunction = none
-record_fields Node.Subquery = none
-record_fields (Node.Fact p n) = none
-record_fields Node.Arith = none
-record_fields Node.Error = none
+record_fields (Node.Int bytes) = None
+record_fields (Node.Str x) = None
+record_fields (Node.Bytes bytes) = None
+record_fields (Node.Var x) = None
+record_fields Node.Wildcard = None
+record_fields Node.Never = None
+record_fields (Node.Prefix x) = None
+record_fields (Node.Fuzzy x d a) = None
+record_fields (Node.Record fs) = Some fs
+record_fields (Node.Access x n) = None
+record_fields (Node.Value n) = None
+record_fields (Node.Select x n) = None
+record_fields Node.Disjunction = None
+record_fields Node.Subquery = None
+record_fields (Node.Fact p n) = None
+record_fields Node.Arith = None
+record_fields Node.Error = None
 
 unfoldable pub fact_ty : Ty → Option ℕ
-fact_ty Ty.Int = none
-fact_ty Ty.Str = none
-fact_ty Ty.Bytes = none
-fact_ty (Ty.Fact p) = some p
-fact_ty (Ty.Record fs) = none
-fact_ty (Ty.Union alts) = none
+fact_ty Ty.Int = None
+fact_ty Ty.Str = None
+fact_ty Ty.Bytes = None
+fact_ty (Ty.Fact p) = Some p
+fact_ty (Ty.Record fs) = None
+fact_ty (Ty.Union alts) = None
 
 unfoldable pub record_ty : Ty → Option (List FieldTy)
-record_ty Ty.Int = none
-record_ty Ty.Str = none
-record_ty Ty.Bytes = none
-record_ty (Ty.Fact p) = none
-record_ty (Ty.Record fs) = some fs
-record_ty (Ty.Union alts) = none
+record_ty Ty.Int = None
+record_ty Ty.Str = None
+record_ty Ty.Bytes = None
+record_ty (Ty.Fact p) = None
+record_ty (Ty.Record fs) = Some fs
+record_ty (Ty.Union alts) = None
 
 unfoldable pub union_ty : Ty → Option (List Alternative)
-union_ty Ty.Int = none
-union_ty Ty.Str = none
-union_ty Ty.Bytes = none
-union_ty (Ty.Fact p) = none
-union_ty (Ty.Record fs) = none
-union_ty (Ty.Union alts) = some alts
+union_ty Ty.Int = None
+union_ty Ty.Str = None
+union_ty Ty.Bytes = None
+union_ty (Ty.Fact p) = None
+union_ty (Ty.Record fs) = None
+union_ty (Ty.Union alts) = Some alts
 
 -- "with `field`, `then` and `payload` as its own" (Shapes of flatten.rs to recast)
 unfoldable pub field_path : ℕ → FieldPath

@@ -1,8 +1,7 @@
 -- Request [7]: what a level's walk brings to a type that gives it no bytes, told by node and type alone. A Const is only ever a starting
 -- binding, so none of the walk's lists is needed, and a file can be refused by 19 before any level is walked. That a walk notes exactly
 -- this is proofs/Literals.antt, `level-meets`.
-use Rattle.std.specs.Prelude.{Bool, true, false, List, [], ◌∷◌, ℕ, zero, suc, length, eqb}
-use Rattle.std.proofs.Math.Option.{Option, none, some}
+use Rattle.std.specs.Prelude.{Bool, true, false, List, [], ◌∷◌, ℕ, zero, suc, length, eqb, Option, None, Some}
 use Rattle.rules.specs.Base.{◌when_some◌ as ◌>>=◌, either, first}
 use Rattle.rules.specs.File.{Tables, FieldTy, Alternative, Ty, FieldPattern, Node, LevelEntry, type_at, predicate_at, node_at}
 use Rattle.rules.specs.File.{is_constant, record_fields, record_ty}
@@ -17,29 +16,29 @@ hoisted_const T n = do
 
 -- Rust `resolve`, as far as it gives a Const; `below` is the same at the nodes below
 unfoldable pub folded_node : Tables → (ℕ → Option ℕ) → ℕ → Node → Option ℕ
-folded_node T below n (Node.Int bytes) = none
-folded_node T below n (Node.Str x) = none
-folded_node T below n (Node.Bytes bytes) = none
+folded_node T below n (Node.Int bytes) = None
+folded_node T below n (Node.Str x) = None
+folded_node T below n (Node.Bytes bytes) = None
 folded_node T below n (Node.Var x) = const_bound T.bindings x
-folded_node T below n Node.Wildcard = none
-folded_node T below n Node.Never = none
-folded_node T below n (Node.Prefix x) = none
-folded_node T below n (Node.Fuzzy x d a) = none
-folded_node T below n (Node.Record fs) = none
+folded_node T below n Node.Wildcard = None
+folded_node T below n Node.Never = None
+folded_node T below n (Node.Prefix x) = None
+folded_node T below n (Node.Fuzzy x d a) = None
+folded_node T below n (Node.Record fs) = None
 folded_node T below n (Node.Access x base) = do
   c ← below base
   folded_field T c x
-folded_node T below n (Node.Value base) = none
-folded_node T below n (Node.Select x base) = none
-folded_node T below n Node.Disjunction = none
-folded_node T below n Node.Subquery = none
+folded_node T below n (Node.Value base) = None
+folded_node T below n (Node.Select x base) = None
+folded_node T below n Node.Disjunction = None
+folded_node T below n Node.Subquery = None
 folded_node T below n (Node.Fact p key) = hoisted_const T n
-folded_node T below n Node.Arith = none
-folded_node T below n Node.Error = none
+folded_node T below n Node.Arith = None
+folded_node T below n Node.Error = None
 
 unfoldable pub folded_below : Tables → ℕ → ℕ → Option ℕ
-folded_below T zero n = none
-folded_below T (suc limit) n = elim (is_constant T n) [ true ↦ some n | false ↦ folded_node T (folded_below T limit) n (node_at T n) ]
+folded_below T zero n = None
+folded_below T (suc limit) n = elim (is_constant T n) [ true ↦ Some n | false ↦ folded_node T (folded_below T limit) n (node_at T n) ]
 
 -- the constant that a pattern stands for: itself, or the Const of a Var, a hoisted Fact or an Access
 unfoldable pub folded : Tables → ℕ → Option ℕ
@@ -49,20 +48,20 @@ folded T n = folded_below T (length T.nodes) n
 unfoldable pub any_field : (ℕ → ℕ → Bool) → List FieldPattern → List FieldTy → Bool
 any_field below fields [] = false
 any_field below fields (f ∷ fs) =
-    either (elim (field_pattern fields f.name) [ none ↦ false | some pattern ↦ below pattern f.type ]) (any_field below fields fs)
+    either (elim (field_pattern fields f.name) [ None ↦ false | Some pattern ↦ below pattern f.type ]) (any_field below fields fs)
 
 unfoldable pub lacks_bytes : Option Const → Bool
-lacks_bytes none = true
-lacks_bytes (some c) = false
+lacks_bytes None = true
+lacks_bytes (Some c) = false
 
 -- `below` is `field` at the types below
 module _ (T : Tables) (below : ℕ → ℕ → Bool) where
   -- Rust `matched` with a Const slot: a Record at a Record is opened. Where all of its fields have bytes none of them is met, so `constant`
   -- is not asked for it.
   unfoldable pub brought_by : ℕ → ℕ → Option (List FieldPattern) → Option (List FieldTy) → Bool
-  brought_by c t none fs = lacks_bytes (constant T c t)
-  brought_by c t (some fields) none = lacks_bytes (constant T c t)
-  brought_by c t (some fields) (some fs) = any_field below fields fs
+  brought_by c t None fs = lacks_bytes (constant T c t)
+  brought_by c t (Some fields) None = lacks_bytes (constant T c t)
+  brought_by c t (Some fields) (Some fs) = any_field below fields fs
 
   unfoldable pub brought_meets : ℕ → ℕ → Bool
   brought_meets c t = brought_by c t (record_fields (node_at T c)) (record_ty (type_at T t))
@@ -71,8 +70,8 @@ module _ (T : Tables) (below : ℕ → ℕ → Bool) where
   unfoldable pub payload_meets : List FieldPattern → List Alternative → Bool
   payload_meets fields alts =
       elim (only_field fields) [
-        | none ↦ false
-        | some f ↦ elim (alternative_of alts f.name) [ none ↦ false | some alt ↦ below f.node alt.type ]
+        | None ↦ false
+        | Some f ↦ elim (alternative_of alts f.name) [ None ↦ false | Some alt ↦ below f.node alt.type ]
       ]
 
   -- a Record that is written at a type
@@ -88,8 +87,8 @@ module _ (T : Tables) (below : ℕ → ℕ → Bool) where
   unfoldable pub field_meets : ℕ → ℕ → Bool
   field_meets n t =
       elim (record_fields (node_at T n)) [
-        | some fields ↦ record_meets n fields (type_at T t)
-        | none ↦ elim (folded T n) [ none ↦ false | some c ↦ brought_meets c t ]
+        | Some fields ↦ record_meets n fields (type_at T t)
+        | None ↦ elim (folded T n) [ None ↦ false | Some c ↦ brought_meets c t ]
       ]
 
 -- at the types below a number
@@ -102,16 +101,16 @@ meets T n t = meets_below T (length T.types) n t
 
 -- Rust `whole_key` with the constant that the pattern stands for: each of its fields is brought to the key's
 unfoldable pub whole_meets : Tables → Option ℕ → List FieldTy → Bool
-whole_meets T none fs = false
-whole_meets T (some c) fs =
-    elim (record_fields (node_at T c)) [ none ↦ true | some fields ↦ any_field (brought_meets T (meets T)) fields fs ]
+whole_meets T None fs = false
+whole_meets T (Some c) fs =
+    elim (record_fields (node_at T c)) [ None ↦ true | Some fields ↦ any_field (brought_meets T (meets T)) fields fs ]
 
 -- Rust `key`
 unfoldable pub key_meets : Tables → ℕ → ℕ → Bool
 key_meets T n t =
     elim (record_ty (type_at T t)) [
-      | none ↦ meets T n t
-      | some fs ↦ elim (record_fields (node_at T n)) [ some fields ↦ any_field (meets T) fields fs | none ↦ whole_meets T (folded T n) fs ]
+      | None ↦ meets T n t
+      | Some fs ↦ elim (record_fields (node_at T n)) [ Some fields ↦ any_field (meets T) fields fs | None ↦ whole_meets T (folded T n) fs ]
     ]
 
 -- one level

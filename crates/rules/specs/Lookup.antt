@@ -1,6 +1,5 @@
 -- "Walk": what is found by name, node or path. "`lookup` takes a name's last entry; hoisted and fetched give the first that fits."
-use Rattle.std.specs.Prelude.{Bool, true, false, List, [], ◌∷◌, ℕ, suc, eqb}
-use Rattle.std.proofs.Math.Option.{Option, none, some}
+use Rattle.std.specs.Prelude.{Bool, true, false, List, [], ◌∷◌, ℕ, suc, eqb, Option, None, Some}
 use Rattle.rules.specs.Base.{both, ◌when_some◌ as ◌>>=◌, first}
 use Rattle.rules.specs.File.{Tables, FieldTy, Ty, FieldPath, Slot, type_at, predicate_at, node_at, record_fields, record_ty, field_path}
 use Rattle.rules.specs.Constant.{field_pattern}
@@ -24,7 +23,7 @@ same_path p q = both (eqb p.field q.field) (same_steps p.steps q.steps)
 unfoldable pub fetched_register : Tables → ℕ → FieldPath → Option ℕ
 fetched_register T address path = do
   f ← first (λ f. both (eqb f.address address) (same_path f.path path)) T.fetched
-  some f.register
+  Some f.register
 
 -- a field's place in its record type, and its type
 pub record FieldAt : Type 0 where
@@ -32,8 +31,8 @@ pub record FieldAt : Type 0 where
   pub type : ℕ
 
 unfoldable pub field_from : ℕ → List FieldTy → ℕ → Option FieldAt
-field_from i [] x = none
-field_from i (f ∷ fs) x = elim (eqb f.name x) [ true ↦ some (record { index = i; type = f.type }) | false ↦ field_from (suc i) fs x ]
+field_from i [] x = None
+field_from i (f ∷ fs) x = elim (eqb f.name x) [ true ↦ Some (record { index = i; type = f.type }) | false ↦ field_from (suc i) fs x ]
 
 -- Rust `field_of`
 unfoldable pub field_of : Ty → ℕ → Option FieldAt
@@ -51,13 +50,13 @@ folded_field T folded x = do
 unfoldable pub folded_slot : Tables → ℕ → ℕ → Option Slot
 folded_slot T folded x = do
   n ← folded_field T folded x
-  some (Slot.Const n)
+  Some (Slot.Const n)
 
 -- a Field slot at a field of a record type
 unfoldable pub slot_at : ℕ → (ℕ → FieldPath) → Option FieldAt → Option Slot
 slot_at address place found = do
   f ← found
-  some (Slot.Field address (place f.index) f.type)
+  Some (Slot.Field address (place f.index) f.type)
 
 -- a row's key field
 unfoldable pub row_field : Tables → ℕ → Option ℕ → ℕ → Option Slot
@@ -70,7 +69,7 @@ unfoldable pub row_value : Tables → ℕ → Option ℕ → Option Slot
 row_value T address predicate = do
   p ← predicate
   t ← (predicate_at T p).value
-  some (Slot.Value address t)
+  Some (Slot.Value address t)
 
 unfoldable pub open_lookup : Unit {0}
 unfolding hoisted_slot same_steps same_path fetched_register field_from field_of folded_field folded_slot slot_at row_field row_value

@@ -1,8 +1,7 @@
 -- The bindings as they stand: the Rust's `constant` reads at each call what is bound by then, where this document's reads the file's
 -- bindings. Here is the walk with the Rust's reading, each event placed as it is met, so that `bound` too asks for its constants with the
 -- bindings of the moment; that both give the same levels is proofs/Consts.antt, `levels-now`.
-use Rattle.std.specs.Prelude.{List, [], ◌∷◌, ℕ, length}
-use Rattle.std.proofs.Math.Option.{Option}
+use Rattle.std.specs.Prelude.{List, [], ◌∷◌, ℕ, length, Option}
 use Rattle.rules.specs.File.{Tables, Binding, LevelEntry, predicate_at}
 use Rattle.rules.specs.Constant.{Const, constant, lookup}
 use Rattle.rules.specs.Events.{Event, Lists, Walk, Ops, bind, constrained, select, report, emit, brings}

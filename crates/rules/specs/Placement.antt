@@ -1,6 +1,5 @@
 -- "Placement": a level's events, one by one, to its seek, guide, residuals and folded comparisons.
-use Rattle.std.specs.Prelude.{Bool, true, false, List, [], ◌∷◌, ◌++◌, ℕ, suc, ◌+◌, ◌%◌, eqb}
-use Rattle.std.proofs.Math.Option.{Option, none, some}
+use Rattle.std.specs.Prelude.{Bool, true, false, List, [], ◌∷◌, ◌++◌, ℕ, suc, ◌+◌, ◌%◌, eqb, Option, None, Some}
 use Rattle.rules.specs.Base.{◌when_some◌ as ◌>>=◌}
 use Rattle.rules.specs.File.{Tables, Anchor, FieldPath, CompareOp, Comparison, op_of_number, op_number, node_at, var_name}
 use Rattle.rules.specs.Constant.{union_tag, term, bytes_only, constant}
@@ -62,9 +61,9 @@ new =
       building = true;
       parts = [];
       residuals = [];
-      guide = none;
-      range = none;
-      edges = record { lo = none; hi = none; folded = [] };
+      guide = None;
+      range = None;
+      edges = record { lo = None; hi = None; folded = [] };
       closers = 0;
     }
 
@@ -99,7 +98,7 @@ with_guide guide b =
       building = b.building;
       parts = b.parts;
       residuals = b.residuals;
-      guide = some guide;
+      guide = Some guide;
       range = b.range;
       edges = b.edges;
       closers = b.closers;
@@ -112,7 +111,7 @@ with_range range b =
       parts = b.parts;
       residuals = b.residuals;
       guide = b.guide;
-      range = some range;
+      range = Some range;
       edges = b.edges;
       closers = b.closers;
     }
@@ -172,11 +171,11 @@ place_prefix n path prefix b =
 
 -- "either building holds or a range has the equal path"
 unfoldable pub range_at : Option Range → FieldPath → Bool
-range_at none path = false
-range_at (some range) path = same_path range.path path
+range_at None path = false
+range_at (Some range) path = same_path range.path path
 
 unfoldable pub attachable : SeekBuilder → FieldPath → Bool
-attachable b path = elim b.guide [ some guide ↦ false | none ↦ elim b.building [ true ↦ true | false ↦ range_at b.range path ] ]
+attachable b path = elim b.guide [ Some guide ↦ false | None ↦ elim b.building [ true ↦ true | false ↦ range_at b.range path ] ]
 
 -- "Fuzzy: the guide, if none is set and either building holds or a range has the equal path; building falls. Else a residual."
 unfoldable pub place_fuzzy : ℕ → FieldPath → ℕ → ℕ → Anchor → SeekBuilder → SeekBuilder
@@ -215,25 +214,25 @@ pub record Compared : Type 0 where
   pub node : ℕ
 
 unfoldable pub is_var : Tables → ℕ → ℕ → Bool
-is_var T x n = elim (var_name (node_at T n)) [ none ↦ false | some y ↦ eqb y x ]
+is_var T x n = elim (var_name (node_at T n)) [ None ↦ false | Some y ↦ eqb y x ]
 
 -- "the comparisons with this Var on one side .. (op flipped when it is on the right)"
 unfoldable pub compared : Tables → ℕ → Comparison → Option Compared
 compared T x c =
     elim (is_var T x c.left) [
-      | true ↦ some (record { op = c.op; node = c.right })
+      | true ↦ Some (record { op = c.op; node = c.right })
       | false ↦ elim (is_var T x c.right) [
-        | true ↦ some (record { op = flipped c.op; node = c.left })
-        | false ↦ none
+        | true ↦ Some (record { op = flipped c.op; node = c.left })
+        | false ↦ None
       ]
     ]
 
 -- "The first Lt or Le gives hi, the first Gt or Ge gives lo .. The index of each one taken goes to folded."
 unfoldable pub take_hi : ℕ → RangeEdge → Edges → Edges
-take_hi i edge e = elim e.hi [ none ↦ record { lo = e.lo; hi = some edge; folded = e.folded ++ (i ∷ []) } | some hi ↦ e ]
+take_hi i edge e = elim e.hi [ None ↦ record { lo = e.lo; hi = Some edge; folded = e.folded ++ (i ∷ []) } | Some hi ↦ e ]
 
 unfoldable pub take_lo : ℕ → RangeEdge → Edges → Edges
-take_lo i edge e = elim e.lo [ none ↦ record { lo = some edge; hi = e.hi; folded = e.folded ++ (i ∷ []) } | some lo ↦ e ]
+take_lo i edge e = elim e.lo [ None ↦ record { lo = Some edge; hi = e.hi; folded = e.folded ++ (i ∷ []) } | Some lo ↦ e ]
 
 abbrev pub edge : List ℕ → Bool → RangeEdge
 edge value inclusive = record { value = value; inclusive = inclusive }
@@ -255,12 +254,12 @@ sided T x t c = do
   other ← compared T x c
   constant' ← constant T other.node t
   value ← bytes_only constant'
-  some (record { op = other.op; value = value })
+  Some (record { op = other.op; value = value })
 
 -- the comparisons in file order; i is the first one's index
 unfoldable pub fold_from : Tables → ℕ → ℕ → ℕ → List Comparison → Edges → Edges
 fold_from T x t i [] e = e
-fold_from T x t i (c ∷ cs) e = fold_from T x t (suc i) cs (elim (sided T x t c) [ none ↦ e | some s ↦ take_edge i s.op s.value e ])
+fold_from T x t i (c ∷ cs) e = fold_from T x t (suc i) cs (elim (sided T x t c) [ None ↦ e | Some s ↦ take_edge i s.op s.value e ])
 
 -- "Bound: while building, the comparisons .." (Rust `bound`)
 unfoldable pub place_bound : Tables → ℕ → ℕ → SeekBuilder → SeekBuilder
@@ -286,16 +285,16 @@ pub data SeekKey : Type 0 where
 
 -- "Prefix (parts joined) if all parts are bytes, none included"
 unfoldable pub as_bytes : SeekKeyPart → Option (List ℕ)
-as_bytes (SeekKeyPart.Bytes bytes) = some bytes
-as_bytes (SeekKeyPart.RegisterField address path) = none
-as_bytes (SeekKeyPart.RegisterFactId address) = none
+as_bytes (SeekKeyPart.Bytes bytes) = Some bytes
+as_bytes (SeekKeyPart.RegisterField address path) = None
+as_bytes (SeekKeyPart.RegisterFactId address) = None
 
 unfoldable pub joined : List Part → Option (List ℕ)
-joined [] = some []
+joined [] = Some []
 joined (part ∷ parts) = do
   bytes ← as_bytes part.key
   rest ← joined parts
-  some (bytes ++ rest)
+  Some (bytes ++ rest)
 
 -- the nodes of parts, in order
 unfoldable pub nodes_of : List Part → List ℕ
@@ -303,14 +302,14 @@ nodes_of [] = []
 nodes_of (part ∷ parts) = part.node ∷ nodes_of parts
 
 unfoldable pub unranged : List Part → SeekKey
-unranged parts = elim (joined parts) [ some bytes ↦ SeekKey.Prefix bytes (nodes_of parts) | none ↦ SeekKey.Composite parts ]
+unranged parts = elim (joined parts) [ Some bytes ↦ SeekKey.Prefix bytes (nodes_of parts) | None ↦ SeekKey.Composite parts ]
 
 -- "Seek: Bounded with an edge, else PrefixRange with a range, else Prefix .., else Composite." (Rust `seek_key`)
 unfoldable pub seek : List Part → Option Range → Option RangeEdge → Option RangeEdge → SeekKey
-seek parts range (some lo) hi = SeekKey.Bounded parts (some lo) hi
-seek parts range none (some hi) = SeekKey.Bounded parts none (some hi)
-seek parts (some range) none none = SeekKey.PrefixRange parts range
-seek parts none none none = unranged parts
+seek parts range (Some lo) hi = SeekKey.Bounded parts (Some lo) hi
+seek parts range None (Some hi) = SeekKey.Bounded parts None (Some hi)
+seek parts (Some range) None None = SeekKey.PrefixRange parts range
+seek parts None None None = unranged parts
 
 unfoldable pub seek_key : SeekBuilder → SeekKey
 seek_key b = seek b.parts b.range b.edges.lo b.edges.hi

@@ -1,6 +1,5 @@
 -- "Plan": a plan as data, and its bytes.
-use Rattle.std.specs.Prelude.{Bool, true, false, List, [], ◌∷◌, ◌++◌, map, ℕ, ◌/◌, ◌%◌, length, drop}
-use Rattle.std.proofs.Math.Option.{Option, none, some, get_or}
+use Rattle.std.specs.Prelude.{Bool, true, false, List, [], ◌∷◌, ◌++◌, map, ℕ, ◌/◌, ◌%◌, length, drop, Option, None, Some, unwrap_or}
 use Rattle.rules.specs.Base.{concat_map}
 use Rattle.rules.specs.File.{Tables, Anchor, FieldPath, Slot, Binding}
 use Rattle.rules.specs.Events.{code_number, Select, Diagnostic, Narrowing, Lists}
@@ -75,7 +74,7 @@ unfoldable pub fuzzy : ℕ → ℕ → Anchor → List ℕ
 fuzzy x distance a = u16 x ++ (distance ∷ anchor a ∷ [])
 
 unfoldable pub optional : Option ℕ → List ℕ
-optional n = u16 (get_or n 65535)
+optional n = u16 (unwrap_or n 65535)
 
 unfoldable pub slot : Slot → List ℕ
 slot (Slot.Row a p) = 0 ∷ u16 a ++ optional p
@@ -110,8 +109,8 @@ inclusive false = 1
 inclusive true = 2
 
 unfoldable pub edge : Option RangeEdge → List ℕ
-edge none = 0 ∷ []
-edge (some e) = inclusive e.inclusive ∷ text e.value
+edge None = 0 ∷ []
+edge (Some e) = inclusive e.inclusive ∷ text e.value
 
 -- "u8 seek (0 Prefix, 1 Composite, 2 PrefixRange, 3 Bounded)", then what each holds
 unfoldable pub seek : SeekKey → List ℕ
@@ -122,8 +121,8 @@ seek (SeekKey.Bounded parts lo hi) = 3 ∷ concat_map part parts ++ edge lo ++ e
 
 -- "guide: u8 0, or 1, path, name, distance, anchor", then its node
 unfoldable pub guide : Option Guide → List ℕ
-guide none = 0 ∷ []
-guide (some g) = 1 ∷ path g.path ++ fuzzy g.term g.distance g.anchor ++ u16 g.node
+guide None = 0 ∷ []
+guide (Some g) = 1 ∷ path g.path ++ fuzzy g.term g.distance g.anchor ++ u16 g.node
 
 -- "u8 op: 0 bytes, 1 prefix, 2 address and path, 3 address, 4 u32 disc, 5 name, distance, anchor"; request [8]: "Its op is 6, followed by
 -- the other path"

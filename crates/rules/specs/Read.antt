@@ -1,6 +1,5 @@
 -- "Refusals, by place", reading: 3 to 7, the first fault met front to back.
-use Rattle.std.specs.Prelude.{true, false, List, [], ◌∷◌, map, ℕ, zero, suc, ◌+◌, ◌*◌, get_or, leb, eqb}
-use Rattle.std.proofs.Math.Option.{Option, none, some}
+use Rattle.std.specs.Prelude.{true, false, List, [], ◌∷◌, map, ℕ, zero, suc, ◌+◌, ◌*◌, get_or, leb, eqb, Option, None, Some}
 use Rattle.rules.specs.Limits.{name_limit, type_limit, predicate_limit, node_limit, binding_limit, hoisted_limit, fetched_limit}
 use Rattle.rules.specs.Limits.{constraint_limit, comparison_limit, level_limit}
 use Rattle.rules.specs.File.{Tables, FieldTy, Alternative, Ty, Predicate, Anchor, FieldPattern, Node, FieldPath, Slot, Binding}
@@ -51,7 +50,7 @@ u32 = do
 unfoldable pub optional : Reader (Option ℕ)
 optional = do
   n ← u16
-  pure (elim (eqb n 65535) [ true ↦ none | false ↦ some n ])
+  pure (elim (eqb n 65535) [ true ↦ None | false ↦ Some n ])
 
 unfoldable pub many : {A : Type 0} → ℕ → Reader A → Reader (List A)
 many zero r = pure []
@@ -170,7 +169,8 @@ record_node = do
 unfoldable pub node : Reader Node
 node =
     kind
-    (int_node ∷ one Node.Str ∷ bytes_node ∷ one Node.Var ∷ pure Node.Wildcard ∷ pure Node.Never ∷ one Node.Prefix ∷ fuzzy_node ∷ record_node ∷
+    (int_node ∷ one Node.Str ∷ bytes_node ∷ one Node.Var ∷ pure Node.Wildcard ∷ pure Node.Never ∷
+    one Node.Prefix ∷ fuzzy_node ∷ record_node ∷
     two Node.Access ∷ one Node.Value ∷ two Node.Select ∷ pure Node.Disjunction ∷ pure Node.Subquery ∷ two Node.Fact ∷
     pure Node.Arith ∷ pure Node.Error ∷ [])
 

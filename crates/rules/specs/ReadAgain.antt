@@ -1,6 +1,5 @@
 -- Request [1]: what a plan that is accepted is, in demand 3's words.
-use Rattle.std.specs.Prelude.{List, [], ◌≡◌, ℕ, ◌+◌, ◌-◌, ◌≤◌, ◌<◌, length}
-use Rattle.std.proofs.Math.Option.{Option, none, some}
+use Rattle.std.specs.Prelude.{List, [], ◌≡◌, ℕ, ◌+◌, ◌-◌, ◌≤◌, ◌<◌, length, Option, None, Some}
 use Rattle.rules.specs.Base.{Each}
 use Rattle.rules.specs.Read.{got}
 use Rattle.rules.specs.Placement.{Guide, SeekKey, joined}
@@ -12,11 +11,11 @@ use Rattle.rules.specs.Reader
 abbrev pub SeekKept : SeekKey → Option Guide → Type 0
 SeekKept (SeekKey.Prefix bytes nodes) g = Unit {0}
 -- "uses Composite only where some part isn't bytes"
-SeekKept (SeekKey.Composite parts) g = joined parts ≡ none
+SeekKept (SeekKey.Composite parts) g = joined parts ≡ None
 -- "a guide beside a range has the range's path"
-SeekKept (SeekKey.PrefixRange parts range) g = (h : Guide) → g ≡ some h → h.path ≡ range.path
+SeekKept (SeekKey.PrefixRange parts range) g = (h : Guide) → g ≡ Some h → h.path ≡ range.path
 -- "has an edge if Bounded"; "an edge excludes range and guide"
-SeekKept (SeekKey.Bounded parts lo hi) g = (0 < number lo + number hi) × (g ≡ none)
+SeekKept (SeekKey.Bounded parts lo hi) g = (0 < number lo + number hi) × (g ≡ None)
 
 -- what holds of every level of an accepted plan
 pub record RulesKept (l : PlanLevel) : Type 0 where

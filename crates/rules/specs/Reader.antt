@@ -1,8 +1,7 @@
 -- Request [1], the plan reader: a plan's bytes, front to back, as the `Plan` that `plan_bytes` writes; the rules of every level; the call.
 -- The readers of Read.antt serve here as they are, and so do their numbers: 3 where a byte is wanted and none is left, 5 for a byte outside
 -- its list, 7 for bytes left over. `numbered` turns these into a plan's: 16 for the first, 17 for the others.
-use Rattle.std.specs.Prelude.{Bool, true, false, List, [], ◌∷◌, ℕ, ◌+◌, ◌-◌, min, leb, eqb, length}
-use Rattle.std.proofs.Math.Option.{Option, none, some}
+use Rattle.std.specs.Prelude.{Bool, true, false, List, [], ◌∷◌, ℕ, ◌+◌, ◌-◌, min, leb, eqb, length, Option, None, Some}
 use Rattle.rules.specs.Base.{both, all}
 use Rattle.rules.specs.Limits.{plan_limit, step_limit}
 use Rattle.rules.specs.File.{FieldPath, Slot, Binding}
@@ -108,10 +107,10 @@ part = do
 unfoldable pub edge_that : Bool → Reader (Option RangeEdge)
 edge_that inclusive = do
   value ← text
-  pure (some (record { value = value; inclusive = inclusive }))
+  pure (Some (record { value = value; inclusive = inclusive }))
 
 unfoldable pub edge : Reader (Option RangeEdge)
-edge = kind (pure none ∷ edge_that false ∷ edge_that true ∷ [])
+edge = kind (pure None ∷ edge_that false ∷ edge_that true ∷ [])
 
 -- "u8 seek (0 Prefix, 1 Composite, 2 PrefixRange, 3 Bounded)", then what each holds. The parts have no second count: n is the level's.
 -- "A Prefix seek has its parts' nodes after the joined text, one for each part, in order."
@@ -152,10 +151,10 @@ guide_that = do
   distance ← u8
   a ← anchor
   n ← u16
-  pure (some (record { path = p; term = x; distance = distance; anchor = a; node = n }))
+  pure (Some (record { path = p; term = x; distance = distance; anchor = a; node = n }))
 
 unfoldable pub guide : Reader (Option Guide)
-guide = kind (pure none ∷ guide_that ∷ [])
+guide = kind (pure None ∷ guide_that ∷ [])
 
 -- "u8 op: 0 bytes, 1 prefix, 2 address and path, 3 address, 4 u32 disc, 5 name, distance, anchor", and request [8]'s 6, a path
 unfoldable pub bytes_op : Reader Narrowing
@@ -256,8 +255,8 @@ edges_folded l = eqb (seek_edges l.seek) (length l.folded)
 -- Bounded: "has an edge if Bounded", and an edge excludes a guide.
 unfoldable pub seek_keeps : SeekKey → Option Guide → Bool
 seek_keeps (SeekKey.Prefix bytes nodes) g = true
-seek_keeps (SeekKey.Composite parts) g = elim (joined parts) [ none ↦ true | some bytes ↦ false ]
-seek_keeps (SeekKey.PrefixRange parts range) g = elim g [ none ↦ true | some guide' ↦ same_path guide'.path range.path ]
+seek_keeps (SeekKey.Composite parts) g = elim (joined parts) [ None ↦ true | Some bytes ↦ false ]
+seek_keeps (SeekKey.PrefixRange parts range) g = elim g [ None ↦ true | Some guide' ↦ same_path guide'.path range.path ]
 seek_keeps (SeekKey.Bounded parts lo hi) g = both (leb 1 (number lo + number hi)) (eqb (number g) 0)
 
 unfoldable pub level_rules : PlanLevel → Bool

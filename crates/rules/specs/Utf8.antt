@@ -1,7 +1,6 @@
 -- Request [4]: "A name's bytes must now be well-formed UTF-8 by RFC 3629". The grammar is its section 4, rule by rule, under the RFC's
 -- own names; the encodings are those of its section 3.
-use Rattle.std.specs.Prelude.{Bool, true, false, List, [], ◌∷◌, ◌++◌, ◌≡◌, ℕ, ◌+◌, ◌/◌, ◌%◌, ◌≤◌, leb, ltb}
-use Rattle.std.proofs.Math.Option.{Option, none, some}
+use Rattle.std.specs.Prelude.{Bool, true, false, List, [], ◌∷◌, ◌++◌, ◌≡◌, ℕ, ◌+◌, ◌/◌, ◌%◌, ◌≤◌, leb, ltb, Option, None, Some}
 use Rattle.rules.specs.Base.{Each, both, ◌when_some◌, first, concat_map}
 
 -- a range of octets: %xC2-DF is 0xC2 to 0xDF
@@ -51,26 +50,26 @@ UTF8-char = UTF8-1 ++ UTF8-2 ++ UTF8-3 ++ UTF8-4
 
 -- what follows a character's first octet, if it can be one; no octet begins two rows
 unfoldable pub begins : ℕ → Option (List Octets)
-begins b = first (λ r. has r.lead b) UTF8-char when_some λ r. some r.rest
+begins b = first (λ r. has r.lead b) UTF8-char when_some λ r. Some r.rest
 
 -- UTF8-octets is any number of UTF8-char. Of what has been read this is kept: what the character at hand still wants, nothing between
 -- two characters; none after an octet that the grammar does not have there.
 unfoldable pub after : Option (List Octets) → ℕ → Option (List Octets)
-after none b = none
-after (some []) b = begins b
-after (some (r ∷ rs)) b = elim (has r b) [ true ↦ some rs | false ↦ none ]
+after None b = None
+after (Some []) b = begins b
+after (Some (r ∷ rs)) b = elim (has r b) [ true ↦ Some rs | false ↦ None ]
 
 unfoldable pub after_all : Option (List Octets) → List ℕ → Option (List Octets)
 after_all w [] = w
 after_all w (b ∷ bytes) = after_all (after w b) bytes
 
 unfoldable pub whole : Option (List Octets) → Bool
-whole none = false
-whole (some []) = true
-whole (some (r ∷ rs)) = false
+whole None = false
+whole (Some []) = true
+whole (Some (r ∷ rs)) = false
 
 unfoldable pub UTF8-octets : List ℕ → Bool
-UTF8-octets bytes = whole (after_all (some []) bytes)
+UTF8-octets bytes = whole (after_all (Some []) bytes)
 
 -- 10xxxxxx with the lowest six bits of n
 abbrev pub six_bits : ℕ → ℕ

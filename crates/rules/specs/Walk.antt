@@ -1,6 +1,5 @@
 -- "Walk": the events of one level, and what it adds to the four lists.
-use Rattle.std.specs.Prelude.{Bool, true, false, List, [], ◌∷◌, ◌++◌, ℕ, zero, suc, length, eqb}
-use Rattle.std.proofs.Math.Option.{Option, none, some}
+use Rattle.std.specs.Prelude.{Bool, true, false, List, [], ◌∷◌, ◌++◌, ℕ, zero, suc, length, eqb, Option, None, Some}
 use Rattle.rules.specs.Base.{filter}
 use Rattle.rules.specs.File.{Tables, FieldTy, Alternative, Ty, Anchor, FieldPattern, Node, FieldPath, Slot, Constraint, LevelEntry}
 use Rattle.rules.specs.File.{type_at, predicate_at, node_at, record_fields, fact_ty, record_ty, union_ty, field_path, then, payload}
@@ -56,13 +55,13 @@ unfoldable pub each_field : {S : Type 0} → FieldWalk S → (S → S) → (ℕ 
 each_field walk missing place fields i [] w = w
 each_field walk missing place fields i (f ∷ fs) w =
     each_field walk missing place fields (suc i) fs
-    (elim (field_pattern fields f.name) [ none ↦ missing w | some pattern ↦ walk pattern f.type (place i) w ])
+    (elim (field_pattern fields f.name) [ None ↦ missing w | Some pattern ↦ walk pattern f.type (place i) w ])
 
 -- "Row matches a Fact field of its own predicate only."
 unfoldable pub refers_to : Option ℕ → Option ℕ → Bool
-refers_to none referenced = false
-refers_to (some p) none = false
-refers_to (some p) (some q) = eqb p q
+refers_to None referenced = false
+refers_to (Some p) None = false
+refers_to (Some p) (Some q) = eqb p q
 
 -- the kinds that another phase reports (Rust `field`, `deferred`)
 unfoldable pub deferred : Node → Bool
@@ -103,7 +102,7 @@ module _ {S : Type 0} (o : Ops S) (T : Tables) where
   constrain_each [] t path w = w
   constrain_each (k ∷ ks) t path w =
       constrain_each ks t path
-      (elim (constant w k.node t) [ none ↦ report k.node Code.RejectTypeMismatch (skip w) | some c ↦ narrow_by k.node c path w ])
+      (elim (constant w k.node t) [ None ↦ report k.node Code.RejectTypeMismatch (skip w) | Some c ↦ narrow_by k.node c path w ])
 
   -- Rust `constrain`. "Without constraints: bound, then skip."
   unfoldable pub constrain_by : List Constraint → ℕ → ℕ → FieldPath → S → S
@@ -128,9 +127,9 @@ module _ {S : Type 0} (o : Ops S) (T : Tables) where
   module _ (address : ℕ) (below : FieldWalk S) where
     -- Rust `partial`: "skip, then opened only as Record against Record"
     unfoldable pub partial_fields : Option (List FieldPattern) → Option (List FieldTy) → FieldPath → S → S
-    partial_fields none fs path w = w
-    partial_fields (some fields) none path w = w
-    partial_fields (some fields) (some fs) path w = each_field below (λ w'. w') (then path) fields 0 fs w
+    partial_fields None fs path w = w
+    partial_fields (Some fields) None path w = w
+    partial_fields (Some fields) (Some fs) path w = each_field below (λ w'. w') (then path) fields 0 fs w
 
     unfoldable pub partial : FieldWalk S
     partial n t path w = partial_fields (record_fields (node_at T n)) (record_ty (type_at T t)) path (skip w)
@@ -153,31 +152,35 @@ module _ {S : Type 0} (o : Ops S) (T : Tables) where
     matched n (Slot.Value from ty) t path w = report n Code.NyiValueMatch w
     matched n (Slot.Const folded) t path w =
         elim (constant w folded t) [
-          | some c ↦ narrow_by n c path w
-          | none ↦ partial folded t path (brings (Slot.Const folded) (type_at T t) w)
+          | Some c ↦ narrow_by n c path w
+          | None ↦ partial folded t path (brings (Slot.Const folded) (type_at T t) w)
         ]
 
     -- "`inject` emits tag, payload, closer"
     unfoldable pub inject_alternative : ℕ → FieldPattern → Option Alternative → FieldPath → S → S
-    inject_alternative n f none path w = report n Code.RejectUnknownAlternative (skip w)
-    inject_alternative n f (some alt) path w =
+    inject_alternative n f None path w = report n Code.RejectUnknownAlternative (skip w)
+    inject_alternative n f (Some alt) path w =
         closer n
         (below f.node alt.type (payload path alt.disc)
         (narrow n path (Narrowing.Tag alt.disc) w))
 
     unfoldable pub inject_only : ℕ → Option FieldPattern → List Alternative → FieldPath → S → S
-    inject_only n none alts path w = report n Code.RejectUnionArity (skip w)
-    inject_only n (some f) alts path w = inject_alternative n f (alternative_of alts f.name) path w
+    inject_only n None alts path w = report n Code.RejectUnionArity (skip w)
+    inject_only n (Some f) alts path w = inject_alternative n f (alternative_of alts f.name) path w
 
     -- Rust `inject`: ".. unless the whole union is constant: then bytes"
     unfoldable pub inject : List FieldPattern → List Alternative → FieldWalk S
     inject fields alts n t path w =
-        elim (constant w n t) [ some c ↦ narrow_by n c path w | none ↦ inject_only n (only_field fields) alts path w ]
+        elim (constant w n t) [ Some c ↦ narrow_by n c path w | None ↦ inject_only n (only_field fields) alts path w ]
 
     -- Rust `field`, its last arm: a read, or a record's pieces
     unfoldable pub read_answer : ℕ → Option Slot → ℕ → FieldPath → S → S → S
-    read_answer n (some slot) t path before w = matched n slot t path w
-    read_answer n none t path before w = elim (record_fields (node_at T n)) [ some fields ↦ partial n t path w | none ↦ unresolved n before w ]
+    read_answer n (Some slot) t path before w = matched n slot t path w
+    read_answer n None t path before w =
+        elim (record_fields (node_at T n)) [
+          | Some fields ↦ partial n t path w
+          | None ↦ unresolved n before w
+        ]
 
     unfoldable pub read : FieldWalk S
     read n t path w =
@@ -186,14 +189,14 @@ module _ {S : Type 0} (o : Ops S) (T : Tables) where
 
     -- a Prefix or a Fuzzy in `field`; building stays where it is mistyped
     unfoldable pub ranged : FieldWalk S
-    ranged n t path w = elim (constant w n t) [ some c ↦ narrow_by n c path w | none ↦ report n Code.RejectTypeMismatch w ]
+    ranged n t path w = elim (constant w n t) [ Some c ↦ narrow_by n c path w | None ↦ report n Code.RejectTypeMismatch w ]
 
     -- "In `field`, a new Var binds before its constraints are read"
     unfoldable pub variable : ℕ → FieldWalk S
     variable x n t path w =
         elim (lookup w x) [
-          | none ↦ constrain x t path (bind x (Slot.Field address path t) w)
-          | some slot ↦ read n t path w
+          | None ↦ constrain x t path (bind x (Slot.Field address path t) w)
+          | Some slot ↦ read n t path w
         ]
 
     -- Rust `field`, its match on the pattern
@@ -206,7 +209,11 @@ module _ {S : Type 0} (o : Ops S) (T : Tables) where
     field_node Node.Never n t path w = report n Code.NyiNever (skip w)
     field_node (Node.Prefix x) n t path w = ranged n t path w
     field_node (Node.Fuzzy x d a) n t path w = ranged n t path w
-    field_node (Node.Record fs) n t path w = elim (union_ty (type_at T t)) [ some alts ↦ inject fs alts n t path w | none ↦ read n t path w ]
+    field_node (Node.Record fs) n t path w =
+        elim (union_ty (type_at T t)) [
+          | Some alts ↦ inject fs alts n t path w
+          | None ↦ read n t path w
+        ]
     field_node (Node.Access x base) n t path w = read n t path w
     field_node (Node.Value base) n t path w = read n t path w
     field_node (Node.Select x base) n t path w = read n t path w
@@ -231,16 +238,16 @@ module _ {S : Type 0} (o : Ops S) (T : Tables) where
     whole_fields n slot i (f ∷ fs) w =
         let a = field_slot o T n slot f.name w in
         whole_fields n slot (suc i) fs
-        (elim a.slot [ none ↦ skip a.walk | some s ↦ matched address field (whole_node n s) s f.type (field_path i) a.walk ])
+        (elim a.slot [ None ↦ skip a.walk | Some s ↦ matched address field (whole_node n s) s f.type (field_path i) a.walk ])
 
     -- a Record type gives no bytes to a slot that is one constant and no Record, also where it has no fields
     unfoldable pub whole_read : ℕ → List FieldTy → S → S
     whole_read n fs w =
         let a = resolve o T n w in
-        elim a.slot [ none ↦ skip a.walk | some slot ↦ whole_fields n slot 0 fs (brings slot (Ty.Record fs) a.walk) ]
+        elim a.slot [ None ↦ skip a.walk | Some slot ↦ whole_fields n slot 0 fs (brings slot (Ty.Record fs) a.walk) ]
 
     unfoldable pub whole_variable : ℕ → ℕ → ℕ → List FieldTy → S → S
-    whole_variable x n t fs w = elim (lookup w x) [ none ↦ bind x (Slot.Key address t) (skip w) | some slot ↦ whole_read n fs w ]
+    whole_variable x n t fs w = elim (lookup w x) [ None ↦ bind x (Slot.Key address t) (skip w) | Some slot ↦ whole_read n fs w ]
 
     unfoldable pub whole_key : Node → ℕ → ℕ → List FieldTy → S → S
     whole_key (Node.Int bytes) n t fs' w = whole_read n fs' w
@@ -263,12 +270,16 @@ module _ {S : Type 0} (o : Ops S) (T : Tables) where
 
     -- "a Record against a Record type walks the type's fields, first pattern of that name, skip where missing"
     unfoldable pub record_key : Option (List FieldPattern) → ℕ → ℕ → List FieldTy → S → S
-    record_key (some fields) n t fs w = each_field field skip field_path fields 0 fs w
-    record_key none n t fs w = whole_key (node_at T n) n t fs w
+    record_key (Some fields) n t fs w = each_field field skip field_path fields 0 fs w
+    record_key None n t fs w = whole_key (node_at T n) n t fs w
 
     -- Rust `key`. "Paths start at the field's index, or at 0 for a scalar or union key."
     unfoldable pub key : ℕ → ℕ → S → S
-    key n t w = elim (record_ty (type_at T t)) [ some fs ↦ record_key (record_fields (node_at T n)) n t fs w | none ↦ field n t (field_path 0) w ]
+    key n t w =
+        elim (record_ty (type_at T t)) [
+          | Some fs ↦ record_key (record_fields (node_at T n)) n t fs w
+          | None ↦ field n t (field_path 0) w
+        ]
 
 -- a level's walk before its first event
 abbrev pub fresh_walk : Lists → Walk

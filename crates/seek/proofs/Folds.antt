@@ -2,7 +2,7 @@
 use mathlib.Core.Path.{◌≡◌, refl, sym, ap, ◌∙◌}
 use mathlib.Core.Bool.{true, false}
 use mathlib.Core.List.{List, []}
-use mathlib.Core.Option.{Option, none, some, get_or}
+use Rattle.std.specs.Prelude.{Option, None, Some, unwrap_or}
 use Prim.Native.Nat.{ℕ, ◌+◌, ◌≤◌, ◌<◌}
 use native.Mathlib.Numerals.{add-one}
 use lib.ListN.{length, drop, drop_of_length-le}
@@ -46,29 +46,29 @@ edges-stay f s e = ap (λ x. state s.over s.ends (with_edges x s.level) s.target
 -- one edge, by whether the constant is bytes
 module _ (T : Tables) (i : ℕ) (op : CompareOp) (n t : ℕ) (e : Edges) where
   abbrev by_value : Option (List ℕ) → Edges
-  by_value o = elim o [ none ↦ e | some value ↦ take_edge i op value e ]
+  by_value o = elim o [ None ↦ e | Some value ↦ take_edge i op value e ]
 
   lacking : (o : Option ConstantRules.Const) → has_bytes o ≡ false → by_value (o when_some bytes_only) ≡ e
   unfolding has_bytes ◌when_some◌ bytes_only
-  lacking none h = refl
-  lacking (some (ConstantRules.Const.Bytes bs)) h = absurd (true≢false h)
-  lacking (some (ConstantRules.Const.Prefix bs)) h = refl
-  lacking (some (ConstantRules.Const.Fuzzy y d a)) h = refl
+  lacking None h = refl
+  lacking (Some (ConstantRules.Const.Bytes bs)) h = absurd (true≢false h)
+  lacking (Some (ConstantRules.Const.Prefix bs)) h = refl
+  lacking (Some (ConstantRules.Const.Fuzzy y d a)) h = refl
 
-  having : (o : Option ConstantRules.Const) → has_bytes o ≡ true → take_edge i op (get_or (o when_some bytes_only) []) e ≡ by_value (o when_some bytes_only)
+  having : (o : Option ConstantRules.Const) → has_bytes o ≡ true → take_edge i op (unwrap_or (o when_some bytes_only) []) e ≡ by_value (o when_some bytes_only)
   unfolding has_bytes ◌when_some◌ bytes_only
-  having none h = absurd (true≢false (sym h))
-  having (some (ConstantRules.Const.Bytes bs)) h = refl
-  having (some (ConstantRules.Const.Prefix bs)) h = absurd (true≢false (sym h))
-  having (some (ConstantRules.Const.Fuzzy y d a)) h = absurd (true≢false (sym h))
+  having None h = absurd (true≢false (sym h))
+  having (Some (ConstantRules.Const.Bytes bs)) h = refl
+  having (Some (ConstantRules.Const.Prefix bs)) h = absurd (true≢false (sym h))
+  having (Some (ConstantRules.Const.Fuzzy y d a)) h = absurd (true≢false (sym h))
 
-  pub edge_none : (ConstantRules.constant T n t when_some bytes_only) ≡ none → edge_by T i op n t e ≡ e
+  pub edge_none : (ConstantRules.constant T n t when_some bytes_only) ≡ None → edge_by T i op n t e ≡ e
   unfolding edge_by
-  edge_none h = ap (λ o. elim o [ none ↦ e | some value ↦ take_edge i op value e ]) h
+  edge_none h = ap (λ o. elim o [ None ↦ e | Some value ↦ take_edge i op value e ]) h
 
   pub edge-bytes : (len : ℕ) → Known T n t len → take_edge i op (constant_bytes T n t) e ≡ edge_by T i op n t e
   unfolding edge_by bytes_of
-  edge-bytes len k = sym (ap (λ o. elim o [ none ↦ e | some value ↦ take_edge i op value e ]) k.bytes)
+  edge-bytes len k = sym (ap (λ o. elim o [ None ↦ e | Some value ↦ take_edge i op value e ]) k.bytes)
 
   pub edge-lacking : has_bytes (ConstantRules.constant T n t) ≡ false → edge_by T i op n t e ≡ e
   unfolding edge_by
@@ -81,20 +81,20 @@ module _ (T : Tables) (i : ℕ) (op : CompareOp) (n t : ℕ) (e : Edges) where
 -- one comparison, by the side on which the variable stands
 module _ (T : Tables) (x t i : ℕ) (c : Comparison) (e : Edges) where
   abbrev taken : Option Sided → Edges
-  taken o = elim o [ none ↦ e | some s ↦ take_edge i s.op s.value e ]
+  taken o = elim o [ None ↦ e | Some s ↦ take_edge i s.op s.value e ]
 
   one_side : (op : CompareOp) (n : ℕ) (o : Option ConstantRules.Const) → ConstantRules.constant T n t ≡ o
-      → taken (o when_some λ k. bytes_only k when_some λ value. some (record { op = op; value = value })) ≡ (elim (o when_some bytes_only) [ none ↦ e | some value ↦ take_edge i op value e ])
+      → taken (o when_some λ k. bytes_only k when_some λ value. Some (record { op = op; value = value })) ≡ (elim (o when_some bytes_only) [ None ↦ e | Some value ↦ take_edge i op value e ])
   unfolding ◌when_some◌ bytes_only
-  one_side op n none h = refl
-  one_side op n (some (ConstantRules.Const.Bytes bs)) h = refl
-  one_side op n (some (ConstantRules.Const.Prefix bs)) h = refl
-  one_side op n (some (ConstantRules.Const.Fuzzy y d a)) h = refl
+  one_side op n None h = refl
+  one_side op n (Some (ConstantRules.Const.Bytes bs)) h = refl
+  one_side op n (Some (ConstantRules.Const.Prefix bs)) h = refl
+  one_side op n (Some (ConstantRules.Const.Fuzzy y d a)) h = refl
 
-  told : (op : CompareOp) (n : ℕ) → compared T x c ≡ some (record { op = op; node = n }) → edge_by T i op n t e ≡ fold_one T x t i c e
+  told : (op : CompareOp) (n : ℕ) → compared T x c ≡ Some (record { op = op; node = n }) → edge_by T i op n t e ≡ fold_one T x t i c e
   unfolding edge_by fold_one sided ◌when_some◌
   told op n h =
-      sym (ap (λ (o : Option Compared). taken (o when_some λ other. ConstantRules.constant T other.node t when_some λ k. bytes_only k when_some λ value. some (record { op = other.op; value = value }))) h
+      sym (ap (λ (o : Option Compared). taken (o when_some λ other. ConstantRules.constant T other.node t when_some λ k. bytes_only k when_some λ value. Some (record { op = other.op; value = value }))) h
       ∙ one_side op n (ConstantRules.constant T n t) refl)
 
   pub fold-left : is_var T x c.left ≡ true → edge_by T i c.op c.right t e ≡ fold_one T x t i c e
@@ -108,7 +108,7 @@ module _ (T : Tables) (x t i : ℕ) (c : Comparison) (e : Edges) where
   pub fold-none : is_var T x c.left ≡ false → is_var T x c.right ≡ false → fold_one T x t i c e ≡ e
   unfolding fold_one sided compared ◌when_some◌
   fold-none h g =
-      ap (λ (o : Option Compared). taken (o when_some λ other. ConstantRules.constant T other.node t when_some λ k. bytes_only k when_some λ value. some (record { op = other.op; value = value })))
+      ap (λ (o : Option Compared). taken (o when_some λ other. ConstantRules.constant T other.node t when_some λ k. bytes_only k when_some λ value. Some (record { op = other.op; value = value })))
       (pick (is_var T x c.left) false _ _ h ∙ pick (is_var T x c.right) false _ _ g)
 
 -- both sides are nodes

@@ -12,7 +12,7 @@ ghost use Rattle.seek.specs.Seek.{folded_then, constant_bytes, state_of};
 
 use crate::{Edge, Folded, SeekBuilder};
 use constant::has_bytes;
-use tables::{Found, var_name};
+use tables::var_name;
 use views::{CompareOp, compare_op, comparison_at, count_of, op_number};
 
 // Whether a node is the variable of that name.
@@ -22,8 +22,8 @@ fn is_var(file: &[u8], index: &[u16], node: usize, name: usize) -> bool
     ensures { result ≡ is_var (tables_of file.now) name node }
 {
     match var_name(file, index, node) {
-        Found::Just(x) => x == name,
-        Found::Nothing => false,
+        Some(x) => x == name,
+        None => false,
     }
 }
 
@@ -35,14 +35,14 @@ fn flipped(op: CompareOp) -> CompareOp
 }
 
 // Of two edges, the first for the upper sense, the second for the lower.
-fn of_sense(upper: bool, hi: Edge, lo: Edge) -> Edge
+fn of_sense(upper: bool, hi: Option<Edge>, lo: Option<Edge>) -> Option<Edge>
     ensures { result ≡ of_sense upper hi lo }
 {
     if upper { hi } else { lo }
 }
 
 impl Folded {
-    // One index more, after the other edge's if that is set.
+    // One index more, after the other edge's if there is one.
     fn then(self, other: bool, index: u16) -> Folded
         ensures { result ≡ folded_then other index self }
     {
@@ -68,27 +68,20 @@ impl SeekBuilder {
             let taken = edge (constant_bytes T node ty) inclusive in
             after ≡ Ops.relevel (λ l. Ops.with_edges (of_sense upper take_hi take_lo index taken l.edges) l) before }
     {
-        let hi = self.hi;
-        let lo = self.lo;
-        let own = of_sense(upper, hi, lo);
-        if own.set {
+        let own = of_sense(upper, self.hi, self.lo);
+        if own.is_some() {
             return self;
         }
-        let other = of_sense(upper, lo, hi);
-        let edge = Edge {
-            set: true,
+        let other = of_sense(upper, self.lo, self.hi);
+        let edge = Some(Edge {
             inclusive,
             node,
             ty,
-        };
-        let f = self.folded;
-        let folded = f.then(other.set, index);
-        let high = of_sense(upper, edge, hi);
-        let low = of_sense(upper, lo, edge);
+        });
         let mut l = self;
-        l.hi = high;
-        l.lo = low;
-        l.folded = folded;
+        l.hi = of_sense(upper, edge, self.hi);
+        l.lo = of_sense(upper, self.lo, edge);
+        l.folded = self.folded.then(other.is_some(), index);
         l
     }
 
@@ -173,12 +166,9 @@ impl SeekBuilder {
         if !self.building {
             return self;
         }
-        let n = count_of(file, index, file::COMPARISONS);
         let mut l = self;
-        let mut i: usize = 0;
-        while i < n {
+        for i in 0..count_of(file, index, file::COMPARISONS) {
             l = l.compared(file, index, i, name, ty);
-            i += 1;
         }
         l
     }

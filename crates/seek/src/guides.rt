@@ -23,17 +23,13 @@ impl SeekBuilder {
         if self.building {
             return true;
         }
-        let g = self.guide;
-        if g.set {
+        if self.guide.is_some() {
             return false;
         }
-        let r = self.range;
-        if r.set {
-            let at = self.path;
-            within(at).same(within(path))
-        } else {
-            false
+        if self.range.is_none() {
+            return false;
         }
+        within(self.path).same(within(path))
     }
 
     fn guided(
@@ -59,16 +55,14 @@ impl SeekBuilder {
         if s.fits(self.plain) {
             let k = s.counts();
             let mut l = self.fallen();
-            let guide = Guide {
-                set: true,
+            l.counts = k;
+            l.path = path;
+            l.guide = Some(Guide {
                 distance,
                 anchor,
                 term: name,
                 node,
-            };
-            l.counts = k;
-            l.path = path;
-            l.guide = guide;
+            });
             l
         } else {
             self.stopped()
@@ -136,14 +130,9 @@ impl SeekBuilder {
         if s.fits(self.plain) {
             let k = s.counts();
             let mut l = self.fallen();
-            let range = Range {
-                set: true,
-                name,
-                node,
-            };
             l.counts = k;
             l.path = path;
-            l.range = range;
+            l.range = Some(Range { name, node });
             l
         } else {
             self.stopped()

@@ -46,7 +46,6 @@ pub struct Sums {
 
 #[derive(Clone, Copy)]
 pub struct Edge {
-    pub set: bool,
     pub inclusive: bool,
     pub node: u16,
     pub ty: u16,
@@ -54,7 +53,6 @@ pub struct Edge {
 
 #[derive(Clone, Copy)]
 pub struct Guide {
-    pub set: bool,
     pub distance: u8,
     pub anchor: Anchor,
     pub term: usize,
@@ -64,7 +62,6 @@ pub struct Guide {
 // A Prefix node's text is its name.
 #[derive(Clone, Copy)]
 pub struct Range {
-    pub set: bool,
     pub name: u16,
     pub node: usize,
 }
@@ -93,10 +90,10 @@ pub struct SeekBuilder {
     pub plain: bool,
     pub counts: Counts,
     pub path: FieldPath,
-    pub range: Range,
-    pub guide: Guide,
-    pub lo: Edge,
-    pub hi: Edge,
+    pub range: Option<Range>,
+    pub guide: Option<Guide>,
+    pub lo: Option<Edge>,
+    pub hi: Option<Edge>,
     pub folded: Folded,
     pub target: Target,
 }
@@ -114,11 +111,11 @@ fn and(a: bool, b: bool) -> bool
     if a { b } else { false }
 }
 
-// Whether a level has its range, or its guide: one that builds has neither, whatever their fields hold.
-pub fn kept(building: bool, set: bool) -> bool
-    ensures { result ≡ kept building set }
+// A level's range, or its guide: one that builds has neither, whatever their fields hold.
+pub fn kept<A: Drop>(building: bool, held: Option<A>) -> Option<A>
+    ensures { result ≡ kept building held }
 {
-    if building { false } else { set }
+    if building { None } else { held }
 }
 
 impl SeekBuilder {
@@ -128,32 +125,16 @@ impl SeekBuilder {
             state_of T result e w p ≡ state false e new_level (target_of target) w p }
         ensures whole { result ≡ new_builder target }
     {
-        let edge = Edge {
-            set: false,
-            inclusive: false,
-            node: 0,
-            ty: 0,
-        };
         SeekBuilder {
             over: false,
             building: true,
             plain: true,
             counts: Counts::none(),
             path: FieldPath::field(0),
-            range: Range {
-                set: false,
-                name: 0,
-                node: 0,
-            },
-            guide: Guide {
-                set: false,
-                distance: 0,
-                anchor: Anchor::Prefix,
-                term: 0,
-                node: 0,
-            },
-            lo: edge,
-            hi: edge,
+            range: None,
+            guide: None,
+            lo: None,
+            hi: None,
             folded: Folded {
                 first: 0,
                 second: 0,
@@ -176,24 +157,9 @@ impl SeekBuilder {
         ensures { result ≡ fell self }
     {
         let mut l = self;
-        let r = self.range;
-        let g = self.guide;
-        let anchor = g.anchor;
-        let range = Range {
-            set: kept(self.building, r.set),
-            name: r.name,
-            node: r.node,
-        };
-        let guide = Guide {
-            set: kept(self.building, g.set),
-            distance: g.distance,
-            anchor,
-            term: g.term,
-            node: g.node,
-        };
         l.building = false;
-        l.range = range;
-        l.guide = guide;
+        l.range = kept(self.building, self.range);
+        l.guide = kept(self.building, self.guide);
         l
     }
 

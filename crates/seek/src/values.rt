@@ -1,5 +1,5 @@
 // Constants placed in a level: their bytes go straight to the plan.
-ghost use Rattle.std.specs.Prelude.{◌≡◌, true, List, ℕ, ◌≤◌, ◌<◌, length};
+ghost use Rattle.std.specs.Prelude.{◌≡◌, true, List, ℕ, ◌≤◌, ◌<◌, length, Some};
 ghost use Rattle.rules.specs.File.{name_at};
 ghost use Rattle.rules.specs.Constant.{encode_prefix};
 ghost use Rattle.rules.specs.Events.{Narrowing};
@@ -70,7 +70,7 @@ impl SeekBuilder {
         requires accepted_file { AcceptedFile file.now index.now }
         requires value_in_bounds { value < length (tables_of file.now).nodes }
         requires ty_in_bounds { ty < length (tables_of file.now).types }
-        requires ty_value { const_view (tables_of file.now) value ty ≡ Const.Bytes value ty len }
+        requires ty_value { const_view (tables_of file.now) value ty ≡ Some (Const.Bytes value ty len) }
         ensures { (e : Ends) (w : List ℕ) →
             let T = tables_of file.now in
             let before = state_of T self e w plan.old in
@@ -98,7 +98,7 @@ impl SeekBuilder {
         requires accepted_file { AcceptedFile file.now index.now }
         requires value_in_bounds { value < length (tables_of file.now).nodes }
         requires ty_in_bounds { ty < length (tables_of file.now).types }
-        requires ty_value { const_view (tables_of file.now) value ty ≡ Const.Bytes value ty len }
+        requires ty_value { const_view (tables_of file.now) value ty ≡ Some (Const.Bytes value ty len) }
         ensures { (e : Ends) (w : List ℕ) →
             let T = tables_of file.now in
             let before = state_of T self e w plan.old in
@@ -128,7 +128,7 @@ impl SeekBuilder {
         requires accepted_file { AcceptedFile file.now index.now }
         requires value_in_bounds { value < length (tables_of file.now).nodes }
         requires ty_in_bounds { ty < length (tables_of file.now).types }
-        requires ty_value { const_view (tables_of file.now) value ty ≡ Const.Bytes value ty len }
+        requires ty_value { const_view (tables_of file.now) value ty ≡ Some (Const.Bytes value ty len) }
         ensures { (e : Ends) (w : List ℕ) →
             let T = tables_of file.now in
             let before = state_of T self e w plan.old in
@@ -204,7 +204,7 @@ impl SeekBuilder {
         self,
         file: &[u8],
         index: &[u16],
-        constant: Const,
+        constant: Option<Const>,
         path: FieldPath,
         node: usize,
         plan: &mut [u8],
@@ -216,8 +216,10 @@ impl SeekBuilder {
             let after = state_of T result e w plan.new in
             after ≡ narrowed_by T node (const_of T constant) (path_of path) before }
     {
-        match constant {
-            Const::Nothing => self,
+        let Some(known) = constant else {
+            return self;
+        };
+        match known {
             Const::Bytes(n, ty, len) => self.bytes(file, index, path, n, ty, len, node, plan),
             Const::Prefix(x) => self.prefix(file, index, path, x, node, plan),
             Const::Fuzzy(x, d, a) => self.fuzzy(path, x, d, a, node, plan),

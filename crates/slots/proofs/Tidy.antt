@@ -1,18 +1,17 @@
 -- The slots that the code makes stand for what they should, and are tidy.
 use Prim.Native.Nat.{ℕ}
 use mathlib.Core.Path.{◌≡◌, refl, sym, ap, ◌∙◌, subst}
-use mathlib.Core.Bool.{Bool, true}
-use mathlib.Core.Option.{Option, none, some}
+use Rattle.std.specs.Prelude.{Option, None, Some}
+use Rattle.std.proofs.lemmas.Option.{same_Some}
 use Rattle.rules.specs.File as File
 use Rattle.rules.specs.File.{Tables, field_path}
 use Rattle.paths.specs.Paths.{path_of, path_for}
 use Rattle.paths.specs.declared.Address.{Address}
 use Rattle.paths.specs.declared.FieldPath.{FieldPath}
-use Rattle.slots.specs.Slots.{slot_with, slot_of, slot_option, cleared, no_path, plain_slot, field_slot, just_slot, no_slot, tidy_with, tidy_slot, tidy_maybe, tidied, Stands, IsSlot, SlotRoom, ClearRoom, TidyRoom}
+use Rattle.slots.specs.Slots.{slot_with, slot_of, slot_option, cleared, no_path, plain_slot, field_slot, tidy_with, tidy_slot, tidied, Stands, IsSlot, SlotRoom, ClearRoom, TidyRoom}
 use Rattle.slots.specs.declared.SlotKind.{SlotKind}
 use Rattle.slots.specs.declared.SlotKind.TheVariants.{Row, Key, Derived, Field, Value, Const}
 use Rattle.slots.specs.declared.Slot.{Slot}
-use Rattle.slots.specs.declared.MaybeSlot.{MaybeSlot}
 
 plain-tidy : (k : SlotKind) → plain_slot k ≡ tidy_with k no_path
 unfolding path_of path_for field_path
@@ -42,24 +41,24 @@ pub field_room : (T : Tables) (s : Slot) (a : Address) (t : ℕ) → TidyRoom T 
 field_room T s a t r k = record { room = subst (SlotRoom T) (kind-is s (Field a t) k) r.room; clear = path-cleared s a t r.tidy k }
 
 -- a slot that there is
-pub tidy-there : (m : MaybeSlot) → m ≡ tidied m → m.some ≡ true → m.slot ≡ tidy_slot m.slot
-tidy-there m k e = ap (λ (x : MaybeSlot). x.slot) (k ∙ ap (λ (b : Bool). tidy_maybe b m.slot) e)
+pub tidy-there : {m : Option Slot} {s : Slot} → m ≡ tidied m → m ≡ Some s → s ≡ tidy_slot s
+tidy-there {m} {s} k e = same_Some _ _ (sym e ∙ k ∙ ap tidied e)
 
 pub stands-as : {x y : File.Slot} {s : Slot} → Stands x s → x ≡ y → Stands y s
 stands-as h e = record { is = h.is ∙ e; tidy = h.tidy }
 
 -- a slot that there is, and none
-pub just-is : {x : File.Slot} {s : Slot} {r : MaybeSlot} → r ≡ just_slot s → Stands x s → IsSlot (some x) r
-just-is {x} {s} {r} e h = record { is = ap slot_option e ∙ ap some h.is; tidy = e ∙ ap just_slot h.tidy ∙ ap tidied (sym e) }
+pub just-is : {x : File.Slot} {s : Slot} {r : Option Slot} → r ≡ Some s → Stands x s → IsSlot (Some x) r
+just-is {x} {s} {r} e h = record { is = ap slot_option e ∙ ap Some h.is; tidy = e ∙ ap Some h.tidy ∙ ap tidied (sym e) }
 
-pub no-slot : {r : MaybeSlot} → r ≡ no_slot → IsSlot none r
+pub no-slot : {r : Option Slot} → r ≡ None → IsSlot None r
 no-slot e = record { is = ap slot_option e; tidy = e ∙ ap tidied (sym e) }
 
-pub slot-as : {x y : Option File.Slot} {r : MaybeSlot} → IsSlot x r → x ≡ y → IsSlot y r
+pub slot-as : {x y : Option File.Slot} {r : Option Slot} → IsSlot x r → x ≡ y → IsSlot y r
 slot-as h e = record { is = h.is ∙ e; tidy = h.tidy }
 
-pub plain-is : (s : Slot) (k : SlotKind) {r : MaybeSlot} → r ≡ just_slot s → s ≡ plain_slot k → IsSlot (some (slot_with k no_path)) r
+pub plain-is : (s : Slot) (k : SlotKind) {r : Option Slot} → r ≡ Some s → s ≡ plain_slot k → IsSlot (Some (slot_with k no_path)) r
 plain-is s k e h = just-is e (plain-stands k h)
 
-pub field_is : (s : Slot) (a : Address) (p : FieldPath) (t : ℕ) {r : MaybeSlot} → r ≡ just_slot s → s ≡ field_slot a p t → p ≡ cleared p → IsSlot (some (File.Slot.Field a.0 (path_of p) t)) r
+pub field_is : (s : Slot) (a : Address) (p : FieldPath) (t : ℕ) {r : Option Slot} → r ≡ Some s → s ≡ field_slot a p t → p ≡ cleared p → IsSlot (Some (File.Slot.Field a.0 (path_of p) t)) r
 field_is s a p t e h k = just-is e (field-stands a p t h k)

@@ -1,6 +1,5 @@
 -- What a slot of the code stands for in the written rules.
-use Rattle.std.specs.Prelude.{ℕ, ◌+◌, ◌≤◌, ◌<◌, ◌≡◌, Bool, true, false, length}
-use Rattle.std.proofs.Math.Option.{Option, none, some}
+use Rattle.std.specs.Prelude.{ℕ, ◌+◌, ◌≤◌, ◌<◌, ◌≡◌, length, Option, None, Some}
 use Rattle.rules.specs.Limits.{depth_limit}
 use Rattle.rules.specs.File as File
 use Rattle.rules.specs.File.{Tables, depth, field_path}
@@ -11,7 +10,6 @@ use Rattle.views.specs.Views.{predicate_option}
 use Rattle.slots.specs.declared.SlotKind.{SlotKind}
 use Rattle.slots.specs.declared.SlotKind.TheVariants.{Row, Key, Derived, Field, Value, Const}
 use Rattle.slots.specs.declared.Slot.{Slot}
-use Rattle.slots.specs.declared.MaybeSlot.{MaybeSlot}
 
 abbrev pub slot_with : SlotKind → FieldPath → File.Slot
 slot_with (Row a p) path = File.Slot.Row a.0 (predicate_option p)
@@ -24,12 +22,9 @@ slot_with (Const n) path = File.Slot.Const n
 abbrev pub slot_of : Slot → File.Slot
 slot_of s = slot_with s.kind s.path
 
-abbrev pub maybe : {A : Type 0} → Bool → A → Option A
-maybe true a = some a
-maybe false a = none
-
-abbrev pub slot_option : MaybeSlot → Option File.Slot
-slot_option s = maybe s.some (slot_of s.slot)
+abbrev pub slot_option : Option Slot → Option File.Slot
+slot_option None = None
+slot_option (Some s) = Some (slot_of s)
 
 -- the path with zeros past its steps
 abbrev pub cleared : FieldPath → FieldPath
@@ -45,12 +40,6 @@ plain_slot kind = record { kind = kind; path = no_path }
 abbrev pub field_slot : Address → FieldPath → ℕ → Slot
 field_slot a path t = record { kind = Field a t; path = path }
 
-abbrev pub just_slot : Slot → MaybeSlot
-just_slot slot = record { some = true; slot = slot }
-
-abbrev pub no_slot : MaybeSlot
-no_slot = record { some = false; slot = plain_slot (Const 0) }
-
 -- a slot with what it means and no more
 abbrev pub tidy_with : SlotKind → FieldPath → Slot
 tidy_with (Row a p) path = plain_slot (Row a p)
@@ -63,21 +52,18 @@ tidy_with (Const n) path = plain_slot (Const n)
 abbrev pub tidy_slot : Slot → Slot
 tidy_slot s = tidy_with s.kind s.path
 
-abbrev pub tidy_maybe : Bool → Slot → MaybeSlot
-tidy_maybe true slot = just_slot (tidy_slot slot)
-tidy_maybe false slot = no_slot
-
 -- the same of a slot that may be none
-abbrev pub tidied : MaybeSlot → MaybeSlot
-tidied r = tidy_maybe r.some r.slot
+abbrev pub tidied : Option Slot → Option Slot
+tidied None = None
+tidied (Some s) = Some (tidy_slot s)
 
 -- s is the slot x: of a Field's path the steps past its count are zeros, and of any other slot the path is `no_path`
 pub record Stands (x : File.Slot) (s : Slot) : Type 0 where
   pub is : slot_of s ≡ x
   pub tidy : s ≡ tidy_slot s
 
--- r is the slot x, if there is one, tidy in the same way; where there is none, it is `no_slot`
-pub record IsSlot (x : Option File.Slot) (r : MaybeSlot) : Type 0 where
+-- r is the slot x, if there is one, tidy in the same way
+pub record IsSlot (x : Option File.Slot) (r : Option Slot) : Type 0 where
   pub is : slot_option r ≡ x
   pub tidy : r ≡ tidied r
 

@@ -2,14 +2,13 @@
 #![tactic(auto)]
 
 ghost use Rattle.std.specs.Prelude.{◌≡◌};
-ghost use Rattle.slots.specs.Slots.{plain_slot, field_slot, just_slot, no_slot};
+ghost use Rattle.slots.specs.Slots.{plain_slot, field_slot};
 
-use paths::{Address, FieldPath};
-use views::MaybePredicate;
+use paths::{Address, FieldPath, PredicateId};
 
 #[derive(Clone, Copy)]
 pub enum SlotKind {
-    Row(Address, MaybePredicate),
+    Row(Address, Option<PredicateId>),
     Key(Address, usize),
     Derived(Address),
     Field(Address, usize),
@@ -22,13 +21,6 @@ pub enum SlotKind {
 pub struct Slot {
     pub kind: SlotKind,
     pub path: FieldPath,
-}
-
-// Where there is none, the slot is that of `nothing`.
-#[derive(Clone, Copy)]
-pub struct MaybeSlot {
-    pub some: bool,
-    pub slot: Slot,
 }
 
 impl Slot {
@@ -47,19 +39,4 @@ impl Slot {
         let kind = SlotKind::Field(address, ty);
         Slot { kind, path }
     }
-}
-
-// No slot.
-pub fn nothing() -> MaybeSlot
-    ensures { result ≡ no_slot }
-{
-    let slot = Slot::plain(SlotKind::Const(0));
-    MaybeSlot { some: false, slot }
-}
-
-// A slot that there is.
-pub fn just(slot: Slot) -> MaybeSlot
-    ensures { result ≡ just_slot slot }
-{
-    MaybeSlot { some: true, slot }
 }

@@ -1,7 +1,7 @@
 -- A level's bytes in the plan: its frame, its parts and its residuals, each written at its place, are the level as the written rules have it.
 use mathlib.Core.Bool.{Bool, true, false}
 use mathlib.Core.List.{List, [], ◌∷◌, ◌++◌, append-nil, append_assoc}
-use mathlib.Core.Option.{Option, none, some}
+use Rattle.std.specs.Prelude.{Option, None, Some}
 use mathlib.Core.Path.{◌≡◌, refl, sym, ap, ◌∙◌}
 use Prim.Native.Nat.{ℕ, ◌+◌, ◌*◌, ◌≤◌}
 use native.Mathlib.Nat.{add-zero}
@@ -102,7 +102,7 @@ parts-put t parts plan h =
 
 -- All parts are bytes just where they join. A text, there or not:
 abbrev there : Bool → List ℕ → Option (List ℕ)
-there b x = elim b [ true ↦ some x | false ↦ none ]
+there b x = elim b [ true ↦ Some x | false ↦ None ]
 
 as_bytes_lem : (key : SeekKeyPart) → as_bytes key ≡ there (is_bytes key) (part_text key)
 unfolding as_bytes is_bytes part_text
@@ -110,7 +110,7 @@ as_bytes_lem (SeekKeyPart.Bytes bytes) = refl
 as_bytes_lem (SeekKeyPart.RegisterField address path) = refl
 as_bytes_lem (SeekKeyPart.RegisterFactId address) = refl
 
-both-there : (b d : Bool) (x y : List ℕ) → (there b x when_some λ bytes. there d y when_some λ rest. some (bytes ++ rest)) ≡ there (elim b [ true ↦ d | false ↦ false ]) (x ++ y)
+both-there : (b d : Bool) (x y : List ℕ) → (there b x when_some λ bytes. there d y when_some λ rest. Some (bytes ++ rest)) ≡ there (elim b [ true ↦ d | false ↦ false ]) (x ++ y)
 unfolding ◌when_some◌
 both-there true true x y = refl
 both-there true false x y = refl
@@ -120,7 +120,7 @@ joined_is : (parts : List Part) → joined parts ≡ there (all plain_part parts
 unfolding joined concat_map all
 joined_is [] = refl
 joined_is (p ∷ parts) =
-    (λ i. as_bytes_lem p.key i when_some λ bytes. joined_is parts i when_some λ rest. some (bytes ++ rest))
+    (λ i. as_bytes_lem p.key i when_some λ bytes. joined_is parts i when_some λ rest. Some (bytes ++ rest))
     ∙ both-there (plain_part p) (all plain_part parts) (text_of p) (concat_map text_of parts)
 
 beyond : (p x y z : List ℕ) → p ++ x ++ y ++ z ≡ p ++ (x ++ y ++ z)
@@ -133,18 +133,18 @@ joins-as : (parts : List Part) (plain : Bool) → all plain_part parts ≡ plain
 joins-as parts plain e = joined_is parts ∙ ap (λ (q : Bool). there q (concat_map text_of parts)) e
 
 abbrev unranged_form : List Part → Option (List ℕ) → List ℕ
-unranged_form parts o = Plan.seek (elim o [ none ↦ SeekKey.Composite parts | some bytes ↦ SeekKey.Prefix bytes (nodes_of parts) ])
+unranged_form parts o = Plan.seek (elim o [ None ↦ SeekKey.Composite parts | Some bytes ↦ SeekKey.Prefix bytes (nodes_of parts) ])
 
 -- a seek's number and text length, its parts, and what stands after them
 seek-form : (parts : List Part) (plain : Bool) → all plain_part parts ≡ plain → (range : Option Range) (lo hi : Option RangeEdge)
     → Plan.seek (seek parts range lo hi) ≡ (seek_number plain range lo hi ∷ (elim (joins plain range lo hi) [ true ↦ Plan.u16 (length (concat_map text_of parts)) | false ↦ [] ])) ++ parts_as (joins plain range lo hi) parts ++ range_or_edges range lo hi
 unfolding seek Plan.seek Plan.text seek_number joins parts_as range_or_edges unranged
-seek-form parts plain e range (some lo) hi = ap (λ (l : List ℕ). 3 ∷ l) (append_assoc (concat_map Plan.part parts) (Plan.edge (some lo)) (Plan.edge hi))
-seek-form parts plain e range none (some hi) = ap (λ (l : List ℕ). 3 ∷ l) (append_assoc (concat_map Plan.part parts) (Plan.edge none) (Plan.edge (some hi)))
-seek-form parts plain e (some range) none none = ap (λ (l : List ℕ). 2 ∷ l) (beyond (concat_map Plan.part parts) (Plan.text range.prefix) (Plan.path range.path) (Plan.u16 range.node))
-seek-form parts true e none none none =
+seek-form parts plain e range (Some lo) hi = ap (λ (l : List ℕ). 3 ∷ l) (append_assoc (concat_map Plan.part parts) (Plan.edge (Some lo)) (Plan.edge hi))
+seek-form parts plain e range None (Some hi) = ap (λ (l : List ℕ). 3 ∷ l) (append_assoc (concat_map Plan.part parts) (Plan.edge None) (Plan.edge (Some hi)))
+seek-form parts plain e (Some range) None None = ap (λ (l : List ℕ). 2 ∷ l) (beyond (concat_map Plan.part parts) (Plan.text range.prefix) (Plan.path range.path) (Plan.u16 range.node))
+seek-form parts true e None None None =
     ap (unranged_form parts) (joins-as parts true e) ∙ ap (λ (l : List ℕ). 0 ∷ l) (text-first (Plan.u16 (length (concat_map text_of parts))) (concat_map text_of parts) (nodes_in parts))
-seek-form parts false e none none none = ap (unranged_form parts) (joins-as parts false e) ∙ ap (λ (l : List ℕ). 1 ∷ l) (sym (append-nil (concat_map Plan.part parts)))
+seek-form parts false e None None None = ap (unranged_form parts) (joins-as parts false e) ∙ ap (λ (l : List ℕ). 1 ∷ l) (sym (append-nil (concat_map Plan.part parts)))
 
 -- The level of n narrowings and what placement made of them.
 abbrev pub leveled : ℕ → SeekBuilder → Plan.PlanLevel
@@ -189,10 +189,10 @@ level-end at n b =
 -- what a level counts for is no more than its bytes
 pub joins-plain : (plain : Bool) (range : Option Range) (lo hi : Option RangeEdge) → joins plain range lo hi ≡ true → plain ≡ true
 unfolding joins
-joins-plain plain range (some lo) hi e = absurd (true≢false (sym e))
-joins-plain plain range none (some hi) e = absurd (true≢false (sym e))
-joins-plain plain (some range) none none e = absurd (true≢false (sym e))
-joins-plain plain none none none e = e
+joins-plain plain range (Some lo) hi e = absurd (true≢false (sym e))
+joins-plain plain range None (Some hi) e = absurd (true≢false (sym e))
+joins-plain plain (Some range) None None e = absurd (true≢false (sym e))
+joins-plain plain None None None e = e
 
 parts-least : (joining : Bool) (parts : List Part) → (joining ≡ true → all plain_part parts ≡ true) → part_size parts ≤ length (parts_as joining parts)
 unfolding part_size

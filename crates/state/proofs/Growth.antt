@@ -1,7 +1,7 @@
 -- A walk of the written rules only grows: its lists and its level never come to fewer bytes, and its level stays sane.
 use mathlib.Core.Bool.{Bool, true, false}
 use mathlib.Core.List.{List, [], ◌∷◌, ◌++◌}
-use mathlib.Core.Option.{none}
+use Rattle.std.specs.Prelude.{None}
 use mathlib.Core.Path.{◌≡◌, refl, sym, ap, ◌∙◌, subst, subst₂}
 use Prim.Native.Nat.{ℕ, suc, ◌+◌, ◌≤◌}
 use native.Mathlib.Nat.{suc-add, zero-add, add-zero}
@@ -71,7 +71,7 @@ sane-range : (n : ℕ) (range : Range) (b : SeekBuilder) → b.building ≡ true
 unfolding fall with_range number
 sane-range n range b e s = fallen (n + 1) (fall (with_range range b)) refl (omega (arith, s.counted, ap number (s.no-range e)))
 
-sane-guide : (n : ℕ) (guide : Guide) (b : SeekBuilder) → b.guide ≡ none → Sane n b → Sane (n + 1) (fall (with_guide guide b))
+sane-guide : (n : ℕ) (guide : Guide) (b : SeekBuilder) → b.guide ≡ None → Sane n b → Sane (n + 1) (fall (with_guide guide b))
 unfolding fall with_guide number
 sane-guide n guide b e s = fallen (n + 1) (fall (with_guide guide b)) refl (omega (arith, s.counted, ap number e))
 
@@ -100,9 +100,9 @@ step-prefix n node path prefix b =
     (λ e. step-residual n (record { path = path; op = Narrowing.Prefix prefix; node = node }) b (λ s. e))
 
 -- a guide is attached only where none is, and always while building holds
-attaches : (b : SeekBuilder) (path : FieldPath) → attachable b path ≡ true → b.guide ≡ none
+attaches : (b : SeekBuilder) (path : FieldPath) → attachable b path ≡ true → b.guide ≡ None
 unfolding attachable
-attaches b path = by-option (λ r. r ≡ true → b.guide ≡ none) b.guide (λ e q. e) (λ g e q. absurd (true≢false (sym q)))
+attaches b path = by-option (λ r. r ≡ true → b.guide ≡ None) b.guide (λ e q. e) (λ g e q. absurd (true≢false (sym q)))
 
 not-true : (t : Bool) → (t ≡ true → ⊥) → t ≡ false
 not-true true h = absurd (h refl)

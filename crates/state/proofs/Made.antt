@@ -2,7 +2,7 @@
 use mathlib.Core.Bool.{Bool, true, false}
 use mathlib.Core.List.{List, [], ◌∷◌, ◌++◌, append_assoc}
 use mathlib.Core.Logic.{◌⊎◌, inl, inr, ⊎_elim}
-use mathlib.Core.Option.{Option, none, some}
+use Rattle.std.specs.Prelude.{Option, None, Some}
 use mathlib.Core.Path.{◌≡◌, refl, sym, ap, ◌∙◌}
 use Prim.Native.Nat.{ℕ, suc, ◌+◌, ◌*◌, ◌/◌, ◌%◌, ◌≤◌, ◌<◌}
 use native.Mathlib.Omega.{arith}
@@ -70,40 +70,40 @@ module _ (x : ℕ) where
   last o bs = last_or o (λ b. eqb b.name x) bs
 
   slot_in : Option Binding → Option Slot
-  slot_in o = o when_some λ b. some b.slot
+  slot_in o = o when_some λ b. Some b.slot
 
   -- what was found before a list counts where the list has none
-  last-from : (o : Option Binding) (bs : List Binding) → slot_in (last o bs) ≡ or_else (slot_in (last none bs)) (slot_in o)
+  last-from : (o : Option Binding) (bs : List Binding) → slot_in (last o bs) ≡ or_else (slot_in (last None bs)) (slot_in o)
   unfolding last last_or slot_in ◌when_some◌
   last-from o [] = refl
   last-from o (b ∷ bs) =
-      elim (eqb b.name x) as (λ (t : Bool). ◌≡◌ {A = Option Slot} (slot_in (elim t [ true ↦ last (some b) bs | false ↦ last o bs ])) (or_else (slot_in (elim t [ true ↦ last (some b) bs | false ↦ last none bs ])) (slot_in o))) [
-        | true ↦ last-from (some b) bs ∙ kept (slot_in (last none bs)) b.slot (slot_in o) ∙ ap (λ (q : Option Slot). or_else q (slot_in o)) (sym (last-from (some b) bs))
+      elim (eqb b.name x) as (λ (t : Bool). ◌≡◌ {A = Option Slot} (slot_in (elim t [ true ↦ last (Some b) bs | false ↦ last o bs ])) (or_else (slot_in (elim t [ true ↦ last (Some b) bs | false ↦ last None bs ])) (slot_in o))) [
+        | true ↦ last-from (Some b) bs ∙ kept (slot_in (last None bs)) b.slot (slot_in o) ∙ ap (λ (q : Option Slot). or_else q (slot_in o)) (sym (last-from (Some b) bs))
         | false ↦ last-from o bs
       ]
     where
-      kept : (a : Option Slot) (s : Slot) (c : Option Slot) → or_else a (some s) ≡ or_else (or_else a (some s)) c
-      kept none s c = refl
-      kept (some t) s c = refl
+      kept : (a : Option Slot) (s : Slot) (c : Option Slot) → or_else a (Some s) ≡ or_else (or_else a (Some s)) c
+      kept None s c = refl
+      kept (Some t) s c = refl
 
   last-append : (o : Option Binding) (as' bs : List Binding) → last o (as' ++ bs) ≡ last (last o as') bs
   unfolding last last_or
   last-append o [] bs = refl
   last-append o (a ∷ as') bs =
-      elim (eqb a.name x) as (λ (t : Bool). ◌≡◌ {A = Option Binding} (elim t [ true ↦ last (some a) (as' ++ bs) | false ↦ last o (as' ++ bs) ]) (last (elim t [ true ↦ last (some a) as' | false ↦ last o as' ]) bs)) [
-        | true ↦ last-append (some a) as' bs
+      elim (eqb a.name x) as (λ (t : Bool). ◌≡◌ {A = Option Binding} (elim t [ true ↦ last (Some a) (as' ++ bs) | false ↦ last o (as' ++ bs) ]) (last (elim t [ true ↦ last (Some a) as' | false ↦ last o as' ]) bs)) [
+        | true ↦ last-append (Some a) as' bs
         | false ↦ last-append o as' bs
       ]
 
   pub lookup-append : (as' bs : List Binding) → lookup (as' ++ bs) x ≡ or_else (lookup bs x) (lookup as' x)
   unfolding lookup last slot_in
-  lookup-append as' bs = ap slot_in (last-append none as' bs) ∙ last-from (last none as') bs
+  lookup-append as' bs = ap slot_in (last-append None as' bs) ∙ last-from (last None as') bs
 
   -- one binding
   pub lookup-one : (b : Binding) → lookup (b ∷ []) x ≡ slot_named x (Read.got b [])
   unfolding lookup last last_or slot_in slot_named ◌when_some◌
   lookup-one b =
-      elim (eqb b.name x) as (λ (t : Bool). ◌≡◌ {A = Option Slot} (slot_in (elim t [ true ↦ some b | false ↦ none ])) (elim t [ true ↦ some b.slot | false ↦ none ])) [
+      elim (eqb b.name x) as (λ (t : Bool). ◌≡◌ {A = Option Slot} (slot_in (elim t [ true ↦ Some b | false ↦ None ])) (elim t [ true ↦ Some b.slot | false ↦ None ])) [
         | true ↦ refl
         | false ↦ refl
       ]
@@ -111,20 +111,20 @@ module _ (x : ℕ) where
   -- a binding of another name before a list
   lookup-other : (b : Binding) (bs : List Binding) → (b.name ≡ x → ⊥) → lookup (b ∷ bs) x ≡ lookup bs x
   unfolding lookup last last_or slot_in
-  lookup-other b bs h = ap slot_in (pick (eqb b.name x) false (last (some b) bs) (last none bs) (ne_eqb b.name x h))
+  lookup-other b bs h = ap slot_in (pick (eqb b.name x) false (last (Some b) bs) (last None bs) (ne_eqb b.name x h))
 
   -- a binding of the name
-  lookup-here : (b : Binding) → b.name ≡ x → lookup (b ∷ []) x ≡ some b.slot
+  lookup-here : (b : Binding) → b.name ≡ x → lookup (b ∷ []) x ≡ Some b.slot
   unfolding slot_named
-  lookup-here b e = lookup-one b ∙ pick (eqb b.name x) true (some b.slot) none (eq-eqb b.name x e)
+  lookup-here b e = lookup-one b ∙ pick (eqb b.name x) true (Some b.slot) None (eq-eqb b.name x e)
 
   -- a name that two lists do not have
-  pub neither : (a c : Option Slot) → or_else a c ≡ none → (a ≡ none) × (c ≡ none)
-  neither none c q = (refl, q)
-  neither (some s) c q = absurd (some≢none s q)
+  pub neither : (a c : Option Slot) → or_else a c ≡ None → (a ≡ None) × (c ≡ None)
+  neither None c q = (refl, q)
+  neither (Some s) c q = absurd (some≢none s q)
 
   -- a name that is not found is none of theirs
-  pub not-among : (bs : List Binding) → lookup bs x ≡ none → Each (λ b. b.name ≡ x → ⊥) bs
+  pub not-among : (bs : List Binding) → lookup bs x ≡ None → Each (λ b. b.name ≡ x → ⊥) bs
   not-among [] e = done
   not-among (b ∷ bs) e =
       let split = neither (lookup bs x) (lookup (b ∷ []) x) (sym (lookup-append (b ∷ []) bs) ∙ e) in
@@ -205,7 +205,7 @@ module _ (work : List ℕ) (x : ℕ) where
   other b i h n e = n (ap (λ (y : ℕ). word_in work (number_at y)) (sym e) ∙ h)
 
   -- a number that is none of theirs: none has the name
-  unnamed : (i p : ℕ) (bs : List Binding) → Named work i p bs → (number < i) ⊎ (i + length bs ≤ number) → lookup bs x ≡ none
+  unnamed : (i p : ℕ) (bs : List Binding) → Named work i p bs → (number < i) ⊎ (i + length bs ≤ number) → lookup bs x ≡ None
   unfolding lookup last_or ◌when_some◌
   unnamed i p [] h o = refl
   unnamed i p (b ∷ bs) h o =
@@ -238,5 +238,5 @@ module _ (work : List ℕ) (x : ℕ) where
   unfolding made_slot
   made-is {bs} rest q h e =
       by_order number (length bs)
-      (λ l. pick (ltb number (length bs)) true read none (lt-ltb number (length bs) l) ∙ named 0 0 rest q h e (omega arith) (omega arith))
-      (λ l. pick (ltb number (length bs)) false read none (le-ltb number (length bs) l) ∙ sym (unnamed 0 0 bs h (inr (omega arith))))
+      (λ l. pick (ltb number (length bs)) true read None (lt-ltb number (length bs) l) ∙ named 0 0 rest q h e (omega arith) (omega arith))
+      (λ l. pick (ltb number (length bs)) false read None (le-ltb number (length bs) l) ∙ sym (unnamed 0 0 bs h (inr (omega arith))))

@@ -10,7 +10,7 @@ use lib.ListN.{length, take, drop, length-append, take-append-drop}
 use lib.Seq.{sets, slice, length-sets, slice_empty, take_at, take-append_seam, drop-append_seam}
 use Rattle.rules.specs.Base.{Each, done, concat_map}
 use Rattle.rules.specs.File.{Tables, Binding}
-use mathlib.Core.Option.{Option, none}
+use Rattle.std.specs.Prelude.{Option, None}
 use Rattle.rules.specs.Limits.{name_limit}
 use Rattle.rules.specs.File.{Slot}
 use Rattle.rules.specs.Constant.{lookup}
@@ -220,7 +220,7 @@ module _ (T : Tables) (l : Lists) (e : Ends) (work : List ℕ) (m : Mem T l e wo
       let at : length (concat_map Plan.binding m.new) ≡ e.bindings = omega (arith, m.bindings.ends) in
       λ i. noted b.name (sym m.binding_count i) (at i) w
 
-  pub mem-bind : (b : Binding) → BindingNumbers b → b.name < name_limit → lookup l.bindings b.name ≡ none → e.bindings + length (Plan.binding b) ≤ e.constrained → Mem T (lists (l.bindings ++ (b ∷ [])) l.constrained l.selects l.diagnostics) (ends (e.bindings + length (Plan.binding b)) (e.binding_count + 1) e.constrained e.selects e.select_count e.diagnostics) (noted b.name e.binding_count e.bindings (sets work e.bindings (Plan.binding b)))
+  pub mem-bind : (b : Binding) → BindingNumbers b → b.name < name_limit → lookup l.bindings b.name ≡ None → e.bindings + length (Plan.binding b) ≤ e.constrained → Mem T (lists (l.bindings ++ (b ∷ [])) l.constrained l.selects l.diagnostics) (ends (e.bindings + length (Plan.binding b)) (e.binding_count + 1) e.constrained e.selects e.select_count e.diagnostics) (noted b.name e.binding_count e.bindings (sets work e.bindings (Plan.binding b)))
   mem-bind b n small unbound h =
       let w = sets work e.bindings (Plan.binding b) in
       let other = second-kept e.bindings (Plan.binding b) (omega (arith, h, m.constrained.ends)) in
@@ -243,7 +243,7 @@ module _ (T : Tables) (l : Lists) (e : Ends) (work : List ℕ) (m : Mem T l e wo
             (named_past work e.bindings (Plan.binding b) m.new (omega (arith, h, m.constrained.ends)) m.tables));
       }
     where
-      unbound-new : lookup m.new b.name ≡ none
+      unbound-new : lookup m.new b.name ≡ None
       unbound-new = (neither b.name _ _ (sym (lookup-append b.name T.bindings m.new) ∙ ap (λ (bs : List Binding). lookup bs b.name) (sym m.bindings-are) ∙ unbound)).0
 
   pub mem-constrain : (x : ℕ) → e.bindings + length (Plan.u16 x) ≤ e.constrained → Mem T (lists l.bindings (l.constrained ++ (x ∷ [])) l.selects l.diagnostics) (ends e.bindings e.binding_count (e.constrained - length (Plan.u16 x)) e.selects e.select_count e.diagnostics) (sets work (e.constrained - length (Plan.u16 x)) (Plan.u16 x))

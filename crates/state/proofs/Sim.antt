@@ -1,7 +1,7 @@
 -- The memory's run of a level's walk and the written rules' run of it, side by side: related states end in related states.
 use mathlib.Core.Bool.{false}
 use mathlib.Core.List.{List, [], ◌∷◌, ◌++◌, append_assoc}
-use mathlib.Core.Option.{none, some}
+use Rattle.std.specs.Prelude.{None, Some}
 use mathlib.Core.Path.{◌≡◌, refl, sym, ap, ◌∙◌, subst, subst₂}
 use Prim.Native.Nat.{ℕ, ◌+◌, ◌≤◌, ◌<◌}
 use native.Mathlib.Nat.{add-zero}
@@ -49,7 +49,7 @@ type-numbers : (T : Tables) → Bounded T → (t : ℕ) → TypeNumbers (type_at
 unfolding type_at
 type-numbers T b t = each-get_or t b.types tt
 
-record-few : (ty : Ty) (fs : List FieldTy) → TypeNumbers ty → record_ty ty ≡ some fs → length fs < 256
+record-few : (ty : Ty) (fs : List FieldTy) → TypeNumbers ty → record_ty ty ≡ Some fs → length fs < 256
 unfolding record_ty
 record-few Ty.Int fs h e = absurd (some≢none fs (sym e))
 record-few Ty.Str fs h e = absurd (some≢none fs (sym e))
@@ -58,7 +58,7 @@ record-few (Ty.Fact p) fs h e = absurd (some≢none fs (sym e))
 record-few (Ty.Record gs) fs h e = subst (λ (x : List FieldTy). length x < 256) (some-injective gs fs e) h
 record-few (Ty.Union alts) fs h e = absurd (some≢none fs (sym e))
 
-union-discs : (ty : Ty) (alts : List Alternative) → TypeNumbers ty → union_ty ty ≡ some alts → Each (λ a. a.disc < 4294967296) alts
+union-discs : (ty : Ty) (alts : List Alternative) → TypeNumbers ty → union_ty ty ≡ Some alts → Each (λ a. a.disc < 4294967296) alts
 unfolding union_ty
 union-discs Ty.Int alts h e = absurd (some≢none alts (sym e))
 union-discs Ty.Str alts h e = absurd (some≢none alts (sym e))
@@ -90,7 +90,7 @@ select-length s = omega arith
 
 module _ (T : Tables) (t : Target) (base : List ℕ) where
   -- The four lists.
-  rel_bind : (x : ℕ) (slot : Slot) (w : Walk) (c : State) → BindingNumbers (record { name = x; slot = slot }) → Name x → lookup w.lists.bindings x ≡ none → Rel T t base w c → Rel T t base (bind x slot w) (Ops.bind x slot c)
+  rel_bind : (x : ℕ) (slot : Slot) (w : Walk) (c : State) → BindingNumbers (record { name = x; slot = slot }) → Name x → lookup w.lists.bindings x ≡ None → Rel T t base w c → Rel T t base (bind x slot w) (Ops.bind x slot c)
   unfolding bind Ops.bind list_size
   rel_bind x slot w c numbers small unbound r =
       rel-unless T t base w (bind x slot w) c _ (grew-bind T x slot w) r λ e g s.

@@ -1,7 +1,7 @@
 -- What a level's parts and residuals come to in bytes, the level that the memory keeps of them, and when it fits.
 use mathlib.Core.Bool.{Bool, true, false}
 use mathlib.Core.List.{List, [], ◌∷◌, ◌++◌}
-use mathlib.Core.Option.{none}
+use Rattle.std.specs.Prelude.{None}
 use mathlib.Core.Path.{◌≡◌, refl, sym, ◌∙◌}
 use Prim.Native.Nat.{ℕ, ◌+◌, ◌*◌, ◌≤◌, ◌<◌}
 use native.Mathlib.Omega.{arith}
@@ -116,8 +116,8 @@ part_size-snoc parts p = go (all plain_part parts) (plain_part p) (all plain_par
 -- what holds of every level of an accepted file: enough that where it has no room the plan is too long
 pub record Sane (n : ℕ) (b : SeekBuilder) : Type 0 where
   pub clean : b.building ≡ true → b.residuals ≡ []
-  pub no-range : b.building ≡ true → b.range ≡ none
-  pub no-guide : b.building ≡ true → b.guide ≡ none
+  pub no-range : b.building ≡ true → b.range ≡ None
+  pub no-guide : b.building ≡ true → b.guide ≡ None
   pub counted : n ≤ length b.parts + length b.residuals + number b.range + number b.guide
 
 -- parts that are not too many bytes are not too many

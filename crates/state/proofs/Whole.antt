@@ -1,7 +1,7 @@
 -- The memory computes what the written rules say: for every accepted file the same plan, and refusal 15 exactly where the rules' plan is too long.
 use mathlib.Core.Bool.{Bool, true, false}
 use mathlib.Core.List.{List, [], ◌∷◌, ◌++◌, map, append-nil, append_assoc}
-use mathlib.Core.Option.{none}
+use Rattle.std.specs.Prelude.{None}
 use mathlib.Core.Path.{◌≡◌, refl, sym, ap, ◌∙◌, subst}
 use Prim.Native.Nat.{ℕ, suc, ◌+◌, ◌≤◌, ◌<◌, min}
 use native.Mathlib.Nat.{zero-add}
@@ -257,7 +257,7 @@ exact T passed numbered work plan room = go ended.state.over refl ∙ ap (Compil
     go false e = finish T S numbered plan (left T start T.levels) (front ++ levels_bytes T start T.levels) ended e (after.live e)
 
 -- the call on bytes that are read and accepted, in memory that is large enough
-pub accepted-outcome : (bytes : List ℕ) (T : Tables) (rest : List ℕ) → Read.file bytes ≡ Read.got T rest → fault checks T ≡ none → (room area : ℕ) → length bytes ≤ file_limit → work_limit ≤ area → Compile.outcome bytes room area ≡ Compile.walked room T
+pub accepted-outcome : (bytes : List ℕ) (T : Tables) (rest : List ℕ) → Read.file bytes ≡ Read.got T rest → fault checks T ≡ None → (room area : ℕ) → length bytes ≤ file_limit → work_limit ≤ area → Compile.outcome bytes room area ≡ Compile.walked room T
 unfolding Compile.outcome Compile.reading Compile.checked
 accepted-outcome bytes T rest reads accepted room area short large =
     by-test (λ (r : Outcome). r ≡ Compile.walked room T) (leb (length bytes) file_limit)
@@ -267,13 +267,13 @@ accepted-outcome bytes T rest reads accepted room area short large =
     (λ q. absurd (true≢false (sym (le-leb (length bytes) file_limit short) ∙ q)))
 
 -- 19, where a level's walk notes a constant
-pub mistyped-file : (bytes : List ℕ) (T : Tables) (rest : List ℕ) → Read.file bytes ≡ Read.got T rest → fault checks T ≡ none → (room area : ℕ) → length bytes ≤ file_limit → work_limit ≤ area → LevelsRules.any_mistyped (LevelsRules.levels T) ≡ true → Outcome.refused 19 ≡ Compile.outcome bytes room area
+pub mistyped-file : (bytes : List ℕ) (T : Tables) (rest : List ℕ) → Read.file bytes ≡ Read.got T rest → fault checks T ≡ None → (room area : ℕ) → length bytes ≤ file_limit → work_limit ≤ area → LevelsRules.any_mistyped (LevelsRules.levels T) ≡ true → Outcome.refused 19 ≡ Compile.outcome bytes room area
 unfolding Compile.walked
 mistyped-file bytes T rest reads accepted room area short large m =
     sym (accepted-outcome bytes T rest reads accepted room area short large ∙ pick (LevelsRules.any_mistyped (LevelsRules.levels T)) true _ _ m)
 
 -- else what the memory computes
-pub exact-file : (bytes : List ℕ) → Each Byte bytes → (T : Tables) (rest : List ℕ) → Read.file bytes ≡ Read.got T rest → fault checks T ≡ none → (work plan : List ℕ) → length bytes ≤ file_limit → work_limit ≤ length work → LevelsRules.any_mistyped (LevelsRules.levels T) ≡ false → written_outcome (compiled T work plan) ≡ Compile.outcome bytes (length plan) (length work)
+pub exact-file : (bytes : List ℕ) → Each Byte bytes → (T : Tables) (rest : List ℕ) → Read.file bytes ≡ Read.got T rest → fault checks T ≡ None → (work plan : List ℕ) → length bytes ≤ file_limit → work_limit ≤ length work → LevelsRules.any_mistyped (LevelsRules.levels T) ≡ false → written_outcome (compiled T work plan) ≡ Compile.outcome bytes (length plan) (length work)
 unfolding Compile.walked
 exact-file bytes b T rest reads accepted work plan short large m =
     exact T (passed-all T accepted) (record { within = read-bounded bytes b T rest reads; names = var-names bytes T rest reads (passed-all T accepted) }) work plan large

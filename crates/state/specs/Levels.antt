@@ -1,6 +1,5 @@
 -- A level walked onto the page, then copied to its place in the plan; the list of levels; the four lists after them.
-use Rattle.std.specs.Prelude.{Bool, true, false, List, [], ◌∷◌, ◌++◌, ℕ, zero, suc, ◌+◌, ◌-◌, ◌/◌, min, length, take, replicate, leb}
-use Rattle.std.proofs.Math.Option.{Option, none, some}
+use Rattle.std.specs.Prelude.{Bool, true, false, List, [], ◌∷◌, ◌++◌, ℕ, zero, suc, ◌+◌, ◌-◌, ◌/◌, min, length, take, replicate, leb, Option, None, Some}
 use Rattle.std.proofs.lemmas.List.Edits.{sets}
 use Rattle.std.proofs.Math.Seq.{slice}
 use Rattle.rules.specs.Base.{both}
@@ -16,21 +15,21 @@ use Rattle.state.specs.Ops.{ops}
 
 -- The four seeks, as numbers of the plan: 0 Prefix, 1 Composite, 2 PrefixRange, 3 Bounded.
 unfoldable pub seek_number : Bool → Option Range → Option RangeEdge → Option RangeEdge → ℕ
-seek_number plain range (some lo) hi = 3
-seek_number plain range none (some hi) = 3
-seek_number plain (some range) none none = 2
-seek_number true none none none = 0
-seek_number false none none none = 1
+seek_number plain range (Some lo) hi = 3
+seek_number plain range None (Some hi) = 3
+seek_number plain (Some range) None None = 2
+seek_number true None None None = 0
+seek_number false None None None = 1
 
 unfoldable pub seek_of : Level → ℕ
 seek_of l = seek_number l.plain l.range l.edges.lo l.edges.hi
 
 -- whether the parts are joined to one text
 unfoldable pub joins : Bool → Option Range → Option RangeEdge → Option RangeEdge → Bool
-joins plain range (some lo) hi = false
-joins plain range none (some hi) = false
-joins plain (some range) none none = false
-joins plain none none none = plain
+joins plain range (Some lo) hi = false
+joins plain range None (Some hi) = false
+joins plain (Some range) None None = false
+joins plain None None None = plain
 
 unfoldable pub joining : Level → Bool
 joining l = joins l.plain l.range l.edges.lo l.edges.hi
@@ -43,10 +42,10 @@ head l =
     (seek_of l ∷ (elim (joining l) [ true ↦ Plan.u16 c.joined | false ↦ [] ]))
 
 unfoldable pub range_or_edges : Option Range → Option RangeEdge → Option RangeEdge → List ℕ
-range_or_edges range (some lo) hi = Plan.edge (some lo) ++ Plan.edge hi
-range_or_edges range none (some hi) = Plan.edge none ++ Plan.edge (some hi)
-range_or_edges (some range) none none = Plan.text range.prefix ++ Plan.path range.path ++ Plan.u16 range.node
-range_or_edges none none none = []
+range_or_edges range (Some lo) hi = Plan.edge (Some lo) ++ Plan.edge hi
+range_or_edges range None (Some hi) = Plan.edge None ++ Plan.edge (Some hi)
+range_or_edges (Some range) None None = Plan.text range.prefix ++ Plan.path range.path ++ Plan.u16 range.node
+range_or_edges None None None = []
 
 unfoldable pub middle : Level → List ℕ
 middle l = range_or_edges l.range l.edges.lo l.edges.hi ++ Plan.guide l.guide ++ Plan.u16 l.counts.residuals

@@ -1,6 +1,5 @@
 -- The walk's operations on that memory: each appends to a run, changes the level, or writes a part or residual at its place in the plan.
-use Rattle.std.specs.Prelude.{Bool, true, false, List, [], ◌++◌, ℕ, ◌+◌, ◌-◌, ◌*◌, length, leb}
-use Rattle.std.proofs.Math.Option.{Option, none, some}
+use Rattle.std.specs.Prelude.{Bool, true, false, List, [], ◌++◌, ℕ, ◌+◌, ◌-◌, ◌*◌, length, leb, Option, None, Some}
 use Rattle.std.proofs.lemmas.List.Edits.{sets}
 use Rattle.rules.specs.Base.{both}
 use Rattle.rules.specs.File.{Tables, FieldPath, Slot, Anchor, depth}
@@ -151,7 +150,7 @@ with_range n path prefix l =
       plain = l.plain;
       counts = narrowed l.counts;
       guide = l.guide;
-      range = some (record { path = path; prefix = prefix; node = n });
+      range = Some (record { path = path; prefix = prefix; node = n });
       edges = l.edges;
     }
 
@@ -164,7 +163,7 @@ narrow_prefix n path prefix s =
 
 -- "Fuzzy: the guide, if none is set and either building holds or a range has the equal path; building falls. Else a residual."
 unfoldable pub attachable : Level → FieldPath → Bool
-attachable l path = elim l.guide [ some guide ↦ false | none ↦ elim l.building [ true ↦ true | false ↦ range_at l.range path ] ]
+attachable l path = elim l.guide [ Some guide ↦ false | None ↦ elim l.building [ true ↦ true | false ↦ range_at l.range path ] ]
 
 unfoldable pub with_guide : Guide → Level → Level
 with_guide guide l =
@@ -172,7 +171,7 @@ with_guide guide l =
       building = false;
       plain = l.plain;
       counts = narrowed l.counts;
-      guide = some guide;
+      guide = Some guide;
       range = l.range;
       edges = l.edges;
     }
@@ -245,13 +244,13 @@ roomy T (Slot.Value a t) = true
 roomy T (Slot.Const n) = true
 
 unfoldable pub checked_slot : Tables → Option Slot → Option Slot
-checked_slot T none = none
-checked_slot T (some slot) = elim (roomy T slot) [ true ↦ some slot | false ↦ none ]
+checked_slot T None = None
+checked_slot T (Some slot) = elim (roomy T slot) [ true ↦ Some slot | false ↦ None ]
 
 -- what is there, or else another
 abbrev pub or_else : Option Slot → Option Slot → Option Slot
-or_else none other = other
-or_else (some slot) other = some slot
+or_else None other = other
+or_else (Some slot) other = Some slot
 
 -- a name's slot: the walks' own, or else the file's
 unfoldable pub bound_slot : Tables → State → ℕ → Option Slot

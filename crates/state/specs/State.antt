@@ -1,7 +1,6 @@
 -- What the compiler keeps while it walks: the four lists as records in the work area, a level as counts and sizes, and where its bytes go
 -- in the plan.
-use Rattle.std.specs.Prelude.{Bool, true, false, List, [], ◌++◌, ℕ, zero, suc, ◌+◌, ◌-◌, ◌*◌, ◌%◌, get_or, drop, eqb, ltb, leb}
-use Rattle.std.proofs.Math.Option.{Option, none, some}
+use Rattle.std.specs.Prelude.{Bool, true, false, List, [], ◌++◌, ℕ, zero, suc, ◌+◌, ◌-◌, ◌*◌, ◌%◌, get_or, drop, eqb, ltb, leb, Option, None, Some}
 use Rattle.std.proofs.lemmas.List.Edits.{sets}
 use Rattle.std.proofs.Math.Seq.{slice}
 use Rattle.rules.specs.Base.{both}
@@ -97,9 +96,9 @@ new_level =
       building = true;
       plain = true;
       counts = counts 0 0 0 0 0 0 0;
-      guide = none;
-      range = none;
-      edges = record { lo = none; hi = none; folded = [] };
+      guide = None;
+      range = None;
+      edges = record { lo = None; hi = None; folded = [] };
     }
 
 -- Whether a level's parts are joined; where in what its walk writes to its parts, their nodes if the parts are joined, and its residuals
@@ -135,14 +134,14 @@ unless f s = elim s.over [ true ↦ s | false ↦ f s ]
 
 -- the slot of a binding that was read, if it has the name
 unfoldable pub slot_named : ℕ → Read.Read Binding → Option Slot
-slot_named x (Read.got b rest) = elim (eqb b.name x) [ true ↦ some b.slot | false ↦ none ]
-slot_named x (Read.refused k) = none
+slot_named x (Read.got b rest) = elim (eqb b.name x) [ true ↦ Some b.slot | false ↦ None ]
+slot_named x (Read.refused k) = None
 
 -- the slot that the walks have bound a name to, by the tables; `count` is how many bindings they have made
 unfoldable pub made_slot : List ℕ → ℕ → ℕ → Option Slot
 made_slot work count x =
     let n = word_in work (number_at x) in
-    elim (ltb n count) [ true ↦ slot_named x (Read.binding (drop (word_in work (place_at n)) work)) | false ↦ none ]
+    elim (ltb n count) [ true ↦ slot_named x (Read.binding (drop (word_in work (place_at n)) work)) | false ↦ None ]
 
 -- The first n records of a list that grew down from `top`, each of `width` bytes.
 unfoldable pub backwards : ℕ → ℕ → ℕ → List ℕ → List ℕ

@@ -1,10 +1,9 @@
 -- Searches step by step in a run of records, and what the number of a name's last binding tells.
 use Prim.Native.Nat.{ℕ, suc, ◌+◌, ◌*◌, ◌-◌, ◌≤◌, ◌<◌}
 use mathlib.Core.Path.{◌≡◌, refl, sym, ap, ◌∙◌, subst}
-use mathlib.Core.Bool.{Bool, true, false}
+use mathlib.Core.Bool.{Bool, true, false, not}
 use mathlib.Core.List.{List, [], ◌∷◌}
-use mathlib.Core.Option
-use mathlib.Core.Option.{Option, none, some}
+use Rattle.std.specs.Prelude.{Option, None, Some, unwrap_or}
 use native.Mathlib.Nat.{zero-add}
 use native.Mathlib.Omega.{arith}
 use lib.Dec.{eqb}
@@ -25,8 +24,6 @@ use Rattle.file.specs.Sections as Sections
 use Rattle.views.specs.Views.{run, start_at, binding_view, alternative_at, pattern_at, alternative_of, pattern_of, slot_viewed, binding_at, SeenBinding}
 use Rattle.accepted_file.specs.AcceptedFile.{flag}
 use Rattle.tables.specs.Tables.{bound_in, SeenSlot}
-use Rattle.tables.specs.declared.MaybeSlotView.{MaybeSlotView}
-use Rattle.tables.specs.declared.MaybeSlotView.TheVariants as Ms
 use Rattle.tables.proofs.Tags.{no_const}
 use Rattle.views.specs.declared.FieldPattern.{FieldPattern}
 use Rattle.views.specs.declared.Alternative.{Alternative}
@@ -50,21 +47,21 @@ module _ {A : Type 0} (p : A → Bool) (g : ℕ → A) (w n at : ℕ) where
       let m : n ≡ n - 0 = omega arith in
       ap (λ (i : ℕ). first p (run g w n i)) a ∙ ap (λ (i : ℕ). first p (run g w i (at + w * 0))) m
 
-  split : (k : ℕ) → k < n → first_from k ≡ elim (p (g (at + w * k))) [ true ↦ some (g (at + w * k)) | false ↦ first_from (k + 1) ]
+  split : (k : ℕ) → k < n → first_from k ≡ elim (p (g (at + w * k))) [ true ↦ Some (g (at + w * k)) | false ↦ first_from (k + 1) ]
   unfolding first_from first run
   split k h =
       let m : n - k ≡ suc (n - (k + 1)) = omega arith in
       let a : at + w * k + w ≡ at + w * (k + 1) = omega arith in
       ap (λ (i : ℕ). first p (run g w i (at + w * k))) m
-      ∙ ap (λ (i : ℕ). elim (p (g (at + w * k))) [ true ↦ some (g (at + w * k)) | false ↦ first p (run g w (n - (k + 1)) i) ]) a
+      ∙ ap (λ (i : ℕ). elim (p (g (at + w * k))) [ true ↦ Some (g (at + w * k)) | false ↦ first p (run g w (n - (k + 1)) i) ]) a
 
   pub first_more : (k : ℕ) → k < n → p (g (at + w * k)) ≡ false → first_from k ≡ first_from (k + 1)
-  first_more k h e = split k h ∙ ap (λ (b : Bool). elim b [ true ↦ some (g (at + w * k)) | false ↦ first_from (k + 1) ]) e
+  first_more k h e = split k h ∙ ap (λ (b : Bool). elim b [ true ↦ Some (g (at + w * k)) | false ↦ first_from (k + 1) ]) e
 
-  pub first-hit : (k : ℕ) → k < n → p (g (at + w * k)) ≡ true → first_from k ≡ some (g (at + w * k))
-  first-hit k h e = split k h ∙ ap (λ (b : Bool). elim b [ true ↦ some (g (at + w * k)) | false ↦ first_from (k + 1) ]) e
+  pub first-hit : (k : ℕ) → k < n → p (g (at + w * k)) ≡ true → first_from k ≡ Some (g (at + w * k))
+  first-hit k h e = split k h ∙ ap (λ (b : Bool). elim b [ true ↦ Some (g (at + w * k)) | false ↦ first_from (k + 1) ]) e
 
-  pub first-end : (k : ℕ) → n ≤ k → first_from k ≡ none
+  pub first-end : (k : ℕ) → n ≤ k → first_from k ≡ None
   unfolding first_from first run
   first-end k h = let m : n - k ≡ 0 = omega arith in ap (λ (i : ℕ). first p (run g w i (at + w * k))) m
 
@@ -84,25 +81,25 @@ module _ (f : List ℕ) (n at x k : ℕ) where
     pub pattern-more : (v : FieldPattern) → k < n → pattern_of v ≡ pattern_at f (at + 4 * k) → (v.name ≡ x → ⊥) → Seeking (named x) (pattern_at f) 4 n at (k + 1)
     pattern-more v h e d = record { within = omega arith; same = s.same ∙ first_more (named x) (pattern_at f) 4 n at k h (ap (named x) (sym e) ∙ ne_eqb v.name x d) }
 
-    pub pattern-hit : (v : FieldPattern) → k < n → pattern_of v ≡ pattern_at f (at + 4 * k) → v.name ≡ x → some v.node ≡ field_pattern (run (pattern_at f) 4 n at) x
+    pub pattern-hit : (v : FieldPattern) → k < n → pattern_of v ≡ pattern_at f (at + 4 * k) → v.name ≡ x → Some v.node ≡ field_pattern (run (pattern_at f) 4 n at) x
     unfolding field_pattern ◌when_some◌
     pattern-hit v h e d =
-        ap (λ (q : File.FieldPattern). some q.node) e
-        ∙ sym (ap (λ (o : Option File.FieldPattern). o when_some λ q. some q.node) (s.same ∙ first-hit (named x) (pattern_at f) 4 n at k h (ap (named x) (sym e) ∙ eq-eqb v.name x d)))
+        ap (λ (q : File.FieldPattern). Some q.node) e
+        ∙ sym (ap (λ (o : Option File.FieldPattern). o when_some λ q. Some q.node) (s.same ∙ first-hit (named x) (pattern_at f) 4 n at k h (ap (named x) (sym e) ∙ eq-eqb v.name x d)))
 
-    pub pattern-end : n ≤ k → none ≡ field_pattern (run (pattern_at f) 4 n at) x
+    pub pattern-end : n ≤ k → None ≡ field_pattern (run (pattern_at f) 4 n at) x
     unfolding field_pattern ◌when_some◌
-    pattern-end h = sym (ap (λ (o : Option File.FieldPattern). o when_some λ q. some q.node) (s.same ∙ first-end (named x) (pattern_at f) 4 n at k h))
+    pattern-end h = sym (ap (λ (o : Option File.FieldPattern). o when_some λ q. Some q.node) (s.same ∙ first-end (named x) (pattern_at f) 4 n at k h))
 
   module _ (s : Seeking (called x) (alternative_at f) 8 n at k) where
     pub alternative-more : (v : Alternative) → k < n → alternative_of v ≡ alternative_at f (at + 8 * k) → (v.name ≡ x → ⊥) → Seeking (called x) (alternative_at f) 8 n at (k + 1)
     alternative-more v h e d = record { within = omega arith; same = s.same ∙ first_more (called x) (alternative_at f) 8 n at k h (ap (called x) (sym e) ∙ ne_eqb v.name x d) }
 
-    pub alternative-hit : (v : Alternative) → k < n → alternative_of v ≡ alternative_at f (at + 8 * k) → v.name ≡ x → some (alternative_of v) ≡ Constant.alternative_of (run (alternative_at f) 8 n at) x
+    pub alternative-hit : (v : Alternative) → k < n → alternative_of v ≡ alternative_at f (at + 8 * k) → v.name ≡ x → Some (alternative_of v) ≡ Constant.alternative_of (run (alternative_at f) 8 n at) x
     unfolding Constant.alternative_of
-    alternative-hit v h e d = ap some e ∙ sym (s.same ∙ first-hit (called x) (alternative_at f) 8 n at k h (ap (called x) (sym e) ∙ eq-eqb v.name x d))
+    alternative-hit v h e d = ap Some e ∙ sym (s.same ∙ first-hit (called x) (alternative_at f) 8 n at k h (ap (called x) (sym e) ∙ eq-eqb v.name x d))
 
-    pub alternative-end : n ≤ k → none ≡ Constant.alternative_of (run (alternative_at f) 8 n at) x
+    pub alternative-end : n ≤ k → None ≡ Constant.alternative_of (run (alternative_at f) 8 n at) x
     unfolding Constant.alternative_of
     alternative-end h = sym (s.same ∙ first-end (called x) (alternative_at f) 8 n at k h)
 
@@ -112,8 +109,8 @@ no_binding = record { name = 0; slot = Slot.Const 0 }
 
 -- n is 0 where nothing was found, else 1 + the number of what was found among the bindings bs
 abbrev Told : List Binding → ℕ → Option Binding → Type 0
-Told bs n none = n ≡ 0
-Told bs n (some b) = (0 < n) × (n - 1 < length bs) × (b ≡ get_or bs (n - 1) no_binding)
+Told bs n None = n ≡ 0
+Told bs n (Some b) = (0 < n) × (n - 1 < length bs) × (b ≡ get_or bs (n - 1) no_binding)
 
 -- the bindings from number k on
 told-from : (all : List Binding) (x : ℕ) (bs : List Binding) (k n : ℕ) (o : Option Binding) → k + length bs ≤ length all → ((j : ℕ) → j < length bs → get_or all (k + j) no_binding ≡ get_or bs j no_binding) → Told all n o
@@ -122,7 +119,7 @@ unfolding last_from last_or
 told-from all x [] k n o h g t = t
 told-from all x (b ∷ bs) k n o h g t =
     by-test₂ (Told all) (eqb b.name x)
-    (λ q. told-from all x bs (k + 1) (k + 1) (some b) (omega arith) rest (omega arith, omega arith, here))
+    (λ q. told-from all x bs (k + 1) (k + 1) (Some b) (omega arith) rest (omega arith, omega arith, here))
     (λ q. told-from all x bs (k + 1) n o (omega arith) rest t)
   where
     rest : (j : ℕ) → j < length bs → get_or all (k + 1 + j) no_binding ≡ get_or bs j no_binding
@@ -131,95 +128,91 @@ told-from all x (b ∷ bs) k n o h g t =
     here : b ≡ get_or all (k + 1 - 1) no_binding
     here = let e : k + 0 ≡ k + 1 - 1 = omega arith in sym (g 0 (omega arith)) ∙ ap (λ (i : ℕ). get_or all i no_binding) e
 
-none_named : (bs : List Binding) (x : ℕ) → Each (λ b. eqb b.name x ≡ false) bs → last_or none (λ b. eqb b.name x) bs ≡ none
+none_named : (bs : List Binding) (x : ℕ) → Each (λ b. eqb b.name x ≡ false) bs → last_or None (λ b. eqb b.name x) bs ≡ None
 unfolding last_or
 none_named [] x h = refl
 none_named (b ∷ bs) x (more e h) =
-    ap (λ (t : Bool). elim t as (λ _. Option Binding) [ true ↦ last_or (some b) (λ b. eqb b.name x) bs | false ↦ last_or none (λ b. eqb b.name x) bs ]) e ∙ none_named bs x h
+    ap (λ (t : Bool). elim t as (λ _. Option Binding) [ true ↦ last_or (Some b) (λ b. eqb b.name x) bs | false ↦ last_or None (λ b. eqb b.name x) bs ]) e ∙ none_named bs x h
 
 module _ (T : Tables) (x : ℕ) where
   abbrev last : Option Binding
-  last = last_or none (λ b. eqb b.name x) T.bindings
+  last = last_or None (λ b. eqb b.name x) T.bindings
 
   told : (n : ℕ) → n ≡ last_binding T x → Told T.bindings n last
   unfolding last_binding
   told n e =
       subst (λ (i : ℕ). Told T.bindings i last) (sym e)
-      (told-from T.bindings x T.bindings 0 0 none (omega arith) (λ j l. ap (λ (i : ℕ). get_or T.bindings i no_binding) (zero-add j)) refl)
+      (told-from T.bindings x T.bindings 0 0 None (omega arith) (λ j l. ap (λ (i : ℕ). get_or T.bindings i no_binding) (zero-add j)) refl)
 
   -- a name that is none of the file's
-  unnamed : Passed T → length T.names ≤ x → last ≡ none
+  unnamed : Passed T → length T.names ≤ x → last ≡ None
   unfolding binding_in is_name
   unnamed k h =
       none_named T.bindings x
       (each-imply (λ b e. let l : b.name < length T.names = ltb-lt _ _ (both_left (is_name T b.name) _ e) in ne_eqb b.name x (λ q. omega arith)) (numbers-in T k).bindings)
 
-  pub no_name : Passed T → length T.names ≤ x → none ≡ lookup T.bindings x
+  pub no_name : Passed T → length T.names ≤ x → None ≡ lookup T.bindings x
   unfolding lookup ◌when_some◌
-  no_name k h = sym (ap (λ (o : Option Binding). o when_some λ b. some b.slot) (unnamed k h))
+  no_name k h = sym (ap (λ (o : Option Binding). o when_some λ b. Some b.slot) (unnamed k h))
 
   pub no_last : Passed T → length T.names ≤ x → last_binding T x ≡ 0
   no_last k h = subst (Told T.bindings (last_binding T x)) (unnamed k h) (told (last_binding T x) refl)
 
-  pub last_none : (n : ℕ) → n ≡ last_binding T x → n ≡ 0 → none ≡ lookup T.bindings x
+  pub last_none : (n : ℕ) → n ≡ last_binding T x → n ≡ 0 → None ≡ lookup T.bindings x
   unfolding lookup ◌when_some◌
   last_none n e z = go last (told n e)
     where
-      go : (o : Option Binding) → Told T.bindings n o → none ≡ (o when_some λ b. some b.slot)
-      go none t = refl
-      go (some b) t = absurd (omega (arith, t.0))
+      go : (o : Option Binding) → Told T.bindings n o → None ≡ (o when_some λ b. Some b.slot)
+      go None t = refl
+      go (Some b) t = absurd (omega (arith, t.0))
 
-  pub last_some : (n : ℕ) → n ≡ last_binding T x → (n ≡ 0 → ⊥) → (n - 1 < length T.bindings) × (some (binding_at T (n - 1)).slot ≡ lookup T.bindings x)
+  pub last_some : (n : ℕ) → n ≡ last_binding T x → (n ≡ 0 → ⊥) → (n - 1 < length T.bindings) × (Some (binding_at T (n - 1)).slot ≡ lookup T.bindings x)
   unfolding lookup binding_at ◌when_some◌
   last_some n e z = go last (told n e)
     where
-      go : (o : Option Binding) → Told T.bindings n o → (n - 1 < length T.bindings) × (some (get_or T.bindings (n - 1) no_binding).slot ≡ (o when_some λ b. some b.slot))
-      go none t = absurd (z t)
-      go (some b) t = (t.1, ap (λ (b : Binding). some b.slot) (sym t.2))
+      go : (o : Option Binding) → Told T.bindings n o → (n - 1 < length T.bindings) × (Some (get_or T.bindings (n - 1) no_binding).slot ≡ (o when_some λ b. Some b.slot))
+      go None t = absurd (z t)
+      go (Some b) t = (t.1, ap (λ (b : Binding). Some b.slot) (sym t.2))
 
 -- the binding that was found, as its view has it
-pub last-slot : (f : List ℕ) (o : Option Slot) (b : Binding) (v : BindingView) → SeenBinding f b v → some b.slot ≡ o → SeenSlot f o (Ms.Just v.slot)
-last-slot f o b v s e = record { is = ap (λ (b : Binding). some b.slot) s.is ∙ e; inside = s.inside }
+pub last-slot : (f : List ℕ) (o : Option Slot) (b : Binding) (v : BindingView) → SeenBinding f b v → Some b.slot ≡ o → SeenSlot f o (Some v.slot)
+last-slot f o b v s e = record { is = ap (λ (b : Binding). Some b.slot) s.is ∙ e; inside = s.inside }
 
 -- the same by the number that the index has
 module _ (f ix : List ℕ) (n m : ℕ) (e : n ≡ m) where
-  pub bound-none : n ≡ 0 → Ms.Nothing ≡ bound_in f ix m
+  pub bound-none : n ≡ 0 → None ≡ bound_in f ix m
   bound-none z = ap (bound_in f ix) (sym z ∙ e)
 
-  pub bound_some : (v : BindingView) → (n ≡ 0 → ⊥) → v ≡ binding_view f (start_at ix Sections.bindings (n - 1)) → Ms.Just v.slot ≡ bound_in f ix m
+  pub bound_some : (v : BindingView) → (n ≡ 0 → ⊥) → v ≡ binding_view f (start_at ix Sections.bindings (n - 1)) → Some v.slot ≡ bound_in f ix m
   bound_some v z g =
       let s : suc (n - 1) ≡ n = omega arith in
-      ap (λ (b : BindingView). Ms.Just b.slot) g ∙ ap (bound_in f ix) (s ∙ e)
+      ap (λ (b : BindingView). Some b.slot) g ∙ ap (bound_in f ix) (s ∙ e)
 
 -- the Const of the slot that was found
-module _ (f : List ℕ) (o : Option Slot) (r : MaybeSlotView) (s : SeenSlot f o r) where
-  pub const-none : r ≡ Ms.Nothing → none ≡ (o when_some const_node)
+module _ (f : List ℕ) (o : Option Slot) (r : Option SlotView) (s : SeenSlot f o r) where
+  pub const-none : r ≡ None → None ≡ (o when_some const_node)
   unfolding ◌when_some◌
   const-none e = ap (λ (q : Option Slot). q when_some const_node) (subst (SeenSlot f o) e s).is
 
-  pub const-is : (v : SlotView) → r ≡ Ms.Just v → (m : ℕ) → v ≡ Sv.Const m → some m ≡ (o when_some const_node)
+  pub const-is : (v : SlotView) → r ≡ Some v → (m : ℕ) → v ≡ Sv.Const m → Some m ≡ (o when_some const_node)
   unfolding ◌when_some◌ const_node
   const-is v e m d = ap (λ (w : SlotView). const_node (slot_viewed f w)) (sym d) ∙ ap (λ (q : Option Slot). q when_some const_node) (subst (SeenSlot f o) e s).is
 
-  pub const-not : (v : SlotView) → r ≡ Ms.Just v → OneOf (0 ∷ 1 ∷ 2 ∷ 3 ∷ 4 ∷ []) (tag_of SlotViews.the_type v) → none ≡ (o when_some const_node)
+  pub const-not : (v : SlotView) → r ≡ Some v → OneOf (0 ∷ 1 ∷ 2 ∷ 3 ∷ 4 ∷ []) (tag_of SlotViews.the_type v) → None ≡ (o when_some const_node)
   unfolding ◌when_some◌
   const-not v e w = sym (no_const f v w) ∙ ap (λ (q : Option Slot). q when_some const_node) (subst (SeenSlot f o) e s).is
 
 -- what a node stands for
 module _ (T : Tables) (n : ℕ) where
-  pub stands_self : none ≡ var_name (node_at T n) → n ≡ stands_for T n
+  pub stands_self : None ≡ var_name (node_at T n) → n ≡ stands_for T n
   unfolding stands_for const_of ◌when_some◌
-  stands_self e = ap (λ (o : Option ℕ). Option.get_or (o when_some λ x. lookup T.bindings x when_some const_node) n) e
+  stands_self e = ap (λ (o : Option ℕ). unwrap_or (o when_some λ x. lookup T.bindings x when_some const_node) n) e
 
-  pub stands-bound : (x : ℕ) (o : Option ℕ) → some x ≡ var_name (node_at T n) → o ≡ const_bound T.bindings x → Option.get_or o n ≡ stands_for T n
+  pub stands-bound : (x : ℕ) (o : Option ℕ) → Some x ≡ var_name (node_at T n) → o ≡ const_bound T.bindings x → unwrap_or o n ≡ stands_for T n
   unfolding stands_for const_of ◌when_some◌
-  stands-bound x o e b = ap (λ (q : Option ℕ). Option.get_or q n) b ∙ ap (λ (o : Option ℕ). Option.get_or (o when_some λ x. lookup T.bindings x when_some const_node) n) e
+  stands-bound x o e b = ap (λ (q : Option ℕ). unwrap_or q n) b ∙ ap (λ (o : Option ℕ). unwrap_or (o when_some λ x. lookup T.bindings x when_some const_node) n) e
 
 -- a flag that was read
-pub flag-zero : (b : Bool) → flag b ≡ 0 → false ≡ b
-flag-zero true e = absurd (omega arith)
-flag-zero false e = refl
-
-pub flag_one : {n : ℕ} (b : Bool) → n ≡ flag b → (n ≡ 0 → ⊥) → true ≡ b
-flag_one true e d = refl
-flag_one false e d = absurd (d e)
+pub flag-read : {n : ℕ} (b : Bool) → n ≡ flag b → not (eqb n 0) ≡ b
+flag-read true e = ap (λ (k : ℕ). not (eqb k 0)) e
+flag-read false e = ap (λ (k : ℕ). not (eqb k 0)) e

@@ -1,29 +1,37 @@
--- Where a byte stands, one place after another.
-use mathlib.Core.List.{List, ◌∷◌}
-use mathlib.Core.Path.{◌≡◌, refl, ap, ◌∙◌}
+-- Where a byte stands, by the first place that has it.
+use mathlib.Core.Bool.{Bool, true, false}
+use mathlib.Core.List.{List, [], ◌∷◌}
+use mathlib.Core.Path.{◌≡◌, refl, ap}
 use Prim.Native.Nat.{ℕ, suc, ◌+◌, ◌≤◌, ◌<◌}
 use native.Mathlib.Omega.{arith}
-use native.Mathlib.Numerals.{add-one}
 use borrow.Author.Tests.{eq-eqb, ne_eqb}
-use lib.ListN.{length, get_or, take, drop_of_length-le}
-use lib.Seq.{drop-cons, length-take-le, get_or-take}
-use Rattle.tally.specs.Bytes.{index_of, index_after, slice}
+use lib.Dec.{eqb}
+use lib.ListN.{length}
+use Rattle.std.proofs.Common.{Option, unwrap_or}
+use Rattle.std.proofs.lemmas.Iterator.{index_from_first}
+use Rattle.std.specs.List.{AllWithin, HoldsAt}
+use Rattle.std.specs.Option.{MatchOption}
+use Rattle.tally.specs.Bytes.{index_of, index_after}
 
-module _ (t : List ℕ) (i to : ℕ) (h : i < to) (g : to ≤ length t) where
-  slice-more : slice i to t ≡ get_or t i 0 ∷ slice (i + 1) to t
-  unfolding slice
-  slice-more =
-      let k : i < length (take to t) = omega (arith, length-take-le to t g) in
-      drop-cons (take to t) i 0 k ∙ rw (add-one, get_or-take to t i 0 h) refl
-
-  pub found-here : (b : ℕ) → get_or t i 0 ≡ b → index_of b (slice i to t) ≡ 0
+module _ (b : ℕ) where
+  index-hit : (x : ℕ) (xs : List ℕ) → x ≡ b → index_of b (x ∷ xs) ≡ 0
   unfolding index_of
-  found-here b e = ap (index_of b) slice-more ∙ ap (λ r. index_after r (index_of b (slice (i + 1) to t))) (eq-eqb (get_or t i 0) b e)
+  index-hit x xs e = ap (λ r. index_after r (index_of b xs)) (eq-eqb x b e)
 
-  pub found-later : (b : ℕ) → (get_or t i 0 ≡ b → ⊥) → index_of b (slice i to t) ≡ suc (index_of b (slice (i + 1) to t))
+  index-miss : (x : ℕ) (xs : List ℕ) → (x ≡ b → ⊥) → index_of b (x ∷ xs) ≡ index_of b xs + 1
   unfolding index_of
-  found-later b n = ap (index_of b) slice-more ∙ ap (λ r. index_after r (index_of b (slice (i + 1) to t))) (ne_eqb (get_or t i 0) b n)
+  index-miss x xs n = let e : index_after (eqb x b) (index_of b xs) ≡ suc (index_of b xs) = ap (λ r. index_after r (index_of b xs)) (ne_eqb x b n) in omega (arith, e)
 
-pub found-none : (t : List ℕ) (to b : ℕ) → to ≤ length t → index_of b (slice to to t) ≡ 0
-unfolding index_of slice
-found-none t to b g = ap (index_of b) (drop_of_length-le {A = ℕ} (take to t) (omega (arith, length-take-le to t g)))
+  pub index-first : (xs : List ℕ) (r : Option ℕ) → MatchOption r (AllWithin (λ x. x ≡ b → ⊥) xs 0 (length xs))
+      (λ i. (i < length xs) × HoldsAt (λ x. x ≡ b) xs i × AllWithin (λ x. x ≡ b → ⊥) xs 0 i) → index_of b xs ≡ unwrap_or r (length xs)
+  unfolding index_of
+  index-first = index_from_first (index_of b) (λ x. x ≡ b) (λ x. x ≡ b → ⊥) refl index-hit index-miss
+
+  pub index_within : (xs : List ℕ) → index_of b xs ≤ length xs
+  unfolding index_of
+  index_within [] = omega arith
+  index_within (x ∷ xs) = go (eqb x b) (index_within xs)
+    where
+      go : (t : Bool) → index_of b xs ≤ length xs → index_after t (index_of b xs) ≤ length (x ∷ xs)
+      go true h = omega arith
+      go false h = omega arith

@@ -1,63 +1,75 @@
 -- A text's lines, one by one.
-use mathlib.Core.Bool.{Bool, true, false}
-use mathlib.Core.List.{List, [], ◌∷◌}
-use mathlib.Core.Path.{◌≡◌, refl, sym, ap, ap₂, ◌∙◌}
-use Prim.Native.Nat.{ℕ, suc, ◌+◌, ◌-◌, ◌≤◌, ◌<◌}
-use native.Mathlib.Nat.{not-suc-le-zero, le_of_suc-le-suc}
+use mathlib.Core.Bool.{Bool, true, false, cond}
+use mathlib.Core.List.{List, [], ◌∷◌, ◌++◌, map}
+use mathlib.Core.Path.{◌≡◌, refl, sym, ap, ◌∙◌}
+use denote.Ref.{Bor}
+use Prim.Native.Nat.{ℕ, ◌+◌, ◌≤◌}
 use native.Mathlib.Omega.{arith}
 use lib.Dec.{eqb}
-use lib.ListN.{length, take, drop, drop_of_length-le, length-drop}
-use lib.Seq.{take_all, take-length, drop-drop}
-use Rattle.tally.specs.Bytes.{index_of, index_after, slice}
+use lib.ListN.{length, length-append}
+use Rattle.std.proofs.lemmas.List.{map-append}
+use Rattle.std.specs.List.{slice_split, onto_first}
 use Rattle.tally.specs.declared.Tally.{Tally}
-use Rattle.tally.specs.Tallies.{joined, split, skipped, counted, tallied}
-use Rattle.tally.proofs.Counts.{counted-skipped}
+use Rattle.tally.specs.Tallies.{joined, split, counted, tallied, none}
+use Rattle.tally.proofs.Counts.{counted-within}
 
--- up to the first line end
-split-line : (t : List ℕ) → index_of 10 t < length t → split t ≡ take (index_of 10 t) t ∷ split (drop (suc (index_of 10 t)) t)
-unfolding split index_of joined
-split-line [] h = absurd (not-suc-le-zero h)
-split-line (x ∷ xs) h = go (eqb x 10) (split-line xs) h
+joined-is : (x : ℕ) (ls : List (List ℕ)) → onto_first x ls ≡ joined x ls
+unfolding joined
+joined-is x [] = refl
+joined-is x (l ∷ ls) = refl
+
+-- the lines are what std's `split` gives
+abbrev parts : List ℕ → List (List ℕ)
+parts text = slice_split (λ b. eqb b 10) text
+
+split-is : (text : List ℕ) → parts text ≡ split text
+unfolding split
+split-is [] = refl
+split-is (x ∷ xs) = go (eqb x 10) (split-is xs)
   where
-    go : (b : Bool) → (index_of 10 xs < length xs → split xs ≡ take (index_of 10 xs) xs ∷ split (drop (suc (index_of 10 xs)) xs)) → index_after b (index_of 10 xs) < length (x ∷ xs) → (elim b [ true ↦ [] ∷ split xs | false ↦ joined x (split xs) ]) ≡ take (index_after b (index_of 10 xs)) (x ∷ xs) ∷ split (drop (suc (index_after b (index_of 10 xs))) (x ∷ xs))
-    go true f k = refl
-    go false f k = ap (joined x) (f (le_of_suc-le-suc k))
+    go : (b : Bool) → parts xs ≡ split xs → cond b ([] ∷ parts xs) (onto_first x (parts xs)) ≡ elim b [ true ↦ [] ∷ split xs | false ↦ joined x (split xs) ]
+    go true e = ap (λ (ls : List (List ℕ)). [] ∷ ls) e
+    go false e = ap (onto_first x) e ∙ joined-is x (split xs)
 
-split-last : (t : List ℕ) → length t ≤ index_of 10 t → split t ≡ t ∷ []
-unfolding split index_of joined
-split-last [] h = refl
-split-last (x ∷ xs) h = go (eqb x 10) (split-last xs) h
+-- they are no more than the bytes and one
+joined-most : (x : ℕ) (ls : List (List ℕ)) → length (onto_first x ls) ≤ length ls + 1
+joined-most x [] = omega arith
+joined-most x (l ∷ ls) = omega arith
+
+pub parts-most : (text : List ℕ) → length (parts text) ≤ length text + 1
+parts-most [] = omega arith
+parts-most (x ∷ xs) = go (eqb x 10) (parts-most xs)
   where
-    go : (b : Bool) → (length xs ≤ index_of 10 xs → split xs ≡ xs ∷ []) → length (x ∷ xs) ≤ index_after b (index_of 10 xs) → (elim b [ true ↦ [] ∷ split xs | false ↦ joined x (split xs) ]) ≡ (x ∷ xs) ∷ []
-    go true f k = absurd (not-suc-le-zero k)
-    go false f k = ap (joined x) (f (le_of_suc-le-suc k))
+    go : (b : Bool) → length (parts xs) ≤ length xs + 1 → length (cond b ([] ∷ parts xs) (onto_first x (parts xs))) ≤ length (x ∷ xs) + 1
+    go true h = omega arith
+    go false h = omega (arith, h, joined-most x (parts xs))
 
--- what is left of a text from a place on
-module _ (agrees : List ℕ → Bool) (text : List ℕ) (t : Tally) (at : ℕ) where
-  pub left-none : length text ≤ at → tallied agrees (split (drop at text)) t ≡ t
-  unfolding tallied split skipped
-  left-none h = ap (λ (l : List ℕ). tallied agrees (split l) t) (drop_of_length-le text h) ∙ sym (counted-skipped agrees [] t refl)
+module _ (agrees : List ℕ → Bool) where
+  tallied-more : (ls : List (List ℕ)) (l : List ℕ) (t : Tally) → tallied agrees (ls ++ l ∷ []) t ≡ counted agrees l (tallied agrees ls t)
+  unfolding tallied
+  tallied-more [] l t = refl
+  tallied-more (x ∷ xs) l t = tallied-more xs l (counted agrees x t)
 
-  module _ (e : ℕ) (is : e ≡ at + index_of 10 (slice at (length text) text)) where
-    found : index_of 10 (drop at text) ≡ e - at
-    unfolding slice
-    found = ap (λ (l : List ℕ). index_of 10 (drop at l)) (sym (take-length text)) ∙ omega (arith, is)
+  -- the tally t of the lines so far
+  pub record Tallied (ls : List (Bor (List ℕ))) (t : Tally) : Type 0 where
+    pub is : t ≡ tallied agrees (map (λ l. l.now) ls) none
+    pub compared : t.compared ≤ length ls
+    pub different : t.different ≤ length ls
 
-    after : at ≤ e
-    after = omega (arith, is)
+  pub lines-none : Tallied [] none
+  unfolding tallied
+  lines-none = record { is = refl; compared = omega arith; different = omega arith }
 
-    pub left-more : e < length text → (u : Tally) → u ≡ counted agrees (take (e - at) (drop at text)) t → tallied agrees (split (drop at text)) t ≡ tallied agrees (split (drop (e + 1) text)) u
-    unfolding tallied
-    left-more h u c =
-        let k : index_of 10 (drop at text) < length (drop at text) = omega (arith, found, after, length-drop at text) in
-        let n : at + suc (index_of 10 (drop at text)) ≡ e + 1 = omega (arith, found, after) in
-        ap (λ (ls : List (List ℕ)). tallied agrees ls t) (split-line (drop at text) k)
-        ∙ ap₂ (λ (i : ℕ) (l : List ℕ). tallied agrees (split l) (counted agrees (take i (drop at text)) t)) found (drop-drop (suc (index_of 10 (drop at text))) at text ∙ ap (λ (i : ℕ). drop i text) n)
-        ∙ ap (tallied agrees (split (drop (e + 1) text))) (sym c)
+  pub lines-more : (ls : List (Bor (List ℕ))) (l : Bor (List ℕ)) (t u : Tally) → Tallied ls t → u ≡ counted agrees l.now t → Tallied (ls ++ l ∷ []) u
+  lines-more ls l t u c e =
+      let w = counted-within agrees l.now t u e in
+      record {
+        is =
+            e ∙ ap (counted agrees l.now) c.is ∙ sym (tallied-more (map (λ m. m.now) ls) l.now none)
+            ∙ ap (λ (ms : List (List ℕ)). tallied agrees ms none) (sym (map-append (λ m. m.now) ls (l ∷ [])));
+        compared = omega (arith, w.0, c.compared, length-append ls (l ∷ []));
+        different = omega (arith, w.1, c.different, length-append ls (l ∷ []));
+      }
 
-    pub left-last : e ≡ length text → tallied agrees (split (drop at text)) t ≡ counted agrees (take (e - at) (drop at text)) t
-    unfolding tallied
-    left-last h =
-        let k : length (drop at text) ≤ index_of 10 (drop at text) = omega (arith, found, after, h, length-drop at text) in
-        ap (λ (ls : List (List ℕ)). tallied agrees ls t) (split-last (drop at text) k)
-        ∙ ap (λ (l : List ℕ). counted agrees l t) (sym (take_all (e - at) (drop at text) (omega (arith, h, length-drop at text))))
+  pub lines_all : (ls : List (Bor (List ℕ))) (text : List ℕ) (t : Tally) → Tallied ls t → map (λ l. l.now) ls ≡ parts text → t ≡ tallied agrees (split text) none
+  lines_all ls text t c e = c.is ∙ ap (λ (ms : List (List ℕ)). tallied agrees ms none) (e ∙ split-is text)

@@ -17,10 +17,7 @@ pub struct Tally {
 pub fn skipped(line: &[u8]) -> bool
     ensures { result ≡ Tallies.skipped line.now }
 {
-    if line.len() == 0 {
-        return true;
-    }
-    line[0] == b'#'
+    line.is_empty() || line[0] == b'#'
 }
 
 impl Tally {
@@ -50,14 +47,8 @@ pub fn find(text: &[u8], from: usize, to: usize, b: u8) -> usize
     ensures finds { result ≡ from + index_of b (slice from to text.now) }
     ensures bounded { result ≤ to }
 {
-    let mut i = from;
-    while i < to {
-        if text[i] == b {
-            return i;
-        }
-        i += 1;
-    }
-    i
+    let part = &text[from..to];
+    from + part.iter().position(|c| *c == b).unwrap_or(part.len())
 }
 
 // Whether two texts are the same.

@@ -1,6 +1,6 @@
 -- Constants at numbers past the tables' ends.
 use mathlib.Core.List.{List, [], ◌∷◌}
-use mathlib.Core.Option.{Option, none, some, get_or}
+use Rattle.std.specs.Prelude.{Option, None, Some, unwrap_or}
 use mathlib.Core.Path.{◌≡◌, refl, sym, ap, ◌∙◌}
 use Prim.Native.Nat.{ℕ, zero, suc, ◌≤◌, min}
 use native.Mathlib.Omega.{arith}
@@ -23,7 +23,7 @@ use Rattle.encode.proofs.Puts.{wrote_as}
 use Rattle.records.proofs.Stores.{put-none}
 
 module _ (T : Tables) (n t : ℕ) where
-  no-types : length T.types ≡ 0 → ConstantRules.constant T n t ≡ none
+  no-types : length T.types ≡ 0 → ConstantRules.constant T n t ≡ None
   unfolding ConstantRules.constant constant_below
   no-types e = ap (λ (k : ℕ). constant_below T k n t) e
 
@@ -32,23 +32,23 @@ module _ (T : Tables) (n t : ℕ) where
   unfolding stands_for const_of var_name node_at ◌when_some◌
   stands-itself h =
       let e : node_at T n ≡ Node.Error = get_or-eq_default T.nodes Node.Error h in
-      ap (λ (v : Node). node_at T (get_or (const_of T.bindings v) n)) e ∙ e
+      ap (λ (v : Node). node_at T (unwrap_or (const_of T.bindings v) n)) e ∙ e
 
-  below_none : (limit : ℕ) → node_at T (stands_for T n) ≡ Node.Error → constant_below T limit n t ≡ none
+  below_none : (limit : ℕ) → node_at T (stands_for T n) ≡ Node.Error → constant_below T limit n t ≡ None
   unfolding constant_below constant_node
   below_none zero e = refl
   below_none (suc limit) e = ap (λ (v : Node). constant_node T (constant_below T limit) v (type_at T t)) e
 
-  pub node-past : length T.nodes ≤ n → Co.Nothing ≡ const_view T n t
+  pub node-past : length T.nodes ≤ n → None ≡ const_view T n t
   unfolding const_view ConstantRules.constant
   node-past h = sym (ap (view_of T n t) (below_none (length T.types) (stands-itself h)))
 
-  pub none-typed : (k : ℕ) → k ≡ length T.types → k ≡ 0 → Co.Nothing ≡ const_view T n t
+  pub none-typed : (k : ℕ) → k ≡ length T.types → k ≡ 0 → None ≡ const_view T n t
   unfolding const_view
   none-typed k e z = sym (ap (view_of T n t) (no-types (sym e ∙ z)))
 
 -- at Int only an Int node has a constant
-int-only : (T : Tables) (b : ℕ → ℕ → Option ConstantRules.Const) (f : List ℕ) (v : NodeView) → OneOf (1 ∷ 2 ∷ 3 ∷ 4 ∷ 5 ∷ 6 ∷ 7 ∷ 8 ∷ 9 ∷ 10 ∷ 11 ∷ 12 ∷ 13 ∷ 14 ∷ 15 ∷ 16 ∷ []) (tag_of NodeViews.the_type v) → constant_node T b (node_of f v) Ty.Int ≡ none
+int-only : (T : Tables) (b : ℕ → ℕ → Option ConstantRules.Const) (f : List ℕ) (v : NodeView) → OneOf (1 ∷ 2 ∷ 3 ∷ 4 ∷ 5 ∷ 6 ∷ 7 ∷ 8 ∷ 9 ∷ 10 ∷ 11 ∷ 12 ∷ 13 ∷ 14 ∷ 15 ∷ 16 ∷ []) (tag_of NodeViews.the_type v) → constant_node T b (node_of f v) Ty.Int ≡ None
 unfolding constant_node at_int at_str at_bytes constant_record
 int-only T b f (Nv.Int at) w = absurd (miss (1 ∷ 2 ∷ 3 ∷ 4 ∷ 5 ∷ 6 ∷ 7 ∷ 8 ∷ 9 ∷ 10 ∷ 11 ∷ 12 ∷ 13 ∷ 14 ∷ 15 ∷ 16 ∷ []) 0 tt w)
 int-only T b f (Nv.Str x) w = refl
@@ -80,16 +80,16 @@ module _ (f : List ℕ) (T : Tables) (n t m : ℕ) (v : NodeView) (past : length
   unfolding constant_below
   below-is limit = ap (λ (x : Node). constant_node T (constant_below T limit) x (type_at T t)) seen ∙ ap (constant_node T (constant_below T limit) (node_of f v)) is-int
 
-  below_other : OneOf (1 ∷ 2 ∷ 3 ∷ 4 ∷ 5 ∷ 6 ∷ 7 ∷ 8 ∷ 9 ∷ 10 ∷ 11 ∷ 12 ∷ 13 ∷ 14 ∷ 15 ∷ 16 ∷ []) (tag_of NodeViews.the_type v) → (limit : ℕ) → constant_below T limit n t ≡ none
+  below_other : OneOf (1 ∷ 2 ∷ 3 ∷ 4 ∷ 5 ∷ 6 ∷ 7 ∷ 8 ∷ 9 ∷ 10 ∷ 11 ∷ 12 ∷ 13 ∷ 14 ∷ 15 ∷ 16 ∷ []) (tag_of NodeViews.the_type v) → (limit : ℕ) → constant_below T limit n t ≡ None
   unfolding constant_below
   below_other w zero = refl
   below_other w (suc limit) = below-is limit ∙ int-only T (constant_below T limit) f v w
 
-  other : OneOf (1 ∷ 2 ∷ 3 ∷ 4 ∷ 5 ∷ 6 ∷ 7 ∷ 8 ∷ 9 ∷ 10 ∷ 11 ∷ 12 ∷ 13 ∷ 14 ∷ 15 ∷ 16 ∷ []) (tag_of NodeViews.the_type v) → ConstantRules.constant T n t ≡ none
+  other : OneOf (1 ∷ 2 ∷ 3 ∷ 4 ∷ 5 ∷ 6 ∷ 7 ∷ 8 ∷ 9 ∷ 10 ∷ 11 ∷ 12 ∷ 13 ∷ 14 ∷ 15 ∷ 16 ∷ []) (tag_of NodeViews.the_type v) → ConstantRules.constant T n t ≡ None
   unfolding ConstantRules.constant
   other w = below_other w (length T.types)
 
-  pub past-other : OneOf (1 ∷ 2 ∷ 3 ∷ 4 ∷ 5 ∷ 6 ∷ 7 ∷ 8 ∷ 9 ∷ 10 ∷ 11 ∷ 12 ∷ 13 ∷ 14 ∷ 15 ∷ 16 ∷ []) (tag_of NodeViews.the_type v) → Co.Nothing ≡ const_view T n t
+  pub past-other : OneOf (1 ∷ 2 ∷ 3 ∷ 4 ∷ 5 ∷ 6 ∷ 7 ∷ 8 ∷ 9 ∷ 10 ∷ 11 ∷ 12 ∷ 13 ∷ 14 ∷ 15 ∷ 16 ∷ []) (tag_of NodeViews.the_type v) → None ≡ const_view T n t
   unfolding const_view
   past-other w = sym (ap (view_of T n t) (other w))
 
@@ -103,7 +103,7 @@ module _ (f : List ℕ) (T : Tables) (n t m : ℕ) (v : NodeView) (past : length
     abbrev pub int : List ℕ
     int = encode_int (run (byte_at f) 1 8 p)
 
-    int_is : (limit : ℕ) → (limit ≡ 0 → ⊥) → constant_below T limit n t ≡ some (ConstantRules.Const.Bytes int)
+    int_is : (limit : ℕ) → (limit ≡ 0 → ⊥) → constant_below T limit n t ≡ Some (ConstantRules.Const.Bytes int)
     unfolding constant_node at_int
     int_is zero z = absurd (z refl)
     int_is (suc limit) z = below-is limit ∙ ap (λ (x : NodeView). constant_node T (constant_below T limit) (node_of f x) Ty.Int) ev
@@ -112,11 +112,11 @@ module _ (f : List ℕ) (T : Tables) (n t m : ℕ) (v : NodeView) (past : length
     unfolding encode_int flip_sign run
     nine = refl
 
-    pub past-int : (k : ℕ) → k ≡ length T.types → (k ≡ 0 → ⊥) → Co.Bytes n t 9 ≡ const_view T n t
+    pub past-int : (k : ℕ) → k ≡ length T.types → (k ≡ 0 → ⊥) → Some (Co.Bytes n t 9) ≡ const_view T n t
     unfolding const_view ConstantRules.constant
     past-int k ek z =
         let e : 9 ≡ min cap (length int) = omega (arith, nine) in
-        ap (Co.Bytes n t) e ∙ sym (ap (view_of T n t) (int_is (length T.types) (λ q. z (ek ∙ q))))
+        ap (λ (k : ℕ). Some (Co.Bytes n t k)) e ∙ sym (ap (view_of T n t) (int_is (length T.types) (λ q. z (ek ∙ q))))
 
     some-types : (at : ℕ) → RoomForBytes (bytes_of T n t) at → length T.types ≡ 0 → ⊥
     unfolding bytes_of ◌when_some◌

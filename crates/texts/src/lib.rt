@@ -21,20 +21,20 @@ use tables::folded;
 use views::{NodeView, count_of, node_at};
 
 // A constant at a type past the file's own, which is Int to the written rules.
-fn past_constant(file: &[u8], index: &[u16], node: usize, ty: usize) -> Const
+fn past_constant(file: &[u8], index: &[u16], node: usize, ty: usize) -> Option<Const>
     requires accepted_file { AcceptedFile file.now index.now }
     requires node_in_bounds { node < length (tables_of file.now).nodes }
     requires file_len_bound { length (tables_of file.now).types ≤ ty }
     ensures { result ≡ const_view (tables_of file.now) node ty }
 {
     if count_of(file, index, TYPES) == 0 {
-        return Const::Nothing;
+        return None;
     }
     let m = folded(file, index, node);
     if let NodeView::Int(_) = node_at(file, index, m) {
-        Const::Bytes(node, ty, 9)
+        Some(Const::Bytes(node, ty, 9))
     } else {
-        Const::Nothing
+        None
     }
 }
 
@@ -53,12 +53,12 @@ fn put_past(file: &[u8], index: &[u16], buf: &mut [u8], at: usize, node: usize, 
     }
 }
 
-fn any_constant(file: &[u8], index: &[u16], node: usize, ty: usize) -> Const
+fn any_constant(file: &[u8], index: &[u16], node: usize, ty: usize) -> Option<Const>
     requires { AcceptedFile file.now index.now }
     ensures { result ≡ const_view (tables_of file.now) node ty }
 {
     if node >= count_of(file, index, NODES) {
-        return Const::Nothing;
+        return None;
     }
     if ty < count_of(file, index, TYPES) {
         constant(file, index, node, ty)
@@ -72,8 +72,10 @@ fn bytes_len(file: &[u8], index: &[u16], node: usize, ty: usize) -> usize
     requires { AcceptedFile file.now index.now }
     ensures { result ≡ min cap (length (constant_bytes (tables_of file.now) node ty)) }
 {
-    match any_constant(file, index, node, ty) {
-        Const::Nothing => 0,
+    let Some(known) = any_constant(file, index, node, ty) else {
+        return 0;
+    };
+    match known {
         Const::Bytes(_, _, n) => n,
         Const::Prefix(_) => 0,
         Const::Fuzzy(_, _, _) => 0,
@@ -98,15 +100,14 @@ fn put_text(file: &[u8], index: &[u16], buf: &mut [u8], at: usize, node: usize, 
     }
 }
 
-// The length of an edge in the plan, up to the cap; one that is not set is a single byte.
-pub fn edge_len(file: &[u8], index: &[u16], e: Edge) -> usize
+// The length of an edge in the plan, up to the cap; where there is none, a single byte.
+pub fn edge_len(file: &[u8], index: &[u16], e: Option<Edge>) -> usize
     requires { AcceptedFile file.now index.now }
     ensures { result ≡ min cap (length (Plan.edge (edge_of (tables_of file.now) e))) }
 {
-    if e.set {
-        capped(3, bytes_len(file, index, e.node as usize, e.ty as usize))
-    } else {
-        1
+    match e {
+        Some(e) => capped(3, bytes_len(file, index, e.node as usize, e.ty as usize)),
+        None => 1,
     }
 }
 
@@ -117,17 +118,20 @@ fn inclusive(e: Edge) -> u8
 }
 
 // Writes an edge, and gives where it ends.
-pub fn put_edge(file: &[u8], index: &[u16], buf: &mut [u8], at: usize, e: Edge) -> usize
+pub fn put_edge(file: &[u8], index: &[u16], buf: &mut [u8], at: usize, e: Option<Edge>) -> usize
     requires accepted_file { AcceptedFile file.now index.now }
     requires at_bound { (at ≤ 524288) × (length (Plan.edge (edge_of (tables_of file.now) e)) ≤ cap) }
     ensures { Wrote (Plan.edge (edge_of (tables_of file.now) e)) at buf.old result buf.new }
 {
-    if e.set {
-        put8(buf, at, inclusive(e));
-        put_text(file, index, buf, at + 1, e.node as usize, e.ty as usize)
-    } else {
-        put8(buf, at, 0);
-        at + 1
+    match e {
+        Some(e) => {
+            put8(buf, at, inclusive(e));
+            put_text(file, index, buf, at + 1, e.node as usize, e.ty as usize)
+        }
+        None => {
+            put8(buf, at, 0);
+            at + 1
+        }
     }
 }
 

@@ -1,11 +1,10 @@
 // Well-formed UTF-8 by RFC 3629: ASCII is looked at first, anything else by the block.
 #![tactic(auto)]
 
-ghost use Rattle.std.specs.Prelude.{◌≡◌, [], ◌+◌, ◌≤◌, ◌<◌, min, max, length};
-ghost use Rattle.std.proofs.Math.Option.{some};
+ghost use Rattle.std.specs.Prelude.{◌≡◌, [], ◌≤◌, ◌<◌, max, fold, Some};
+ghost use Rattle.std.specs.List.{list_all};
 ghost use Rattle.rules.specs.Utf8.{begins, after, after_all, UTF8-octets};
-ghost use Rattle.rules.specs.Base.{all};
-ghost use Rattle.utf8.specs.Wants.{block_size, wants, is_low, greatest_of};
+ghost use Rattle.utf8.specs.Wants.{wants, is_low};
 
 // What the character at hand still wants: how many bytes, and the range of the next one. It is nothing between two characters.
 #[derive(Clone, Copy)]
@@ -25,11 +24,7 @@ const BLOCK: usize = 16;
 fn wanting(more: u8, low: u8, high: u8) -> Wanted
     ensures { result ≡ record { more = more; low = low; high = high } }
 {
-    Wanted {
-        more: more,
-        low: low,
-        high: high,
-    }
+    Wanted { more, low, high }
 }
 
 // What a byte that begins a character of three wants.
@@ -93,10 +88,7 @@ impl Wanted {
         if self.more >= FAULT {
             return self;
         }
-        if b < self.low {
-            return wanting(FAULT, 0, 0);
-        }
-        if b > self.high {
+        if b < self.low || b > self.high {
             return wanting(FAULT, 0, 0);
         }
         wanting(self.more - 1, 0x80, 0xBF)
@@ -108,30 +100,19 @@ fn after_bytes(bytes: &[u8], start: Wanted) -> Wanted
     ensures { wants result ≡ after_all (wants start) bytes.now }
 {
     let mut w = start;
-    let mut i: usize = 0;
-    while i < bytes.len() {
-        w = w.next(bytes[i]);
-        i += 1;
+    for b in bytes {
+        w = w.next(*b);
     }
     w
 }
 
-// The greater of two bytes.
-fn greatest(a: u8, b: u8) -> u8
-    ensures { result ≡ max a b }
-{
-    if a < b { b } else { a }
-}
-
 // The greatest of the bytes, 0 where there is none. Only one byte is kept, so that the loop becomes vector code.
 fn greatest_byte(bytes: &[u8]) -> u8
-    ensures { result ≡ greatest_of 0 bytes.now }
+    ensures { result ≡ fold max 0 bytes.now }
 {
     let mut high: u8 = 0;
-    let mut i: usize = 0;
-    while i < bytes.len() {
-        high = greatest(high, bytes[i]);
-        i += 1;
+    for b in bytes {
+        high = high.max(*b);
     }
     high
 }
@@ -140,56 +121,33 @@ fn greatest_byte(bytes: &[u8]) -> u8
 fn after_block(block: &[u8], start: Wanted) -> Wanted
     ensures { wants result ≡ after_all (wants start) block.now }
 {
-    if start.more == 0 {
-        if greatest_byte(block) < 0x80 {
-            return start;
-        }
+    if start.more == 0 && greatest_byte(block) < 0x80 {
+        return start;
     }
     after_bytes(block, start)
 }
 
-// Where the block that begins at a place ends.
-fn block_end(len: usize, at: usize) -> usize
-    requires { at < len }
-    ensures { result ≡ min len (at + block_size) }
-{
-    if len - at > BLOCK {
-        return at + BLOCK;
-    }
-    len
-}
-
 // What is wanted after these bytes, block by block.
 fn after_blocks(bytes: &[u8]) -> Wanted
-    ensures { wants result ≡ after_all (some []) bytes.now }
+    ensures { wants result ≡ after_all (Some []) bytes.now }
 {
     let mut w = wanting(0, 0, 0);
-    let mut at: usize = 0;
-    while at < bytes.len() {
-        let end = block_end(bytes.len(), at);
-        w = after_block(&bytes[at..end], w);
-        at = end;
+    for block in bytes.chunks(BLOCK) {
+        w = after_block(block, w);
     }
     w
 }
 
 // Whether every byte is below 80 hex, one by one.
 fn low_bytes(bytes: &[u8]) -> bool
-    ensures { result ≡ all is_low bytes.now }
+    ensures { result ≡ list_all is_low bytes.now }
 {
-    let mut i: usize = 0;
-    while i < bytes.len() {
-        if bytes[i] >= 0x80 {
-            return false;
-        }
-        i += 1;
-    }
-    true
+    bytes.iter().all(|b| *b < 0x80)
 }
 
 // The same of a text of any length: a longer one is looked at all at once.
 fn is_ascii(bytes: &[u8]) -> bool
-    ensures { result ≡ all is_low bytes.now }
+    ensures { result ≡ list_all is_low bytes.now }
 {
     if bytes.len() < BLOCK {
         return low_bytes(bytes);

@@ -1,9 +1,10 @@
 -- The records of an accepted file: what stands at each one's start, and the view that it gives.
+use Rattle.paths.specs.declared.PredicateId.{PredicateId}
 use Prim.Native.Nat.{ℕ, zero, suc, ◌+◌, ◌*◌, ◌≤◌, ◌<◌}
 use mathlib.Core.Path.{◌≡◌, refl, sym, ap, ◌∙◌, subst}
 use mathlib.Core.Bool.{Bool, true, false}
 use mathlib.Core.List.{List, []}
-use mathlib.Core.Option.{Option, none, some}
+use Rattle.std.specs.Prelude.{Option, None, Some}
 use mathlib.Core.Logic.{⊎_elim}
 use native.Mathlib.Omega.{arith}
 use lib.ListN.{length, get_or, drop, get_or-eq_default}
@@ -23,8 +24,6 @@ use Rattle.views.specs.Views.{size_of, start_at, run, byte_at, or_none, text_vie
 use Rattle.views.specs.declared.TextView.{TextView}
 use Rattle.views.specs.declared.TypeView.{TypeView}
 use Rattle.views.specs.declared.TypeView.TheVariants as Tv
-use Rattle.views.specs.declared.MaybePredicate.{MaybePredicate}
-use Rattle.views.specs.declared.MaybePredicate.TheVariants as Mp
 use Rattle.views.proofs.Runs.{value_of, needs-room, first_byte, one_in, two_in, three-in, optional-in, finds-byte, finds-field, finds-alternative, Counts, counts, Made, several-made}
 
 -- a kind at p that was read: its byte, and what its reader found
@@ -127,7 +126,7 @@ module _ (f ix : List ℕ) (x : Indexed f ix) (t p : ℕ) where
   pub predicate-here : t < length (tables_of f).predicates → p ≡ get_or ix (base_of 2 + 1 + t) 0 → (p + 4 ≤ length f) × (◌≡◌ {A = File.Predicate} (record { key = word f p; value = or_none (word f (p + 2)) }) (predicate_at (tables_of f) t))
   unfolding predicate_at predicate read_at pure
   predicate-here h e =
-      let y = stands_at x.predicates t p (record { key = 0; value = none }) h e in
+      let y = stands_at x.predicates t p (record { key = 0; value = None }) h e in
       let m : p + 4 ≤ length f = needs-room f 4 p (omega arith) (needs-fixed 4 fixed-predicate) y.reads in
       (m, value_of (word-then f p _ (omega arith) ∙ then-got f optional _ (p + 2) _ (p + 2 + 2) (optional-in f (p + 2) (omega arith))) y.reads)
 
@@ -211,28 +210,28 @@ module _ (f ix : List ℕ) (x : Indexed f ix) (t p : ℕ) (h : t < length (table
       let z : p + 1 + 1 ≡ p + 2 = omega arith in
       (record { is = rw (k, ← z) m.is; inside = omega (arith, m.room, ap (λ (j : ℕ). 8 * j) k) }, shown 5 _ g (ap (λ (j : ℕ). Tv.Union j (p + 2)) k))
 
-pub none_is : (n : ℕ) → n ≡ 65535 → none ≡ or_none n
+pub none_is : (n : ℕ) → n ≡ 65535 → None ≡ or_none n
 unfolding or_none
-none_is n h = sym (ap (λ (b : Bool). elim b as (λ _. Option ℕ) [ true ↦ none | false ↦ some n ]) (eq-eqb _ _ h))
+none_is n h = sym (ap (λ (b : Bool). elim b as (λ _. Option ℕ) [ true ↦ None | false ↦ Some n ]) (eq-eqb _ _ h))
 
-pub some_is : (n : ℕ) → (n ≡ 65535 → ⊥) → some n ≡ or_none n
+pub some_is : (n : ℕ) → (n ≡ 65535 → ⊥) → Some n ≡ or_none n
 unfolding or_none
-some_is n h = sym (ap (λ (b : Bool). elim b as (λ _. Option ℕ) [ true ↦ none | false ↦ some n ]) (ne_eqb _ _ h))
+some_is n h = sym (ap (λ (b : Bool). elim b as (λ _. Option ℕ) [ true ↦ None | false ↦ Some n ]) (ne_eqb _ _ h))
 
 -- the code's predicate by its number
-pub no-predicate : (n : ℕ) → n ≡ 65535 → Mp.Nothing ≡ predicate_maybe n
+pub no-predicate : (n : ℕ) → n ≡ 65535 → None ≡ predicate_maybe n
 unfolding predicate_maybe
-no-predicate n h = sym (ap (λ (b : Bool). elim b as (λ _. MaybePredicate) [ true ↦ Mp.Nothing | false ↦ Mp.Just (record { 0 = n }) ]) (eq-eqb _ _ h))
+no-predicate n h = sym (ap (λ (b : Bool). elim b as (λ _. Option PredicateId) [ true ↦ None | false ↦ Some (record { 0 = n }) ]) (eq-eqb _ _ h))
 
-pub a-predicate : (n : ℕ) → (n ≡ 65535 → ⊥) → Mp.Just (record { 0 = n }) ≡ predicate_maybe n
+pub a-predicate : (n : ℕ) → (n ≡ 65535 → ⊥) → Some (record { 0 = n }) ≡ predicate_maybe n
 unfolding predicate_maybe
-a-predicate n h = sym (ap (λ (b : Bool). elim b as (λ _. MaybePredicate) [ true ↦ Mp.Nothing | false ↦ Mp.Just (record { 0 = n }) ]) (ne_eqb _ _ h))
+a-predicate n h = sym (ap (λ (b : Bool). elim b as (λ _. Option PredicateId) [ true ↦ None | false ↦ Some (record { 0 = n }) ]) (ne_eqb _ _ h))
 
 pub predicate-option : (n : ℕ) → predicate_option (predicate_maybe n) ≡ or_none n
 unfolding predicate_maybe or_none
 predicate-option n = by (eqb n 65535)
   where
-    by : (b : Bool) → predicate_option (elim b as (λ _. MaybePredicate) [ true ↦ Mp.Nothing | false ↦ Mp.Just (record { 0 = n }) ]) ≡ (elim b as (λ _. Option ℕ) [ true ↦ none | false ↦ some n ])
+    by : (b : Bool) → predicate_option (elim b as (λ _. Option PredicateId) [ true ↦ None | false ↦ Some (record { 0 = n }) ]) ≡ (elim b as (λ _. Option ℕ) [ true ↦ None | false ↦ Some n ])
     by true = refl
     by false = refl
 

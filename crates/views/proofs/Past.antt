@@ -3,7 +3,7 @@ use Prim.Native.Nat.{ℕ, ◌≤◌, ◌<◌}
 use mathlib.Core.Path.{◌≡◌, sym, ap, ◌∙◌}
 use mathlib.Core.Bool.{Bool, true, false}
 use mathlib.Core.List.{List}
-use mathlib.Core.Option.{none}
+use Rattle.std.specs.Prelude.{None}
 use borrow.Author.Tests.{lt-ltb, le-ltb}
 use lib.ListN.{length, get_or-eq_default}
 use Rattle.rules.specs.File as File
@@ -13,7 +13,6 @@ use Rattle.views.specs.declared.TypeView.{TypeView}
 use Rattle.views.specs.declared.TypeView.TheVariants as Tv
 use Rattle.views.specs.declared.NodeView.{NodeView}
 use Rattle.views.specs.declared.NodeView.TheVariants as Nv
-use Rattle.views.specs.declared.MaybeType.TheVariants as Mt
 use Rattle.views.specs.Views.{start_at, type_view, node_view, type_entry, node_entry, predicate_of, SeenType, SeenNode}
 
 module _ (T : Tables) (f ix : List ℕ) where
@@ -41,6 +40,6 @@ module _ (T : Tables) (f ix : List ℕ) where
     sym (ap (λ (b : Bool). elim b as (λ _. NodeView) [ true ↦ node_view f (start_at ix Sections.nodes n) | false ↦ Nv.Error ]) (le-ltb _ _ h)),
   )
 
-pub past-predicates : (T : Tables) (p : ℕ) → length T.predicates ≤ p → predicate_of (record { key = 0; value = Mt.Nothing }) ≡ predicate_at T p
+pub past-predicates : (T : Tables) (p : ℕ) → length T.predicates ≤ p → predicate_of (record { key = 0; value = None }) ≡ predicate_at T p
 unfolding predicate_at
-past-predicates T p h = sym (get_or-eq_default T.predicates (record { key = 0; value = none }) h)
+past-predicates T p h = sym (get_or-eq_default T.predicates (record { key = 0; value = None }) h)

@@ -1,6 +1,6 @@
 -- What a view stands for: an entry of the written rules' tables, from the bytes where the view points.
-use Rattle.std.specs.Prelude.{ℕ, zero, suc, ◌+◌, ◌*◌, ◌≤◌, ◌≡◌, true, false, List, [], ◌∷◌, length, get_or, eqb, ltb}
-use Rattle.std.proofs.Math.Option.{Option, none, some}
+use Rattle.paths.specs.declared.PredicateId.{PredicateId}
+use Rattle.std.specs.Prelude.{ℕ, zero, suc, ◌+◌, ◌*◌, ◌≤◌, ◌≡◌, true, false, List, [], ◌∷◌, length, get_or, eqb, ltb, Option, None, Some}
 use Rattle.rules.specs.File as File
 use Rattle.rules.specs.File.{Tables, Ty, Node, Slot}
 use Rattle.file.specs.Sections as Sections
@@ -11,10 +11,6 @@ use Rattle.views.specs.declared.NodeView.{NodeView}
 use Rattle.views.specs.declared.NodeView.TheVariants as Nv
 use Rattle.views.specs.declared.SlotView.{SlotView}
 use Rattle.views.specs.declared.SlotView.TheVariants as Sv
-use Rattle.views.specs.declared.MaybeType.{MaybeType}
-use Rattle.views.specs.declared.MaybeType.TheVariants as Mt
-use Rattle.views.specs.declared.MaybePredicate.{MaybePredicate}
-use Rattle.views.specs.declared.MaybePredicate.TheVariants as Mp
 use Rattle.views.specs.declared.Anchor.{Anchor}
 use Rattle.views.specs.declared.Anchor.TheVariants as An
 use Rattle.views.specs.declared.CompareOp.{CompareOp}
@@ -84,7 +80,7 @@ past_path f p = p + 3 + 4 * get_or f (p + 2) 0
 
 -- FFFF hex stands for none
 unfoldable pub or_none : ℕ → Option ℕ
-or_none n = elim (eqb n 65535) [ true ↦ none | false ↦ some n ]
+or_none n = elim (eqb n 65535) [ true ↦ None | false ↦ Some n ]
 
 -- an anchor by its byte
 unfoldable pub anchor_kind : ℕ → File.Anchor
@@ -94,8 +90,8 @@ anchor_kind b = get_or (File.Anchor.Prefix ∷ File.Anchor.Whole ∷ []) b File.
 unfoldable pub anchor_at : ℕ → Anchor
 anchor_at b = get_or (An.Prefix ∷ An.Whole ∷ []) b An.Prefix
 
-unfoldable pub predicate_maybe : ℕ → MaybePredicate
-predicate_maybe n = elim (eqb n 65535) [ true ↦ Mp.Nothing | false ↦ Mp.Just (record { 0 = n }) ]
+unfoldable pub predicate_maybe : ℕ → Option PredicateId
+predicate_maybe n = elim (eqb n 65535) [ true ↦ None | false ↦ Some (record { 0 = n }) ]
 
 -- the view of a name whose record starts at p
 unfoldable pub text_view : List ℕ → ℕ → TextView
@@ -184,16 +180,12 @@ alternative_of v = record { name = v.name; disc = v.disc; type = v.ty }
 abbrev pub pattern_of : FieldPattern → File.FieldPattern
 pattern_of v = record { name = v.name; node = v.node }
 
-abbrev pub type_option : MaybeType → Option ℕ
-type_option Mt.Nothing = none
-type_option (Mt.Just t) = some t
-
-abbrev pub predicate_option : MaybePredicate → Option ℕ
-predicate_option Mp.Nothing = none
-predicate_option (Mp.Just p) = some p.0
+abbrev pub predicate_option : Option PredicateId → Option ℕ
+predicate_option None = None
+predicate_option (Some p) = Some p.0
 
 abbrev pub predicate_of : Predicate → File.Predicate
-predicate_of v = record { key = v.key; value = type_option v.value }
+predicate_of v = record { key = v.key; value = v.value }
 
 abbrev pub anchor_of : Anchor → File.Anchor
 anchor_of An.Prefix = File.Anchor.Prefix

@@ -9,7 +9,7 @@ ghost use Rattle.file.specs.Sections as Sections;
 ghost use Rattle.file.specs.Steps.{word, section_count, limit_of, index_length};
 ghost use Rattle.file.specs.Tables.{Indexed, tables_of};
 ghost use Rattle.paths.specs.Paths.{path_for, Holds};
-ghost use Rattle.views.specs.Views.{size_of, start_at, path_at, past_path, long, or_none, anchor_at, op_of, type_option, predicate_maybe, text_view, type_view, node_view, type_entry, node_entry, binding_view, fetched_view, field_at, alternative_at, pattern_at, field_of, alternative_of, pattern_of, predicate_of, binding_at, hoisted_at, fetched_at, constraint_at, comparison_at, level_entry_at, hoisted_of, constraint_of, comparison_of, level_of, PathInside, SeenType, SeenNode, SeenBinding, SeenFetched, SeenText};
+ghost use Rattle.views.specs.Views.{size_of, start_at, path_at, past_path, long, or_none, anchor_at, op_of, predicate_maybe, text_view, type_view, node_view, type_entry, node_entry, binding_view, fetched_view, field_at, alternative_at, pattern_at, field_of, alternative_of, pattern_of, predicate_of, binding_at, hoisted_at, fetched_at, constraint_at, comparison_at, level_entry_at, hoisted_of, constraint_of, comparison_of, level_of, PathInside, SeenType, SeenNode, SeenBinding, SeenFetched, SeenText};
 
 use file::{
     BINDINGS, COMPARISONS, CONSTRAINTS, FETCHED, LEVELS, NAMES, NODES, PREDICATES, TYPES, base,
@@ -43,18 +43,11 @@ pub struct Alternative {
     pub ty: usize,
 }
 
-// A type, if there is one.
-#[derive(Clone, Copy)]
-pub enum MaybeType {
-    Nothing,
-    Just(usize),
-}
-
 // A predicate's key type, and its value type if it has one.
 #[derive(Clone, Copy)]
 pub struct Predicate {
     pub key: usize,
-    pub value: MaybeType,
+    pub value: Option<usize>,
 }
 
 // Where a fuzzy text has to stand: at the beginning, or as the whole.
@@ -101,17 +94,10 @@ pub struct TextView {
     pub len: usize,
 }
 
-// A predicate, if there is one.
-#[derive(Clone, Copy)]
-pub enum MaybePredicate {
-    Nothing,
-    Just(PredicateId),
-}
-
 // A slot. Field has the position of its path between its address and its type.
 #[derive(Clone, Copy)]
 pub enum SlotView {
-    Row(Address, MaybePredicate),
+    Row(Address, Option<PredicateId>),
     Key(Address, usize),
     Derived(Address),
     Field(Address, usize, usize),
@@ -275,24 +261,20 @@ pub fn name_at(file: &[u8], index: &[u16], x: usize) -> TextView
 }
 
 // A type's number, where FFFF hex stands for none.
-fn maybe_type(n: usize) -> MaybeType
-    ensures { type_option result ≡ or_none n }
+fn maybe_type(n: usize) -> Option<usize>
+    ensures { result ≡ or_none n }
 {
-    if n == 65535 {
-        MaybeType::Nothing
-    } else {
-        MaybeType::Just(n)
-    }
+    if n == 65535 { None } else { Some(n) }
 }
 
 // A predicate's number, where FFFF hex stands for none.
-pub fn maybe_predicate(n: u16) -> MaybePredicate
+pub fn maybe_predicate(n: u16) -> Option<PredicateId>
     ensures { result ≡ predicate_maybe n }
 {
     if n == 65535 {
-        MaybePredicate::Nothing
+        None
     } else {
-        MaybePredicate::Just(PredicateId(n))
+        Some(PredicateId(n))
     }
 }
 
@@ -370,10 +352,8 @@ pub fn path_at(file: &[u8], at: usize) -> FieldPath
     let field = word_at(file, at) as u16;
     let count = wide(file[at + 2]);
     let mut steps = [0u32; FieldPath::STEP_LIMIT];
-    let mut i: usize = 0;
-    while i < count {
+    for i in 0..count {
         steps[i] = long_at(file, at + 3 + 4 * i);
-        i += 1;
     }
     FieldPath {
         steps,
@@ -557,7 +537,7 @@ pub fn predicate_of(file: &[u8], index: &[u16], p: PredicateId) -> Predicate
     } else {
         Predicate {
             key: 0,
-            value: MaybeType::Nothing,
+            value: None,
         }
     }
 }

@@ -1,22 +1,14 @@
--- A buffer zeroed byte by byte.
+-- A buffer zeroed block by block.
 use mathlib.Core.Path.{◌≡◌, refl, sym, ap, ap₂, ◌∙◌}
 use mathlib.Core.List.{List, [], ◌∷◌, ◌++◌, append-nil, append_assoc}
-use Prim.Native.Nat.{ℕ, suc, ◌+◌, ◌-◌, ◌≤◌, ◌<◌, min}
-use native.Mathlib.Numerals.{add-one}
+use Prim.Native.Nat.{ℕ, ◌+◌, ◌-◌, ◌≤◌}
 use native.Mathlib.Omega.{arith}
 use lib.Bits.{bit_or, or_add_and, and_le_l, and_le_r}
-use lib.ListN.{length, get_or, take, drop, set, replicate, length-set, length-append, length-replicate, replicate-append-replicate, drop_of_length-le}
-use lib.Seq.{take_all, take-suc-set, drop-cons, length-take-le, take_at}
+use lib.ListN.{length, take, replicate, length-append, length-replicate, replicate-append-replicate}
+use Rattle.std.proofs.Common.{fold}
+use lib.Seq.{take_all, length-take-le, take_at}
 use borrow.Rule.Slice.PartMut.{mid_of, post_of, put_mid, same_len_mid, mid_len}
-use Rattle.zeroes.specs.Zeroed.{block_size, zeroed, bits_of}
-
-pub zero_more : (w : List ℕ) (i : ℕ) → i < length w → zeroed w i ≡ zeroed (set w i 0) (i + 1)
-unfolding zeroed
-zero_more w i h =
-    let n : length w - i ≡ suc (length (set w i 0) - (i + 1)) = omega (arith, length-set w i 0) in
-    ap (λ (k : ℕ). take i w ++ replicate k 0) n
-    ∙ sym (append_assoc (take i w) (0 ∷ []) (replicate (length (set w i 0) - (i + 1)) 0))
-    ∙ ap (λ (l : List ℕ). l ++ replicate (length (set w i 0) - (i + 1)) 0) (sym (take-suc-set w i 0 h) ∙ ap (λ (k : ℕ). take k (set w i 0)) (sym (add-one i)))
+use Rattle.zeroes.specs.Zeroed.{zeroed}
 
 pub zero-end : (w : List ℕ) (i : ℕ) → length w ≤ i → zeroed w i ≡ w
 unfolding zeroed
@@ -28,32 +20,19 @@ zero-end w i h =
 or-none : (a b : ℕ) → bit_or a b ≡ 0 → (a ≡ 0) × (b ≡ 0)
 or-none a b h = (omega (arith, h, or_add_and a b, and_le_r a b), omega (arith, h, or_add_and a b, and_le_l a b))
 
-bits_none : (s : ℕ) (bs : List ℕ) → bits_of s bs ≡ 0 → (s ≡ 0) × (bs ≡ replicate (length bs) 0)
-unfolding bits_of
+bits_none : (s : ℕ) (bs : List ℕ) → fold bit_or s bs ≡ 0 → (s ≡ 0) × (bs ≡ replicate (length bs) 0)
 bits_none s [] h = (h, refl)
 bits_none s (b ∷ bs) h =
     let rest = bits_none (bit_or s b) bs h in
     let both = or-none s b rest.0 in
     (both.0, ap₂ (λ (x : ℕ) (l : List ℕ). x ∷ l) both.1 rest.1)
 
-pub bits-more : (s : ℕ) (bytes : List ℕ) (i : ℕ) → i < length bytes → bits_of s (drop i bytes) ≡ bits_of (bit_or s (get_or bytes i 0)) (drop (i + 1) bytes)
-unfolding bits_of
-bits-more s bytes i h = ap (bits_of s) (drop-cons bytes i 0 h) ∙ ap (λ (k : ℕ). bits_of (bit_or s (get_or bytes i 0)) (drop k bytes)) (sym (add-one i))
-
-pub bits-end : (s : ℕ) (bytes : List ℕ) (i : ℕ) → length bytes ≤ i → bits_of s (drop i bytes) ≡ s
-unfolding bits_of
-bits-end s bytes i h = ap (bits_of s) (drop_of_length-le bytes h)
-
 -- a block with no bit set is zero already
-pub clean : (block : List ℕ) → bits_of 0 block ≡ 0 → block ≡ zeroed block 0
+pub clean : (block : List ℕ) → fold bit_or 0 block ≡ 0 → block ≡ zeroed block 0
 unfolding zeroed
 clean block h =
     let n : length block ≡ length block - 0 = omega arith in
     (bits_none 0 block h).1 ∙ ap (λ (k : ℕ). replicate k 0) n
-
--- a block begins before it ends, and ends in its buffer
-pub block_in : (len at end : ℕ) → at < len → end ≡ min len (at + block_size) → (at < end) × (end ≤ len)
-block_in len at end h e = (omega arith, omega arith)
 
 -- a block of a buffer, zeroed in its place
 module _ (w block : List ℕ) (at end : ℕ) (h : at ≤ end) (g : end ≤ length w) (e : block ≡ zeroed (mid_of at (end - at) w) 0) where

@@ -1,16 +1,6 @@
 -- Memory that a call leaves all zero from a place on.
-use Rattle.std.specs.Prelude.{List, [], ◌∷◌, ◌++◌, ℕ, ◌-◌, length, take, replicate}
-use Rattle.std.specs.Int.Bits.{bit_or}
-
--- how many bytes are looked at before any of them is written
-abbrev pub block_size : ℕ
-block_size = 4096
+use Rattle.std.specs.Prelude.{List, ◌++◌, ℕ, ◌-◌, length, take, replicate}
 
 -- the bytes from a place on all zero
 unfoldable pub zeroed : List ℕ → ℕ → List ℕ
 zeroed buf from = take from buf ++ replicate (length buf - from) 0
-
--- the bits that are set in any of the bytes, or before them
-unfoldable pub bits_of : ℕ → List ℕ → ℕ
-bits_of set [] = set
-bits_of set (b ∷ bs) = bits_of (bit_or set b) bs

@@ -1,34 +1,22 @@
 // Memory that is lent again and again, left all zero.
 #![tactic(auto)]
 
-ghost use Rattle.std.specs.Prelude.{◌≡◌, ◌+◌, ◌<◌, min};
-ghost use Rattle.zeroes.specs.Zeroed.{block_size, zeroed, bits_of};
+ghost use Rattle.std.specs.Prelude.{◌≡◌, fold};
+ghost use Rattle.std.specs.Int.Bits.{bit_or};
+ghost use Rattle.zeroes.specs.Zeroed.{zeroed};
 
 // How many bytes are looked at before any of them is written.
 const BLOCK: usize = 4096;
 
 // The bits that are set in any of the bytes: one number and no branch, so that the loop becomes vector code.
 fn bits(bytes: &[u8]) -> u8
-    ensures { result ≡ bits_of 0 bytes.now }
+    ensures { result ≡ fold bit_or 0 bytes.now }
 {
     let mut set: u8 = 0;
-    let mut i: usize = 0;
-    while i < bytes.len() {
-        set |= bytes[i];
-        i += 1;
+    for b in bytes {
+        set |= *b;
     }
     set
-}
-
-// A block, written whole.
-fn wipe(block: &mut [u8])
-    ensures { block.new ≡ zeroed block.old 0 }
-{
-    let mut i: usize = 0;
-    while i < block.len() {
-        block[i] = 0;
-        i += 1;
-    }
 }
 
 // A block, all zero. It is read first: of memory that is lent again and again most is zero from the call before, and reading is cheaper
@@ -37,28 +25,18 @@ fn clear(block: &mut [u8])
     ensures { block.new ≡ zeroed block.old 0 }
 {
     if bits(&block[..]) != 0 {
-        wipe(block);
+        block.fill(0);
     }
-}
-
-// Where the block that begins at a place ends.
-fn block_end(len: usize, at: usize) -> usize
-    requires { at < len }
-    ensures { result ≡ min len (at + block_size) }
-{
-    if len - at > BLOCK {
-        return at + BLOCK;
-    }
-    len
 }
 
 // The bytes from a place on, all zero: what an exported call owes of the memory it was lent.
+// By hand: of what `chunks_mut` lent only the length is known afterwards.
 pub fn zero(buf: &mut [u8], from: usize)
     ensures { buf.new ≡ zeroed buf.old from }
 {
     let mut at = from;
     while at < buf.len() {
-        let end = block_end(buf.len(), at);
+        let end = at + BLOCK.min(buf.len() - at);
         clear(&mut buf[at..end]);
         at = end;
     }

@@ -1,35 +1,44 @@
 use mathlib.Core.Path.{refl, sym, ◌∙◌}
+use mathlib.Core.Bool.{false}
 use native.Mathlib.Omega.{arith}
-use Rattle.record_checks.proofs.Every.{words-first, words-next, run-done, run-yes, run-no}
-use Rattle.checks.proofs.Fill.{run-low, flag-yes, flag-no}
+use lib.ListN.{get_or}
+use Rattle.rules.specs.Base.{all}
+use Rattle.file.specs.Steps.{word}
+use Rattle.views.specs.Views.{run}
+use Rattle.checks.specs.Checked.{flags_at}
+use Rattle.record_checks.proofs.Every.{words-at, left-first, left-next, run-done, run-yes, run-no}
+use Rattle.checks.proofs.Fill.{low-at, flag-yes, flag-no}
 use Rattle.checks.proofs.all_constant.Goals as goal
 
-pub loop-left-init : goal.loop-left-init
-loop-left-init c = (refl, c.requires.words, c.requires.p_value)
+pub loop-k-init : goal.loop-k-init
+loop-k-init c = left-first (λ m q. all (λ c'. get_or (flags_at c.args.index.now) c' false) (run (word c.args.file.now) 4 m q)) 4 c.args.n c.args.p
+
+pub overflow_mul-k : goal.overflow_mul-k
+overflow_mul-k c = omega (arith, words-at c.requires.words c.loop-k.k c.loop-k-test.true, c.requires.words.small)
+
+pub overflow_add-p : goal.overflow_add-p
+overflow_add-p c = omega (arith, words-at c.requires.words c.loop-k.k c.loop-k-test.true, c.requires.words.small)
 
 pub word_at-requires : goal.word_at-requires
-word_at-requires c = words-first _ _ _ _ _ c.loop-left.invariant.1 c.loop-left-test.true
+word_at-requires c = words-at c.requires.words c.loop-k.k c.loop-k-test.true
 
 pub overflow_add-word_at : goal.overflow_add-word_at
-overflow_add-word_at c = omega (arith, (run-low _ _ _ _ c.loop-left-test.true _ c.loop-left.invariant.2).0, c.word_at.ensures.reads, c.requires.index_length_in_bounds)
+overflow_add-word_at c = omega (arith, low-at (word c.args.file.now) 4 c.args.n c.args.p _ c.requires.p_value c.loop-k.k c.loop-k-test.true, c.word_at.ensures.reads, c.requires.index_length_in_bounds)
 
 pub offset_bounds-index-word_at : goal.offset_bounds-index-word_at
-offset_bounds-index-word_at c = omega (arith, (run-low _ _ _ _ c.loop-left-test.true _ c.loop-left.invariant.2).0, c.word_at.ensures.reads, c.requires.index_length_in_bounds)
+offset_bounds-index-word_at c = omega (arith, low-at (word c.args.file.now) 4 c.args.n c.args.p _ c.requires.p_value c.loop-k.k c.loop-k-test.true, c.word_at.ensures.reads, c.requires.index_length_in_bounds)
 
 pub bounds-index-word_at : goal.bounds-index-word_at
-bounds-index-word_at c = omega (arith, (run-low _ _ _ _ c.loop-left-test.true _ c.loop-left.invariant.2).0, c.word_at.ensures.reads, c.requires.index_length_in_bounds)
+bounds-index-word_at c = omega (arith, low-at (word c.args.file.now) 4 c.args.n c.args.p _ c.requires.p_value c.loop-k.k c.loop-k-test.true, c.word_at.ensures.reads, c.requires.index_length_in_bounds)
 
 pub returns-then-index-word_at-ne1 : goal.returns-then-index-word_at-ne1
-returns-then-index-word_at-ne1 c = let l = c.loop-left in sym (l.invariant.0 ∙ run-no _ _ _ _ _ c.loop-left-test.true (flag-no _ _ _ _ c.word_at.ensures.reads refl c.if-index-word_at-ne1.true))
+returns-then-index-word_at-ne1 c =
+    sym (c.loop-k.invariant ∙ run-no _ _ _ _ _ (omega (arith, c.loop-k-test.true)) (flag-no _ _ _ _ c.word_at.ensures.reads refl c.if-index-word_at-ne1.true))
 
-pub overflow_add-q : goal.overflow_add-q
-overflow_add-q c = let x = c.loop-left.invariant.1 in omega (arith, words-first _ _ _ _ _ x c.loop-left-test.true, x.small)
-
-pub loop-left-preserved : goal.loop-left-preserved
-loop-left-preserved c =
-    let l = c.loop-left in
-    let h = c.loop-left-test.true in
-    (l.invariant.0 ∙ run-yes _ _ _ _ _ h (flag-yes _ _ _ _ c.word_at.ensures.reads refl c.if-index-word_at-ne1.false), words-next _ _ _ _ _ l.invariant.1 h, (run-low _ _ _ _ h _ l.invariant.2).1)
+pub loop-k-preserved : goal.loop-k-preserved
+loop-k-preserved c =
+    c.loop-k.invariant ∙ run-yes _ _ _ _ _ (omega (arith, c.loop-k-test.true)) (flag-yes _ _ _ _ c.word_at.ensures.reads refl c.if-index-word_at-ne1.false)
+    ∙ left-next (λ m q. all (λ c'. get_or (flags_at c.args.index.now) c' false) (run (word c.args.file.now) 4 m q)) 4 c.args.n c.args.p c.loop-k.k
 
 pub returns : goal.returns
-returns c = sym (c.loop-left.invariant.0 ∙ run-done _ _ _ _ _ (omega arith))
+returns c = sym (c.loop-k.invariant ∙ run-done _ _ _ _ _ (omega arith))

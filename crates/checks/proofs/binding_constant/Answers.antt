@@ -1,7 +1,7 @@
-use mathlib.Core.Path.{◌∙◌}
+use mathlib.Core.Path.{refl, ◌∙◌}
 use Rattle.rules.specs.Checks.{slot_constant}
 use Rattle.record_checks.proofs.Seen.{by-slot}
-use Rattle.checks.proofs.Fill.{slot-in, const-node}
+use Rattle.checks.proofs.Fill.{slot-in, const-node, constant-slots}
 use Rattle.checks.proofs.binding_constant.Goals as goal
 
 pub binding_at-v-requires : goal.binding_at-v-requires
@@ -10,26 +10,9 @@ binding_at-v-requires c = record { indexed = c.requires.numbered.filled.indexed;
 pub is_constant-requires : goal.is_constant-requires
 is_constant-requires c = record { filled = c.requires.numbered.filled; n_in_bounds = const-node _ _ _ _ c.binding_at-v.ensures.shows _ c.in-Const.is (slot-in _ c.requires.numbered.numbers _ c.requires.b_in_bounds) }
 
-pub returns-in-Row : goal.returns-in-Row
-unfolding slot_constant
-returns-in-Row c = by-slot (slot_constant _) c.binding_at-v.ensures.shows c.in-Row.is
-
-pub returns-in-Key : goal.returns-in-Key
-unfolding slot_constant
-returns-in-Key c = by-slot (slot_constant _) c.binding_at-v.ensures.shows c.in-Key.is
-
-pub returns-in-Derived : goal.returns-in-Derived
-unfolding slot_constant
-returns-in-Derived c = by-slot (slot_constant _) c.binding_at-v.ensures.shows c.in-Derived.is
-
-pub returns-in-Field : goal.returns-in-Field
-unfolding slot_constant
-returns-in-Field c = by-slot (slot_constant _) c.binding_at-v.ensures.shows c.in-Field.is
-
-pub returns-in-Value : goal.returns-in-Value
-unfolding slot_constant
-returns-in-Value c = by-slot (slot_constant _) c.binding_at-v.ensures.shows c.in-Value.is
-
 pub returns-in-Const : goal.returns-in-Const
 unfolding slot_constant
 returns-in-Const c = c.is_constant.ensures ∙ by-slot (slot_constant _) c.binding_at-v.ensures.shows c.in-Const.is
+
+pub returns-in_default : goal.returns-in_default
+returns-in_default c = constant-slots _ _ _ c.in_default.not-Const ∙ by-slot (slot_constant _) c.binding_at-v.ensures.shows refl

@@ -1,9 +1,10 @@
+use mathlib.Core.Path.{refl, ◌∙◌}
 use native.Mathlib.Omega.{arith}
 use Rattle.file.specs.Tables.{tables_of}
 use Rattle.rules.specs.Checks.{slot_fits}
 use Rattle.views.specs.Views.{PathInside}
 use Rattle.record_checks.proofs.Seen.{by-slot}
-use Rattle.checks.proofs.Fill.{slot-in, slot-inside, field-type, fits-field, depth-few}
+use Rattle.checks.proofs.Fill.{slot-in, slot-inside, field-type, fits-field, fit-slots, depth-few}
 use Rattle.checks.proofs.binding_fits.Goals as goal
 
 pub binding_at-v-requires : goal.binding_at-v-requires
@@ -23,25 +24,8 @@ depth_of-requires c = record { filled = c.requires.numbered.filled; t_in_bounds 
 pub overflow_add-result : goal.overflow_add-result
 overflow_add-result c = omega (arith, c.wide.ensures.bounded, depth-few _ _ c.requires.numbered.filled.indexed _ _ (field-type _ _ _ _ c.binding_at-v.ensures.shows _ _ _ c.in-Field.is (slot-in _ c.requires.numbered.numbers _ c.requires.b_in_bounds)) c.depth_of.ensures)
 
-pub returns-in-Row : goal.returns-in-Row
-unfolding slot_fits
-returns-in-Row c = by-slot (slot_fits _) c.binding_at-v.ensures.shows c.in-Row.is
-
-pub returns-in-Key : goal.returns-in-Key
-unfolding slot_fits
-returns-in-Key c = by-slot (slot_fits _) c.binding_at-v.ensures.shows c.in-Key.is
-
-pub returns-in-Derived : goal.returns-in-Derived
-unfolding slot_fits
-returns-in-Derived c = by-slot (slot_fits _) c.binding_at-v.ensures.shows c.in-Derived.is
-
 pub returns-in-Field : goal.returns-in-Field
 returns-in-Field c = fits-field _ _ _ _ c.binding_at-v.ensures.shows _ _ _ _ _ c.in-Field.is c.wide.ensures.same c.depth_of.ensures
 
-pub returns-in-Value : goal.returns-in-Value
-unfolding slot_fits
-returns-in-Value c = by-slot (slot_fits _) c.binding_at-v.ensures.shows c.in-Value.is
-
-pub returns-in-Const : goal.returns-in-Const
-unfolding slot_fits
-returns-in-Const c = by-slot (slot_fits _) c.binding_at-v.ensures.shows c.in-Const.is
+pub returns-in_default : goal.returns-in_default
+returns-in_default c = fit-slots _ _ _ c.in_default.not-Field ∙ by-slot (slot_fits _) c.binding_at-v.ensures.shows refl

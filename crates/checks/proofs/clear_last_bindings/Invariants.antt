@@ -7,6 +7,3 @@ use Rattle.checks.proofs.clear_last_bindings.Given as goal
 
 abbrev pub invariant-loop-x : goal.invariant-loop-x
 invariant-loop-x l = (l.index ≡ sets l.initial.index last_bindings_base (take l.x (replicate l.n 0))) × (length l.index ≡ length l.initial.index)
-
-abbrev pub decreases-loop-x : goal.decreases-loop-x
-decreases-loop-x l = l.n - l.x

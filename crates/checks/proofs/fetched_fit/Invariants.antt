@@ -10,7 +10,4 @@ use Rattle.record_checks.proofs.Every.{every}
 use Rattle.checks.proofs.fetched_fit.Given as goal
 
 abbrev pub invariant-loop-k : goal.invariant-loop-k
-invariant-loop-k l = (fetched_fit (tables_of l.file) ≡ every (λ j. leb (length (fetched_at (tables_of l.file) j).path.steps) step_limit) (l.n - l.k) l.k) × (l.k ≤ l.n) × (l.n ≡ length (tables_of l.file).fetched)
-
-abbrev pub decreases-loop-k : goal.decreases-loop-k
-decreases-loop-k l = l.n - l.k
+invariant-loop-k l = (fetched_fit (tables_of l.file) ≡ every (λ j. leb (length (fetched_at (tables_of l.file) j).path.steps) step_limit) (l.n - l.k) l.k) × (l.n ≡ length (tables_of l.file).fetched)

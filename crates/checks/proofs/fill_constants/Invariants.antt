@@ -8,7 +8,4 @@ use Rattle.checks.specs.Checked.{flags_of}
 use Rattle.checks.proofs.fill_constants.Given as goal
 
 abbrev pub invariant-loop-n : goal.invariant-loop-n
-invariant-loop-n l = (l.index ≡ sets l.initial.index constants_base (take l.n (flags_of (tables_of l.file)))) × (l.n ≤ l.m) × (l.m ≡ length (tables_of l.file).nodes) × (length l.index ≡ length l.initial.index)
-
-abbrev pub decreases-loop-n : goal.decreases-loop-n
-decreases-loop-n l = l.m - l.n
+invariant-loop-n l = (l.index ≡ sets l.initial.index constants_base (take l.n (flags_of (tables_of l.file)))) × (l.m ≡ length (tables_of l.file).nodes) × (length l.index ≡ length l.initial.index)

@@ -8,25 +8,25 @@ use Rattle.checks.proofs.Fill.{types-few, depths-done, indexed-so, depth-stored}
 use Rattle.checks.proofs.fill_depths.Goals as goal
 
 pub loop-t-init : goal.loop-t-init
-loop-t-init c = (refl, omega arith, c.count_of-n.ensures, refl)
+loop-t-init c = (refl, c.count_of-n.ensures, refl)
 
 pub type_depth-d-requires : goal.type_depth-d-requires
-type_depth-d-requires c = record { indexed = indexed-so _ _ _ (take c.loop-t.t (depths (tables_of c.args.file.now))) depths_base (omega arith) c.loop-t.invariant.0 c.requires.indexed; t_in_bounds = omega (arith, c.loop-t.invariant.2, c.loop-t-test.true); file_value = c.requires.file_value }
+type_depth-d-requires c = record { indexed = indexed-so _ _ _ (take c.loop-t.t (depths (tables_of c.args.file.now))) depths_base (omega arith) c.loop-t.invariant.0 c.requires.indexed; t_in_bounds = omega (arith, c.loop-t.invariant.1, c.loop-t-test.true); file_value = c.requires.file_value }
 
 pub overflow_cast-index : goal.overflow_cast-index
-overflow_cast-index c = omega (arith, (depth-stored _ _ _ c.requires.file_value c.requires.indexed.long _ _ (omega (arith, c.loop-t.invariant.2, c.loop-t-test.true)) (types-few _ _ c.requires.indexed) c.loop-t.invariant.0 c.type_depth-d.ensures).1)
+overflow_cast-index c = omega (arith, (depth-stored _ _ _ c.requires.file_value c.requires.indexed.long _ _ (omega (arith, c.loop-t.invariant.1, c.loop-t-test.true)) (types-few _ _ c.requires.indexed) c.loop-t.invariant.0 c.type_depth-d.ensures).1)
 
 pub overflow_add-index : goal.overflow_add-index
-overflow_add-index c = omega (arith, c.loop-t.invariant.2, c.loop-t-test.true, types-few _ _ c.requires.indexed)
+overflow_add-index c = omega (arith, c.loop-t.invariant.1, c.loop-t-test.true, types-few _ _ c.requires.indexed)
 
 pub offset_bounds-index-t : goal.offset_bounds-index-t
-offset_bounds-index-t c = omega (arith, c.loop-t.invariant.2, c.loop-t-test.true, types-few _ _ c.requires.indexed)
+offset_bounds-index-t c = omega (arith, c.loop-t.invariant.1, c.loop-t-test.true, types-few _ _ c.requires.indexed)
 
 pub bounds-index-t : goal.bounds-index-t
-bounds-index-t c = omega (arith, c.loop-t.invariant.2, c.loop-t.invariant.3, c.loop-t-test.true, types-few _ _ c.requires.indexed, c.requires.indexed.long)
+bounds-index-t c = omega (arith, c.loop-t.invariant.1, c.loop-t.invariant.2, c.loop-t-test.true, types-few _ _ c.requires.indexed, c.requires.indexed.long)
 
 pub loop-t-preserved : goal.loop-t-preserved
-loop-t-preserved c = ((depth-stored _ _ _ c.requires.file_value c.requires.indexed.long _ _ (omega (arith, c.loop-t.invariant.2, c.loop-t-test.true)) (types-few _ _ c.requires.indexed) c.loop-t.invariant.0 c.type_depth-d.ensures).0, omega arith, c.loop-t.invariant.2, simp length-set c.loop-t.invariant.3)
+loop-t-preserved c = ((depth-stored _ _ _ c.requires.file_value c.requires.indexed.long _ _ (omega (arith, c.loop-t.invariant.1, c.loop-t-test.true)) (types-few _ _ c.requires.indexed) c.loop-t.invariant.0 c.type_depth-d.ensures).0, c.loop-t.invariant.1, simp length-set c.loop-t.invariant.2)
 
 pub returns : goal.returns
-returns c = c.loop-t.invariant.0 ∙ depths-done _ _ c.requires.file_value c.loop-t.t (omega (arith, c.loop-t.invariant.2, c.loop-t-test.false))
+returns c = c.loop-t.invariant.0 ∙ depths-done _ _ c.requires.file_value c.loop-t.t (omega (arith, c.loop-t.invariant.1, c.loop-t-test.false))

@@ -8,7 +8,4 @@ use Rattle.rules.specs.File.{depths}
 use Rattle.checks.proofs.fill_depths.Given as goal
 
 abbrev pub invariant-loop-t : goal.invariant-loop-t
-invariant-loop-t l = (l.index ≡ sets l.initial.index depths_base (take l.t (depths (tables_of l.file)))) × (l.t ≤ l.n) × (l.n ≡ length (tables_of l.file).types) × (length l.index ≡ length l.initial.index)
-
-abbrev pub decreases-loop-t : goal.decreases-loop-t
-decreases-loop-t l = l.n - l.t
+invariant-loop-t l = (l.index ≡ sets l.initial.index depths_base (take l.t (depths (tables_of l.file)))) × (l.n ≡ length (tables_of l.file).types) × (length l.index ≡ length l.initial.index)

@@ -4,6 +4,3 @@ use Rattle.checks.proofs.fill_last_bindings.Given as goal
 
 abbrev pub invariant-loop-k : goal.invariant-loop-k
 invariant-loop-k l = Written l.file l.initial.index l.index l.k
-
-abbrev pub decreases-loop-k : goal.decreases-loop-k
-decreases-loop-k l = l.n - l.k

@@ -1,6 +1,9 @@
+use mathlib.Core.Path.{refl, sym, ◌∙◌}
+use mathlib.Core.Logic.{⊎_elim}
 use native.Mathlib.Omega.{arith}
+use Rattle.file.specs.Tables.{tables_of}
 use Rattle.rules.specs.File.{child_nodes}
-use Rattle.record_checks.proofs.Seen.{by-node, node-as, words-4}
+use Rattle.record_checks.proofs.Seen.{by-node, node-as, words-4, node-rest}
 use Rattle.checks.proofs.Views.{patterns-are, lower-run, single-low}
 use Rattle.checks.proofs.Verdicts.{none-marked, marked-as}
 use Rattle.checks.proofs.mark_children.Goals as goal
@@ -19,83 +22,37 @@ mark_run-requires c =
 
 pub mark-requires : goal.mark-requires
 unfolding child_nodes
-mark-requires c = single-low _ _ _ (by-node child_nodes c.node_at.ensures.shows c.in-Access.is) c.requires.n_value
-
-pub mark-requires-in-Value : goal.mark-requires-in-Value
-unfolding child_nodes
-mark-requires-in-Value c = single-low _ _ _ (by-node child_nodes c.node_at.ensures.shows c.in-Value.is) c.requires.n_value
-
-pub mark-requires-in-Select : goal.mark-requires-in-Select
-unfolding child_nodes
-mark-requires-in-Select c = single-low _ _ _ (by-node child_nodes c.node_at.ensures.shows c.in-Select.is) c.requires.n_value
+mark-requires c = single-low _ _ _ (by-node child_nodes c.node_at.ensures.shows c.in-Value.is) c.requires.n_value
 
 pub mark-requires-in-Fact : goal.mark-requires-in-Fact
 unfolding child_nodes
 mark-requires-in-Fact c = single-low _ _ _ (by-node child_nodes c.node_at.ensures.shows c.in-Fact.is) c.requires.n_value
 
-pub returns-in-Int : goal.returns-in-Int
-unfolding child_nodes
-returns-in-Int c = named (none-marked _ _ (by-node child_nodes c.node_at.ensures.shows c.in-Int.is))
-
-pub returns-in-Str : goal.returns-in-Str
-unfolding child_nodes
-returns-in-Str c = named (none-marked _ _ (by-node child_nodes c.node_at.ensures.shows c.in-Str.is))
-
-pub returns-in-Bytes : goal.returns-in-Bytes
-unfolding child_nodes
-returns-in-Bytes c = named (none-marked _ _ (by-node child_nodes c.node_at.ensures.shows c.in-Bytes.is))
-
-pub returns-in-Var : goal.returns-in-Var
-unfolding child_nodes
-returns-in-Var c = named (none-marked _ _ (by-node child_nodes c.node_at.ensures.shows c.in-Var.is))
-
-pub returns-in-Wildcard : goal.returns-in-Wildcard
-unfolding child_nodes
-returns-in-Wildcard c = named (none-marked _ _ (by-node child_nodes c.node_at.ensures.shows c.in-Wildcard.is))
-
-pub returns-in-Never : goal.returns-in-Never
-unfolding child_nodes
-returns-in-Never c = named (none-marked _ _ (by-node child_nodes c.node_at.ensures.shows c.in-Never.is))
-
-pub returns-in-Prefix : goal.returns-in-Prefix
-unfolding child_nodes
-returns-in-Prefix c = named (none-marked _ _ (by-node child_nodes c.node_at.ensures.shows c.in-Prefix.is))
-
-pub returns-in-Fuzzy : goal.returns-in-Fuzzy
-unfolding child_nodes
-returns-in-Fuzzy c = named (none-marked _ _ (by-node child_nodes c.node_at.ensures.shows c.in-Fuzzy.is))
-
 pub returns-in-Record : goal.returns-in-Record
 returns-in-Record c = named (marked-as _ _ _ _ _ (patterns-are _ _ _ c.node_at.ensures.shows _ _ c.in-Record.is) c.mark_run.ensures.gives c.mark_run.ensures.leaves)
 
-pub returns-in-Access : goal.returns-in-Access
-unfolding child_nodes
-returns-in-Access c = named (marked-as _ _ _ _ _ (by-node child_nodes c.node_at.ensures.shows c.in-Access.is) c.mark.ensures.gives c.mark.ensures.leaves)
-
 pub returns-in-Value : goal.returns-in-Value
 unfolding child_nodes
-returns-in-Value c = named (marked-as _ _ _ _ _ (by-node child_nodes c.node_at.ensures.shows c.in-Value.is) c.mark-in-Value.ensures.gives c.mark-in-Value.ensures.leaves)
-
-pub returns-in-Select : goal.returns-in-Select
-unfolding child_nodes
-returns-in-Select c = named (marked-as _ _ _ _ _ (by-node child_nodes c.node_at.ensures.shows c.in-Select.is) c.mark-in-Select.ensures.gives c.mark-in-Select.ensures.leaves)
-
-pub returns-in-Disjunction : goal.returns-in-Disjunction
-unfolding child_nodes
-returns-in-Disjunction c = named (none-marked _ _ (by-node child_nodes c.node_at.ensures.shows c.in-Disjunction.is))
-
-pub returns-in-Subquery : goal.returns-in-Subquery
-unfolding child_nodes
-returns-in-Subquery c = named (none-marked _ _ (by-node child_nodes c.node_at.ensures.shows c.in-Subquery.is))
+returns-in-Value c = named (marked-as _ _ _ _ _ (by-node child_nodes c.node_at.ensures.shows c.in-Value.is) c.mark.ensures.gives c.mark.ensures.leaves)
 
 pub returns-in-Fact : goal.returns-in-Fact
 unfolding child_nodes
 returns-in-Fact c = named (marked-as _ _ _ _ _ (by-node child_nodes c.node_at.ensures.shows c.in-Fact.is) c.mark-in-Fact.ensures.gives c.mark-in-Fact.ensures.leaves)
 
-pub returns-in-Arith : goal.returns-in-Arith
+pub mark-requires-in-Access : goal.mark-requires-in-Access
 unfolding child_nodes
-returns-in-Arith c = named (none-marked _ _ (by-node child_nodes c.node_at.ensures.shows c.in-Arith.is))
+mark-requires-in-Access c =
+    let s = c.node_at.ensures.shows in
+    single-low _ _ _ (⊎_elim (λ w. by-node child_nodes s w.1) (λ w. by-node child_nodes s w.1) c.in-Access.is) c.requires.n_value
 
-pub returns-in-Error : goal.returns-in-Error
+pub returns-in-Access : goal.returns-in-Access
 unfolding child_nodes
-returns-in-Error c = named (none-marked _ _ (by-node child_nodes c.node_at.ensures.shows c.in-Error.is))
+returns-in-Access c =
+    let s = c.node_at.ensures.shows in
+    named (marked-as _ _ _ _ _ (⊎_elim (λ w. by-node child_nodes s w.1) (λ w. by-node child_nodes s w.1) c.in-Access.is) c.mark-in-Access.ensures.gives c.mark-in-Access.ensures.leaves)
+
+pub returns-in_default : goal.returns-in_default
+returns-in_default c =
+    let n = c.in_default in
+    named (none-marked _ _ (sym (node-rest (tables_of c.args.file.now) _ _ n.not-Record n.not-Access n.not-Value n.not-Select n.not-Fact)
+    ∙ by-node child_nodes c.node_at.ensures.shows refl))

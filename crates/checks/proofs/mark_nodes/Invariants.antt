@@ -8,7 +8,4 @@ use Rattle.checks.specs.Checked.{once, marked}
 use Rattle.checks.proofs.mark_nodes.Given as goal
 
 abbrev pub invariant-loop-n : goal.invariant-loop-n
-invariant-loop-n l = (once l.initial.marks (concat_map child_nodes (tables_of l.file).nodes) ≡ once l.marks (concat_map child_nodes (drop l.n (tables_of l.file).nodes))) × (marked l.initial.marks (concat_map child_nodes (tables_of l.file).nodes) ≡ marked l.marks (concat_map child_nodes (drop l.n (tables_of l.file).nodes))) × (l.n ≤ l.m) × (l.m ≡ length (tables_of l.file).nodes) × (length l.marks ≡ length l.initial.marks)
-
-abbrev pub decreases-loop-n : goal.decreases-loop-n
-decreases-loop-n l = l.m - l.n
+invariant-loop-n l = (once l.initial.marks (concat_map child_nodes (tables_of l.file).nodes) ≡ once l.marks (concat_map child_nodes (drop l.n (tables_of l.file).nodes))) × (marked l.initial.marks (concat_map child_nodes (tables_of l.file).nodes) ≡ marked l.marks (concat_map child_nodes (drop l.n (tables_of l.file).nodes))) × (l.m ≡ length (tables_of l.file).nodes) × (length l.marks ≡ length l.initial.marks)

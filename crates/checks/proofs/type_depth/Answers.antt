@@ -1,6 +1,7 @@
+use mathlib.Core.Path.{refl, ◌∙◌}
 use native.Mathlib.Omega.{arith}
 use Rattle.rules.specs.File.{depth_of, child_types, deepest}
-use Rattle.record_checks.proofs.Seen.{by-type, type-as, words-4, words-8}
+use Rattle.record_checks.proofs.Seen.{by-type, type-rest, type-as, words-4, words-8}
 use Rattle.checks.proofs.Bottom.{type-lower}
 use Rattle.checks.proofs.Fill.{types-few}
 use Rattle.checks.proofs.Views.{fields-are, alternatives-are, lower-run, depth_is}
@@ -30,24 +31,14 @@ deepest_of-requires-in-Union c =
 pub overflow_add-result-in-Union : goal.overflow_add-result-in-Union
 overflow_add-result-in-Union c = omega (arith, c.deepest_of-in-Union.ensures.bounded)
 
-pub returns-in-Int : goal.returns-in-Int
-unfolding depth_of child_types deepest
-returns-in-Int c = by-type (depth_of _) c.type_at.ensures.shows c.in-Int.is
-
-pub returns-in-Str : goal.returns-in-Str
-unfolding depth_of child_types deepest
-returns-in-Str c = by-type (depth_of _) c.type_at.ensures.shows c.in-Str.is
-
-pub returns-in-Bytes : goal.returns-in-Bytes
-unfolding depth_of child_types deepest
-returns-in-Bytes c = by-type (depth_of _) c.type_at.ensures.shows c.in-Bytes.is
-
-pub returns-in-Fact : goal.returns-in-Fact
-unfolding depth_of child_types deepest
-returns-in-Fact c = by-type (depth_of _) c.type_at.ensures.shows c.in-Fact.is
-
 pub returns-in-Record : goal.returns-in-Record
 returns-in-Record c = depth_is _ _ _ _ c.deepest_of.ensures.gives (fields-are _ _ _ c.type_at.ensures.shows _ _ c.in-Record.is)
 
 pub returns-in-Union : goal.returns-in-Union
 returns-in-Union c = depth_is _ _ _ _ c.deepest_of-in-Union.ensures.gives (alternatives-are _ _ _ c.type_at.ensures.shows _ _ c.in-Union.is)
+
+pub returns-in_default : goal.returns-in_default
+unfolding depth_of child_types deepest
+returns-in_default c =
+    type-rest (depth_of _) _ _ _ c.in_default.not-Record c.in_default.not-Union refl refl refl (λ _. refl)
+    ∙ by-type (depth_of _) c.type_at.ensures.shows refl

@@ -18,10 +18,10 @@ pub constant_field-returns-in_default : goal.constant_field-returns-in_default
 constant_field-returns-in_default t c = field-none _ _ _ _ _ c.field_pattern.ensures c.in_default.is
 
 pub constant_field-constant_of-requires : goal.constant_field-constant_of-requires
-constant_field-constant_of-requires t c = let o = pattern-ok _ _ _ _ _ _ c.requires.patterns _ _ c.field_pattern.ensures c.in-Just.is in (omega (arith, c.decreases, o.1), (c.requires.accepted_file, (o.0, c.requires.ty_in_bounds)))
+constant_field-constant_of-requires t c = let o = pattern-ok _ _ _ _ _ _ c.requires.patterns _ _ c.field_pattern.ensures c.in-Some.is in (omega (arith, c.decreases, o.1), (c.requires.accepted_file, (o.0, c.requires.ty_in_bounds)))
 
 pub constant_field-returns : goal.constant_field-returns
-constant_field-returns t c = field-some _ _ _ _ _ _ _ c.field_pattern.ensures c.in-Just.is (only-const _ _ _ _ _ c.constant_of.ensures c.bytes_only.ensures)
+constant_field-returns t c = field-some _ _ _ _ _ _ _ c.field_pattern.ensures c.in-Some.is (only-const _ _ _ _ _ c.constant_of.ensures c.bytes_only.ensures)
 
 pub constant_fields-loop-i-init : goal.constant_fields-loop-i-init
 constant_fields-loop-i-init t c = add_start _ _ _ _ _
@@ -36,10 +36,10 @@ pub constant_fields-returns-in_default : goal.constant_fields-returns-in_default
 constant_fields-returns-in_default t c = add_none _ _ _ _ _ _ _ c.loop-i.invariant _ c.loop-i-test.true c.field_ty_at-f.ensures _ c.constant_field.ensures c.in_default.is
 
 pub constant_fields-capped-total-requires : goal.constant_fields-capped-total-requires
-constant_fields-capped-total-requires t c = omega (arith, subst Small c.in-Just.is (size_small _ _ _ c.constant_field.ensures), c.loop-i.invariant.small)
+constant_fields-capped-total-requires t c = omega (arith, subst Small c.in-Some.is (size_small _ _ _ c.constant_field.ensures), c.loop-i.invariant.small)
 
 pub constant_fields-loop-i-preserved : goal.constant_fields-loop-i-preserved
-constant_fields-loop-i-preserved t c = add-more _ _ _ _ _ _ _ c.loop-i.invariant _ c.loop-i-test.true c.field_ty_at-f.ensures _ c.constant_field.ensures _ _ c.in-Just.is c.capped-total.ensures
+constant_fields-loop-i-preserved t c = add-more _ _ _ _ _ _ _ c.loop-i.invariant _ c.loop-i-test.true c.field_ty_at-f.ensures _ c.constant_field.ensures _ _ c.in-Some.is c.capped-total.ensures
 
 pub constant_fields-returns : goal.constant_fields-returns
 constant_fields-returns t c = add-end _ _ _ _ _ _ _ c.loop-i.invariant c.loop-i-test.false
@@ -144,7 +144,7 @@ pub constant_union-returns-in_default : goal.constant_union-returns-in_default
 constant_union-returns-in_default t c = payload-none _ _ _ _ _ c.if-n-ne1.false _ c.field_pattern_at-p.ensures _ c.alternative_of.ensures c.in_default.is
 
 pub constant_union-constant_of-requires : goal.constant_union-constant_of-requires
-constant_union-constant_of-requires t c = let o = only-ok _ _ _ _ _ c.requires.patterns c.if-n-ne1.false _ c.field_pattern_at-p.ensures in (omega (arith, c.decreases, o.1), (c.requires.accepted_file, (o.0, alternative-ok _ _ _ _ _ c.requires.alternatives _ _ c.alternative_of.ensures c.in-Just.is)))
+constant_union-constant_of-requires t c = let o = only-ok _ _ _ _ _ c.requires.patterns c.if-n-ne1.false _ c.field_pattern_at-p.ensures in (omega (arith, c.decreases, o.1), (c.requires.accepted_file, (o.0, alternative-ok _ _ _ _ _ c.requires.alternatives _ _ c.alternative_of.ensures c.in-Some.is)))
 
 pub constant_union-returns : goal.constant_union-returns
-constant_union-returns t c = payload-some _ _ _ _ _ c.if-n-ne1.false _ c.field_pattern_at-p.ensures _ c.alternative_of.ensures _ _ c.in-Just.is (only-const _ _ _ _ _ c.constant_of.ensures c.bytes_only.ensures)
+constant_union-returns t c = payload-some _ _ _ _ _ c.if-n-ne1.false _ c.field_pattern_at-p.ensures _ c.alternative_of.ensures _ _ c.in-Some.is (only-const _ _ _ _ _ c.constant_of.ensures c.bytes_only.ensures)

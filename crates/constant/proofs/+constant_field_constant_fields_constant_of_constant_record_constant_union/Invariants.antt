@@ -24,6 +24,3 @@ decreases-constant_union l = constant_rank (tables_of l.file.now) l.node * 4 + 1
 
 abbrev pub invariant-constant_fields-loop-i : goal.invariant-constant_fields-loop-i
 invariant-constant_fields-loop-i l = Adding (ConstantRules.constant (tables_of l.file)) (run (pattern_at l.file) 4 l.n l.at) l.file l.k l.from l.total l.i
-
-abbrev pub decreases-constant_fields-loop-i : goal.decreases-constant_fields-loop-i
-decreases-constant_fields-loop-i l = l.k - l.i

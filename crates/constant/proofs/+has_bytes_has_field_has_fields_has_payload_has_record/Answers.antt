@@ -51,10 +51,10 @@ pub has_field-returns-in_default : goal.has_field-returns-in_default
 has_field-returns-in_default t c = has-none _ (field-absent _ _ _ _ _ c.field_pattern.ensures c.in_default.is)
 
 pub has_field-has_bytes-requires : goal.has_field-has_bytes-requires
-has_field-has_bytes-requires t c = let o = pattern-ok _ _ _ _ _ _ c.requires.patterns _ _ c.field_pattern.ensures c.in-Just.is in (omega (arith, c.decreases, o.1), (c.requires.accepted_file, (o.0, c.requires.ty_in_bounds)))
+has_field-has_bytes-requires t c = let o = pattern-ok _ _ _ _ _ _ c.requires.patterns _ _ c.field_pattern.ensures c.in-Some.is in (omega (arith, c.decreases, o.1), (c.requires.accepted_file, (o.0, c.requires.ty_in_bounds)))
 
 pub has_field-returns : goal.has_field-returns
-has_field-returns t c = has_some _ _ _ (field-present _ _ _ _ _ _ c.field_pattern.ensures c.in-Just.is) c.has_bytes.ensures
+has_field-returns t c = has_some _ _ _ (field-present _ _ _ _ _ _ c.field_pattern.ensures c.in-Some.is) c.has_bytes.ensures
 
 pub has_fields-loop-i-init : goal.has_fields-loop-i-init
 has_fields-loop-i-init t c = have-start _ _ _ _ _
@@ -87,16 +87,16 @@ pub has_payload-returns-in_default : goal.has_payload-returns-in_default
 has_payload-returns-in_default t c = has-none _ (payload-unnamed _ _ _ _ _ c.if-n-ne1.false _ c.field_pattern_at-p.ensures _ c.alternative_of.ensures c.in_default.is)
 
 pub has_payload-has_bytes-requires : goal.has_payload-has_bytes-requires
-has_payload-has_bytes-requires t c = let o = only-ok _ _ _ _ _ c.requires.patterns c.if-n-ne1.false _ c.field_pattern_at-p.ensures in (omega (arith, c.decreases, o.1), (c.requires.accepted_file, (o.0, alternative-ok _ _ _ _ _ c.requires.alternatives _ _ c.alternative_of.ensures c.in-Just.is)))
+has_payload-has_bytes-requires t c = let o = only-ok _ _ _ _ _ c.requires.patterns c.if-n-ne1.false _ c.field_pattern_at-p.ensures in (omega (arith, c.decreases, o.1), (c.requires.accepted_file, (o.0, alternative-ok _ _ _ _ _ c.requires.alternatives _ _ c.alternative_of.ensures c.in-Some.is)))
 
 pub has_payload-returns : goal.has_payload-returns
-has_payload-returns t c = has_some _ _ _ (payload-named _ _ _ _ _ c.if-n-ne1.false _ c.field_pattern_at-p.ensures _ c.alternative_of.ensures _ c.in-Just.is) c.has_bytes.ensures
+has_payload-returns t c = has_some _ _ _ (payload-named _ _ _ _ _ c.if-n-ne1.false _ c.field_pattern_at-p.ensures _ c.alternative_of.ensures _ c.in-Some.is) c.has_bytes.ensures
 
 pub has_record-recall-requires : goal.has_record-recall-requires
 has_record-recall-requires t c = few _ _ c.requires.accepted_file _ _ _ _ c.requires.record_at c.requires.ty_in_bounds
 
-pub has_record-returns-in-Just : goal.has_record-returns-in-Just
-has_record-returns-in-Just t c = has-recalled _ _ c.requires.accepted_file _ _ _ _ c.requires.record_at c.requires.ty_in_bounds _ _ c.recall.ensures c.in-Just.is
+pub has_record-returns-in-Some : goal.has_record-returns-in-Some
+has_record-returns-in-Some t c = has-recalled _ _ c.requires.accepted_file _ _ _ _ c.requires.record_at c.requires.ty_in_bounds _ _ c.recall.ensures c.in-Some.is
 
 pub has_record-type_at-requires : goal.has_record-type_at-requires
 has_record-type_at-requires t c = record { indexed = c.requires.accepted_file.indexed; t_in_bounds = c.requires.ty_in_bounds }

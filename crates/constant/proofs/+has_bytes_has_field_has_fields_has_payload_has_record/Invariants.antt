@@ -24,6 +24,3 @@ decreases-has_record l = constant_rank (tables_of l.file.now) l.node * 4 + 2
 
 abbrev pub invariant-has_fields-loop-i : goal.invariant-has_fields-loop-i
 invariant-has_fields-loop-i l = Having (ConstantRules.constant (tables_of l.file)) (run (pattern_at l.file) 4 l.n l.at) l.file l.k l.from l.i
-
-abbrev pub decreases-has_fields-loop-i : goal.decreases-has_fields-loop-i
-decreases-has_fields-loop-i l = l.k - l.i

@@ -5,7 +5,7 @@ use Rattle.constant.specs.Sizes.{Small}
 use Rattle.constant.proofs.wrap.Goals as goal
 
 pub capped-requires : goal.capped-requires
-capped-requires c = omega (arith, subst Small c.in-Just.is c.requires.small)
+capped-requires c = omega (arith, subst Small c.in-Some.is c.requires.small)
 
-pub returns-in-Just : goal.returns-in-Just
-returns-in-Just c = wrap-is _ _ _ _ _ _ c.in-Just.is c.capped.ensures
+pub returns-in-Some : goal.returns-in-Some
+returns-in-Some c = wrap-is _ _ _ _ _ _ c.in-Some.is c.capped.ensures

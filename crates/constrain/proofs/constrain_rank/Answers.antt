@@ -2,34 +2,25 @@ use native.Mathlib.Omega.{arith}
 use Rattle.constrain.proofs.Ranks.{going-first, going-not, going-one, going_end}
 use Rattle.constrain.proofs.constrain_rank.Goals as goal
 
-pub count_of-n-requires : goal.count_of-n-requires
-count_of-n-requires c = record { indexed = c.requires.accepted_file.indexed; s_lt_section_count = omega arith }
+pub count_of-k-end-requires : goal.count_of-k-end-requires
+count_of-k-end-requires c = record { indexed = c.requires.accepted_file.indexed; s_lt_section_count = omega arith }
 
 pub loop-k-init : goal.loop-k-init
 loop-k-init c = going-first _ _ _ _ _ _ _ _
 
-pub pattern_for-found-requires : goal.pattern_for-found-requires
-pattern_for-found-requires c = record { indexed = c.requires.accepted_file.indexed; k_in_bounds = omega (arith, c.loop-k-test.true, c.count_of-n.ensures) }
-
-pub overflow_add-k : goal.overflow_add-k
-overflow_add-k c = omega (arith, c.loop-k-test.true)
+pub pattern_for-requires : goal.pattern_for-requires
+pattern_for-requires c = record { indexed = c.requires.accepted_file.indexed; k_in_bounds = omega (arith, c.loop-k-test.true, c.count_of-k-end.ensures) }
 
 pub narrow_or_report-l-requires : goal.narrow_or_report-l-requires
 narrow_or_report-l-requires c = record { accepted_file = c.requires.accepted_file; ty_in_bounds = c.requires.ty_in_bounds }
 
-pub loop-k-smaller-in-Just : goal.loop-k-smaller-in-Just
-loop-k-smaller-in-Just c = omega (arith, c.loop-k-test.true)
-
-pub loop-k-preserved-in-Just : goal.loop-k-preserved-in-Just
-loop-k-preserved-in-Just c =
-    going-one _ _ _ _ _ _ _ _ _ _ _ _ c.loop-k.invariant (omega (arith, c.loop-k-test.true, c.count_of-n.ensures)) _ c.pattern_for-found.ensures _ c.in-Just.is _ c.narrow_or_report-l.ensures _ _
+pub loop-k-preserved : goal.loop-k-preserved
+loop-k-preserved c =
+    going-one _ _ _ _ _ _ _ _ _ _ _ _ c.loop-k.invariant (omega (arith, c.loop-k-test.true, c.count_of-k-end.ensures)) _ c.pattern_for.ensures _ c.in-Some.is _ c.narrow_or_report-l.ensures _ _
     c.narrow_or_report-l.auto.work c.narrow_or_report-l.auto.plan
 
-pub loop-k-smaller : goal.loop-k-smaller
-loop-k-smaller c = omega (arith, c.loop-k-test.true)
-
-pub loop-k-preserved : goal.loop-k-preserved
-loop-k-preserved c = going-not _ _ _ _ _ _ _ _ _ _ _ _ c.loop-k.invariant (omega (arith, c.loop-k-test.true, c.count_of-n.ensures)) _ c.pattern_for-found.ensures c.in_default.is
+pub loop-k-preserved-in_default : goal.loop-k-preserved-in_default
+loop-k-preserved-in_default c = going-not _ _ _ _ _ _ _ _ _ _ _ _ c.loop-k.invariant (omega (arith, c.loop-k-test.true, c.count_of-k-end.ensures)) _ c.pattern_for.ensures c.in_default.is
 
 pub returns : goal.returns
-returns c = going_end _ _ _ _ _ _ _ _ _ _ _ _ c.loop-k.invariant (omega (arith, c.loop-k-test.false, c.count_of-n.ensures))
+returns c = going_end _ _ _ _ _ _ _ _ _ _ _ _ c.loop-k.invariant (omega (arith, c.loop-k-test.false, c.count_of-k-end.ensures))

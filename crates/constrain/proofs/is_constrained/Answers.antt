@@ -1,21 +1,15 @@
-use native.Mathlib.Omega.{arith}
-use Rattle.constrain.proofs.Ranks.{seek-first, seek-more, seek_hit, seek-end}
+use Rattle.std.proofs.Common.{rules, refl, ◌∙◌}
+use borrow.Author.Tests.{tests}
+use lib.Dec.{eqb}
+use Rattle.std.proofs.lemmas.Iterator.{YieldsList-from_range}
+use Rattle.std.proofs.lemmas.Iterator.Search.{any_from_yields_List}
+use Rattle.file.specs.Tables.{tables_of}
+use Rattle.views.specs.Views.{constraint_at}
+use Rattle.constrain.proofs.Ranks.{any-constrained}
 use Rattle.constrain.proofs.is_constrained.Goals as goal
 
-pub loop-k-init : goal.loop-k-init
-loop-k-init c = seek-first _ _
-
-pub constraint_at-c-requires : goal.constraint_at-c-requires
-constraint_at-c-requires c = record { indexed = c.requires; k_in_bounds = omega (arith, c.loop-k-test.true, c.count_of-n.ensures) }
-
-pub returns-then-c-name : goal.returns-then-c-name
-returns-then-c-name c = seek_hit _ _ _ c.loop-k.invariant (omega (arith, c.loop-k-test.true, c.count_of-n.ensures)) _ c.constraint_at-c.ensures c.if-c-name.true
-
-pub loop-k-smaller : goal.loop-k-smaller
-loop-k-smaller c = omega (arith, c.loop-k-test.true)
-
-pub loop-k-preserved : goal.loop-k-preserved
-loop-k-preserved c = seek-more _ _ _ c.loop-k.invariant (omega (arith, c.loop-k-test.true, c.count_of-n.ensures)) _ c.constraint_at-c.ensures c.if-c-name.false
-
 pub returns : goal.returns
-returns c = seek-end _ _ _ c.loop-k.invariant (omega (arith, c.loop-k-test.false, c.count_of-n.ensures))
+returns c =
+    any_from_yields_List (λ k. eqb (constraint_at (tables_of c.args.file.now) k).name c.args.name) _ _ _ c.any.ensures.ran
+    (YieldsList-from_range 0 _ _ refl refl) (λ x b q k. search (rules, tests))
+    ∙ any-constrained (tables_of c.args.file.now) c.args.name _ c.count_of.ensures

@@ -52,10 +52,10 @@ pub put_field-returns-in_default : goal.put_field-returns-in_default
 put_field-returns-in_default t c = absurd (field-missing _ _ _ _ _ c.field_pattern.ensures _ c.requires.fact c.in_default.is)
 
 pub put_field-put_constant-requires : goal.put_field-put_constant-requires
-put_field-put_constant-requires t c = let o = pattern-ok _ _ _ _ _ _ c.requires.patterns _ _ c.field_pattern.ensures c.in-Just.is in (omega (arith, c.decreases, o.1), (c.requires.accepted_file, (o.0, (c.requires.ty_in_bounds, here-as _ _ _ c.requires.fact (field-bytes _ _ _ _ _ c.field_pattern.ensures _ c.in-Just.is)))))
+put_field-put_constant-requires t c = let o = pattern-ok _ _ _ _ _ _ c.requires.patterns _ _ c.field_pattern.ensures c.in-Some.is in (omega (arith, c.decreases, o.1), (c.requires.accepted_file, (o.0, (c.requires.ty_in_bounds, here-as _ _ _ c.requires.fact (field-bytes _ _ _ _ _ c.field_pattern.ensures _ c.in-Some.is)))))
 
 pub put_field-returns : goal.put_field-returns
-put_field-returns t c = wrote-same _ _ _ _ _ _ c.put_constant.ensures (field-bytes _ _ _ _ _ c.field_pattern.ensures _ c.in-Just.is)
+put_field-returns t c = wrote-same _ _ _ _ _ _ c.put_constant.ensures (field-bytes _ _ _ _ _ c.field_pattern.ensures _ c.in-Some.is)
 
 pub put_fields-loop-i-init : goal.put_fields-loop-i-init
 put_fields-loop-i-init t c = put-start _ _ _ _ _ _ _ c.requires.fact
@@ -112,10 +112,10 @@ pub put_union-overflow_add-at : goal.put_union-overflow_add-at
 put_union-overflow_add-at t c = omega (arith, c.requires.fact.room)
 
 pub put_union-put_constant-q-requires : goal.put_union-put_constant-q-requires
-put_union-put_constant-q-requires t c = let o = only-ok _ _ _ _ _ c.requires.patterns (union-one _ _ _ _ _ _ c.requires.fact) _ c.field_pattern_at-p.ensures in (omega (arith, c.decreases, o.1), (c.requires.accepted_file, (o.0, (alternative-ok _ _ _ _ _ c.requires.alternatives _ _ c.alternative_of.ensures c.in-Just.is, (payload-here _ _ _ _ _ _ c.requires.fact _ c.field_pattern_at-p.ensures _ c.alternative_of.ensures _ c.in-Just.is)))))
+put_union-put_constant-q-requires t c = let o = only-ok _ _ _ _ _ c.requires.patterns (union-one _ _ _ _ _ _ c.requires.fact) _ c.field_pattern_at-p.ensures in (omega (arith, c.decreases, o.1), (c.requires.accepted_file, (o.0, (alternative-ok _ _ _ _ _ c.requires.alternatives _ _ c.alternative_of.ensures c.in-Some.is, (payload-here _ _ _ _ _ _ c.requires.fact _ c.field_pattern_at-p.ensures _ c.alternative_of.ensures _ c.in-Some.is)))))
 
 pub put_union-overflow_add-result : goal.put_union-overflow_add-result
-put_union-overflow_add-result t c = omega (arith, c.put_constant-q.ensures.place, (payload-here _ _ _ _ _ _ c.requires.fact _ c.field_pattern_at-p.ensures _ c.alternative_of.ensures _ c.in-Just.is).room)
+put_union-overflow_add-result t c = omega (arith, c.put_constant-q.ensures.place, (payload-here _ _ _ _ _ _ c.requires.fact _ c.field_pattern_at-p.ensures _ c.alternative_of.ensures _ c.in-Some.is).room)
 
 pub put_union-returns : goal.put_union-returns
-put_union-returns t c = put-union _ _ _ _ _ _ c.requires.fact _ c.field_pattern_at-p.ensures _ c.alternative_of.ensures _ c.in-Just.is _ _ _ _ _ c.put_tag.ensures c.put_constant-q.ensures c.put8.ensures
+put_union-returns t c = put-union _ _ _ _ _ _ c.requires.fact _ c.field_pattern_at-p.ensures _ c.alternative_of.ensures _ c.in-Some.is _ _ _ _ _ c.put_tag.ensures c.put_constant-q.ensures c.put8.ensures

@@ -4,7 +4,6 @@ use Rattle.accepted_file.specs.AcceptedFile.{constant_rank}
 use Rattle.encode.proofs.Parts.{Fielding}
 use Rattle.rules.specs.Constant as ConstantRules
 use Rattle.views.specs.Views.{run, pattern_at}
-use Prim.Native.Nat.{◌-◌}
 use Rattle.encode.proofs.+put_constant_put_field_put_fields_put_record_put_union.Given as goal
 
 abbrev pub decreases-put_constant : goal.decreases-put_constant
@@ -24,6 +23,3 @@ decreases-put_union l = constant_rank (tables_of l.file.now) l.node * 4 + 1
 
 abbrev pub invariant-put_fields-loop-i : goal.invariant-put_fields-loop-i
 invariant-put_fields-loop-i l = Fielding (ConstantRules.constant (tables_of l.file)) (run (pattern_at l.file) 4 l.n l.pairs) l.file l.k l.from l.at l.initial.buf l.i l.p l.buf
-
-abbrev pub decreases-put_fields-loop-i : goal.decreases-put_fields-loop-i
-decreases-put_fields-loop-i l = l.k - l.i

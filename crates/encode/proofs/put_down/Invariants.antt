@@ -3,6 +3,3 @@ use Rattle.encode.proofs.put_down.Given as goal
 
 abbrev pub invariant-loop-left : goal.invariant-loop-left
 invariant-loop-left l = Falling l.file l.n l.from l.at l.initial.buf l.left l.p l.buf
-
-abbrev pub decreases-loop-left : goal.decreases-loop-left
-decreases-loop-left l = l.left

@@ -4,6 +4,7 @@ use native.Mathlib.Omega.{arith}
 use Rattle.literals.proofs.Going.{going-first, going-missing, going-clear, going-met, going_end}
 use Rattle.fates.proofs.Hearing.{heard-none, heard-pieces}
 use Rattle.fates.proofs.+heard.Goals as goal
+use Rattle.fates.proofs.+heard.Goals.{in-Some+else-heard, in_default}
 
 pub pieces-opened-requires : goal.pieces-opened-requires
 pieces-opened-requires t c = record { accepted_file = c.requires.accepted_file; ty_in_bounds = c.requires.ty_in_bounds }
@@ -17,9 +18,6 @@ loop-i-init t c = going-first _ _ _ _
 pub piece_at-p-requires : goal.piece_at-p-requires
 piece_at-p-requires t c = record { accepted_file = c.requires.accepted_file; ty_in_bounds = c.requires.ty_in_bounds; opened = c.pieces-opened.ensures.opens; i_lt_count = c.loop-i-test.true }
 
-pub overflow_add-i : goal.overflow_add-i
-overflow_add-i t c = omega (arith, c.loop-i-test.true, c.pieces-opened.ensures.bounded)
-
 pub heard-requires : goal.heard-requires
 heard-requires t c =
     let l = c.piece_at-p.ensures.lower in
@@ -29,23 +27,19 @@ pub returns-then-heard : goal.returns-then-heard
 returns-then-heard t c =
     let k = c.piece_at-p.ensures in
     heard-pieces _ _ _ _ (λ e. c.if-opened-eq0.false (count-is _ _ _ _ _ c.pieces-opened.ensures.opens ∙ e))
-    (going-met _ _ _ _ _ c.loop-i.invariant (omega (arith, c.loop-i-test.true, count-is _ _ _ _ _ c.pieces-opened.ensures.opens)) _ k _ c.in-Just.is
+    (going-met _ _ _ _ _ c.loop-i.invariant (omega (arith, c.loop-i-test.true, count-is _ _ _ _ _ c.pieces-opened.ensures.opens)) _ k _ c.in-Some.is
     (λ limit l. sym c.if-heard.true ∙ c.heard.ensures.is limit (omega (arith, k.lower.lower, l))))
 
-pub loop-i-smaller-else-heard : goal.loop-i-smaller-else-heard
-loop-i-smaller-else-heard t c = omega (arith, c.loop-i-test.true)
-
-pub loop-i-preserved-else-heard : goal.loop-i-preserved-else-heard
-loop-i-preserved-else-heard t c =
-    let k = c.piece_at-p.ensures in
-    going-clear _ _ _ _ _ c.loop-i.invariant (omega (arith, c.loop-i-test.true, count-is _ _ _ _ _ c.pieces-opened.ensures.opens)) _ k _ c.in-Just.is
-    (λ limit l. sym c.if-heard.false ∙ c.heard.ensures.is limit (omega (arith, k.lower.lower, l)))
-
-pub loop-i-smaller : goal.loop-i-smaller
-loop-i-smaller t c = omega (arith, c.loop-i-test.true)
-
 pub loop-i-preserved : goal.loop-i-preserved
-loop-i-preserved t c = going-missing _ _ _ _ _ c.loop-i.invariant (omega (arith, c.loop-i-test.true, count-is _ _ _ _ _ c.pieces-opened.ensures.opens)) _ c.piece_at-p.ensures c.in_default.is
+loop-i-preserved t c =
+    let k = c.piece_at-p.ensures in
+    elim c.match-pattern.branch [
+      | in-Some+else-heard w ↦ going-clear _ _ _ _ _ c.loop-i.invariant
+          (omega (arith, c.loop-i-test.true, count-is _ _ _ _ _ c.pieces-opened.ensures.opens)) _ k _ w.in-Some.is
+          (λ limit l. sym w.if-heard.false ∙ w.heard.ensures.is limit (omega (arith, k.lower.lower, l)))
+      | in_default w ↦ going-missing _ _ _ _ _ c.loop-i.invariant
+          (omega (arith, c.loop-i-test.true, count-is _ _ _ _ _ c.pieces-opened.ensures.opens)) _ k w.in_default.is
+    ]
 
 pub returns : goal.returns
 returns t c =

@@ -9,6 +9,3 @@ decreases-heard l = l.ty
 
 abbrev pub invariant-loop-i : goal.invariant-loop-i
 invariant-loop-i l = Going (heard_below (tables_of l.file)) (tables_of l.file) l.node l.ty l.i
-
-abbrev pub decreases-loop-i : goal.decreases-loop-i
-decreases-loop-i l = l.opened.count - l.i

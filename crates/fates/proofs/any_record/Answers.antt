@@ -1,6 +1,5 @@
-use mathlib.Core.Path.{sym, ap, ◌∙◌}
+use mathlib.Core.Path.{sym, ◌∙◌}
 use native.Mathlib.Omega.{arith}
-use Rattle.tables.specs.Tables.{found_option}
 use Rattle.fates.proofs.Bindings.{searched-none, searched-more, searched-found, searched-all}
 use Rattle.fates.proofs.any_record.Goals as goal
 
@@ -10,11 +9,11 @@ loop-k-init c = searched-none _
 pub const_record-requires : goal.const_record-requires
 const_record-requires c = record { accepted_file = c.requires; k_in_bounds = omega (arith, c.count_of-n.ensures, c.loop-k-test.true) }
 
-pub returns-in-Just : goal.returns-in-Just
-returns-in-Just c = searched-found _ _ c.loop-k.invariant (omega (arith, c.count_of-n.ensures, c.loop-k-test.true)) _ (sym (ap found_option c.in-Just.is) ∙ c.const_record.ensures)
+pub returns-in-Some : goal.returns-in-Some
+returns-in-Some c = searched-found _ _ c.loop-k.invariant (omega (arith, c.count_of-n.ensures, c.loop-k-test.true)) _ (sym (c.in-Some.is) ∙ c.const_record.ensures)
 
 pub loop-k-preserved : goal.loop-k-preserved
-loop-k-preserved c = searched-more _ _ c.loop-k.invariant (omega (arith, c.count_of-n.ensures, c.loop-k-test.true)) (sym (ap found_option c.in_default.is) ∙ c.const_record.ensures)
+loop-k-preserved c = searched-more _ _ c.loop-k.invariant (omega (arith, c.count_of-n.ensures, c.loop-k-test.true)) (sym (c.in_default.is) ∙ c.const_record.ensures)
 
 pub returns : goal.returns
 returns c = searched-all _ _ c.loop-k.invariant (omega (arith, c.count_of-n.ensures, c.loop-k-test.false))

@@ -7,7 +7,9 @@ pub returns-in_default : goal.returns-in_default
 returns-in_default c = no-parent _ _ _ _ c.pairs_of.ensures.shows c.in_default.is
 
 pub returns-then-constant_node : goal.returns-then-constant_node
-returns-then-constant_node c = parent-if _ _ _ _ c.pairs_of.ensures.shows _ _ c.in-Just.is (length_run _ _ _ _) _ refl (sym c.constant_node.ensures ∙ c.if-constant_node.true)
+returns-then-constant_node c = parent-if _ _ _ _ c.pairs_of.ensures.shows _ _ c.in-Some.is (length_run _ _ _ _) _ refl (sym c.constant_node.ensures ∙ c.if-constant_node.true)
 
 pub returns-else-constant_node : goal.returns-else-constant_node
-returns-else-constant_node c = parent-not _ _ _ _ c.pairs_of.ensures.shows _ _ c.in-Just.is (sym c.constant_node.ensures ∙ c.if-constant_node.false)
+returns-else-constant_node c =
+    c.if-constant_node.false
+    ∙ parent-not _ _ _ _ c.pairs_of.ensures.shows _ _ c.in-Some.is (sym c.constant_node.ensures ∙ c.if-constant_node.false)

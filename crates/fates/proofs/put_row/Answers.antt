@@ -23,12 +23,6 @@ offset_bounds-long-at c = omega (arith, c.requires.k_lt_binding_limit.0, c.loop-
 pub bounds-long-at : goal.bounds-long-at
 bounds-long-at c = omega (arith, c.requires.k_lt_binding_limit.0, c.loop-q-test.true, c.loop-q.invariant.0)
 
-pub overflow_add-q : goal.overflow_add-q
-overflow_add-q c = omega (arith, c.loop-q-test.true)
-
-pub loop-q-smaller : goal.loop-q-smaller
-loop-q-smaller c = omega (arith, c.loop-q-test.true)
-
 pub loop-q-preserved : goal.loop-q-preserved
 loop-q-preserved c = (simp length-set c.loop-q.invariant.0, row_more _ _ _ _ _ _ c.loop-q-test.true c.word-w.ensures.0 c.loop-q.invariant.1)
 

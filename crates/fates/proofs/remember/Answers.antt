@@ -15,9 +15,6 @@ loop-n-init c = held_first _ _ _ _ (bound-long _ _ _ _ c.remember_bindings-k.ens
 pub remember_held-k-requires : goal.remember_held-k-requires
 remember_held-k-requires c = record { accepted_file = c.requires.accepted_file; node_in_bounds = (omega (arith, c.loop-n.invariant.low, c.loop-n-test.true), c.loop-n.invariant.long) }
 
-pub loop-n-smaller : goal.loop-n-smaller
-loop-n-smaller c = omega (arith, c.loop-n-test.true)
-
 pub loop-n-preserved : goal.loop-n-preserved
 loop-n-preserved c = held_more _ _ _ _ _ c.loop-n.invariant c.loop-n-test.true _ _ c.remember_held-k.ensures
 

@@ -5,6 +5,3 @@ use Rattle.fates.proofs.remember.Given as goal
 
 abbrev pub invariant-loop-n : goal.invariant-loop-n
 invariant-loop-n l = Held (tables_of l.file) (kept l.initial.k l.initial.long) l.long l.k l.n
-
-abbrev pub decreases-loop-n : goal.decreases-loop-n
-decreases-loop-n l = l.n

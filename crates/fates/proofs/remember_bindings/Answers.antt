@@ -8,9 +8,6 @@ loop-b-init c = remembers-none _ _ c.requires.long_len
 pub remember_binding-k-requires : goal.remember_binding-k-requires
 remember_binding-k-requires c = record { accepted_file = c.requires.accepted_file; b_in_bounds = (omega (arith, c.count_of-n.ensures, c.loop-b-test.true), c.loop-b.invariant.long) }
 
-pub loop-b-smaller : goal.loop-b-smaller
-loop-b-smaller c = omega (arith, c.loop-b-test.true)
-
 pub loop-b-preserved : goal.loop-b-preserved
 loop-b-preserved c = remembers-more _ _ _ _ c.loop-b.invariant (omega (arith, c.count_of-n.ensures, c.loop-b-test.true)) _ c.remember_binding-k.ensures
 

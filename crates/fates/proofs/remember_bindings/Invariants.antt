@@ -6,6 +6,3 @@ use Rattle.fates.proofs.remember_bindings.Given as goal
 
 abbrev pub invariant-loop-b : goal.invariant-loop-b
 invariant-loop-b l = Remembers (tables_of l.file) (kept 0 l.initial.long) (kept l.k l.long) l.b
-
-abbrev pub decreases-loop-b : goal.decreases-loop-b
-decreases-loop-b l = l.n - l.b

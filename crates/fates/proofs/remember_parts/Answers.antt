@@ -14,21 +14,15 @@ pub loop-i-init : goal.loop-i-init
 loop-i-init c = parted-none _ _ _ c.requires.long_len
 
 pub field_pattern_at-p-requires : goal.field_pattern_at-p-requires
-field_pattern_at-p-requires c = omega (arith, c.loop-i-test.true, run_inside _ _ _ _ _ c.pairs_of.ensures.shows _ _ c.in-Just.is)
+field_pattern_at-p-requires c = omega (arith, c.loop-i-test.true, run_inside _ _ _ _ _ c.pairs_of.ensures.shows _ _ c.in-Some.is)
 
 pub remember_part-next-requires : goal.remember_part-next-requires
 remember_part-next-requires c = record { accepted_file = c.requires.accepted_file; long_len = c.loop-i.invariant.long }
 
-pub overflow_add-i : goal.overflow_add-i
-overflow_add-i c = omega (arith, c.loop-i-test.true)
-
-pub loop-i-smaller : goal.loop-i-smaller
-loop-i-smaller c = omega (arith, c.loop-i-test.true)
-
 pub loop-i-preserved : goal.loop-i-preserved
 loop-i-preserved c =
     let p = c.pairs_of.ensures.shows in
-    parted-more _ _ _ _ _ c.loop-i.invariant (omega (arith, c.loop-i-test.true, patterns-count _ _ _ _ p _ _ c.in-Just.is)) no_pattern _ (pattern-node _ _ _ _ p _ _ c.in-Just.is _ no_pattern _ c.loop-i-test.true c.field_pattern_at-p.ensures) _ c.remember_part-next.ensures
+    parted-more _ _ _ _ _ c.loop-i.invariant (omega (arith, c.loop-i-test.true, patterns-count _ _ _ _ p _ _ c.in-Some.is)) no_pattern _ (pattern-node _ _ _ _ p _ _ c.in-Some.is _ no_pattern _ c.loop-i-test.true c.field_pattern_at-p.ensures) _ c.remember_part-next.ensures
 
 pub returns : goal.returns
-returns c = parted-all _ _ _ _ _ c.loop-i.invariant (omega (arith, c.loop-i-test.false, patterns-count _ _ _ _ c.pairs_of.ensures.shows _ _ c.in-Just.is))
+returns c = parted-all _ _ _ _ _ c.loop-i.invariant (omega (arith, c.loop-i-test.false, patterns-count _ _ _ _ c.pairs_of.ensures.shows _ _ c.in-Some.is))

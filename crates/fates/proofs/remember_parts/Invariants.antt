@@ -7,6 +7,3 @@ use Rattle.fates.proofs.remember_parts.Given as goal
 
 abbrev pub invariant-loop-i : goal.invariant-loop-i
 invariant-loop-i l = Parted (tables_of l.file) (patterns_of (tables_of l.file) l.node) (kept l.k l.initial.long) (kept l.next l.long) l.i
-
-abbrev pub decreases-loop-i : goal.decreases-loop-i
-decreases-loop-i l = l.n - l.i

@@ -6,6 +6,3 @@ use Rattle.fates.proofs.word.Given as goal
 
 abbrev pub invariant-loop-j : goal.invariant-loop-j
 invariant-loop-j l = (l.j ≤ 8) × (l.w ≡ packed (fate_or (tables_of l.file) l.node) (8 * l.q + l.j) (8 - l.j))
-
-abbrev pub decreases-loop-j : goal.decreases-loop-j
-decreases-loop-j l = l.j

@@ -4,8 +4,8 @@ use Rattle.field_cases.proofs.is_injection.Goals as goal
 pub returns-in_default : goal.returns-in_default
 returns-in_default c = no_record_lem _ _ _ _ c.pairs_of.ensures.shows c.in_default.is
 
-pub returns-in-Just-union_ty : goal.returns-in-Just-union_ty
-returns-in-Just-union_ty c = record-and-union _ _ _ _ c.pairs_of.ensures.shows _ _ c.in-Just.is _ c.union_ty.ensures.shows _ _ c.in-Just-union_ty.is
+pub returns-in-Some-matches : goal.returns-in-Some-matches
+returns-in-Some-matches c = record-and-union _ _ _ _ c.pairs_of.ensures.shows _ _ c.in-Some.is _ c.union_ty.ensures.shows _ _ c.in-Some-matches.is
 
-pub returns-in_default-union_ty : goal.returns-in_default-union_ty
-returns-in_default-union_ty c = no-union _ _ _ _ c.pairs_of.ensures.shows _ _ c.in-Just.is _ c.union_ty.ensures.shows c.in_default-union_ty.is
+pub returns-in_default-matches : goal.returns-in_default-matches
+returns-in_default-matches c = no-union _ _ _ _ c.pairs_of.ensures.shows _ _ c.in-Some.is _ c.union_ty.ensures.shows c.in_default-matches.is

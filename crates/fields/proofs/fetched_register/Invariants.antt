@@ -9,6 +9,3 @@ use Rattle.fields.proofs.fetched_register.Given as goal
 
 abbrev pub invariant-loop-i : goal.invariant-loop-i
 invariant-loop-i l = (l.n ≡ length (tables_of l.file).fetched) × (l.i ≤ l.n) × (fetched_register (tables_of l.file) l.address.0 (path_of l.path) ≡ fetched_from (tables_of l.file) l.address.0 (path_of l.path) l.i)
-
-abbrev pub decreases-loop-i : goal.decreases-loop-i
-decreases-loop-i l = l.n - l.i

@@ -6,4 +6,4 @@ pub returns-then-from-address : goal.returns-then-from-address
 returns-then-from-address c = sym (simp (ne_eqb _ _ c.if-from-address.true))
 
 pub returns : goal.returns
-returns c = c.path_is-same.ensures ∙ sym (simp (eq-eqb _ _ c.if-from-address.false))
+returns c = c.path_is.ensures ∙ sym (simp (eq-eqb _ _ c.if-from-address.false))

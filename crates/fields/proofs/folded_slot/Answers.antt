@@ -1,11 +1,10 @@
-use mathlib.Core.Path.{sym, ap, ◌∙◌}
-use Rattle.tables.specs.Tables.{found_option}
+use mathlib.Core.Path.{refl, sym, ◌∙◌}
 use Rattle.fields.proofs.Slots.{folded-slot-is, no-folded-slot}
 use Rattle.slots.proofs.Tidy.{plain-is}
 use Rattle.fields.proofs.folded_slot.Goals as goal
 
-pub returns-in-Nothing : goal.returns-in-Nothing
-returns-in-Nothing c = no-folded-slot _ _ _ c.nothing.ensures (sym (ap found_option c.in-Nothing.is) ∙ c.folded_field.ensures)
+pub returns-in-None : goal.returns-in-None
+returns-in-None c = no-folded-slot _ _ _ refl (sym (c.in-None.is) ∙ c.folded_field.ensures)
 
-pub returns-in-Just : goal.returns-in-Just
-returns-in-Just c = folded-slot-is _ _ _ _ (plain-is _ _ c.just.ensures c.plain.ensures) (sym (ap found_option c.in-Just.is) ∙ c.folded_field.ensures)
+pub returns-in-Some : goal.returns-in-Some
+returns-in-Some c = folded-slot-is _ _ _ _ (plain-is _ _ refl c.plain.ensures) (sym (c.in-Some.is) ∙ c.folded_field.ensures)

@@ -8,6 +8,3 @@ use Rattle.fields.proofs.hoisted_name.Given as goal
 
 abbrev pub invariant-loop-k : goal.invariant-loop-k
 invariant-loop-k l = (l.n ≡ length (tables_of l.file).hoisted) × (l.k ≤ l.n) × (hoisted_name (tables_of l.file) l.node ≡ hoisted_from (tables_of l.file) l.node l.k)
-
-abbrev pub decreases-loop-k : goal.decreases-loop-k
-decreases-loop-k l = l.n - l.k

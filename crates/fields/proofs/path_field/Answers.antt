@@ -1,4 +1,4 @@
-use mathlib.Core.Path.{sym, ap, ◌∙◌}
+use mathlib.Core.Path.{refl, sym, ap, ◌∙◌}
 use Rattle.rules.specs.File.{then}
 use Rattle.rules.proofs.Sound.{sound, passed-all}
 use Rattle.fields.specs.Found.{place_of}
@@ -7,16 +7,16 @@ use borrow.Author.Rules.{rules}
 use Rattle.fields.proofs.path_field.Goals as goal
 
 pub then-requires : goal.then-requires
-then-requires c = field_room (sound _ (passed-all _ c.requires.accepted_file.accepted)) _ _ _ (sym c.field_of.ensures ∙ ap place_of c.in-Just.is) c.within.ensures.0 c.requires.clear_room.room c.within.ensures.1 (search rules)
+then-requires c = field_room (sound _ (passed-all _ c.requires.accepted_file.accepted)) _ _ _ (sym c.field_of.ensures ∙ ap place_of c.in-Some.is) c.within.ensures.0 c.requires.clear_room.room c.within.ensures.1 (search rules)
 
-pub returns-in-Nothing : goal.returns-in-Nothing
-returns-in-Nothing c = no_field _ _ c.nothing.ensures (sym c.field_of.ensures ∙ ap place_of c.in-Nothing.is)
+pub returns-in-None : goal.returns-in-None
+returns-in-None c = no_field _ _ refl (sym c.field_of.ensures ∙ ap place_of c.in-None.is)
 
-pub returns-in-Just : goal.returns-in-Just
-returns-in-Just c =
+pub returns-in-Some : goal.returns-in-Some
+returns-in-Some c =
     let w = c.within in
-    let h = field_room (sound _ (passed-all _ c.requires.accepted_file.accepted)) _ _ _ (sym c.field_of.ensures ∙ ap place_of c.in-Just.is) w.ensures.0 c.requires.clear_room.room w.ensures.1 (search rules) in
-    field_at _ _ _ _ c.just.ensures c.field.ensures
+    let h = field_room (sound _ (passed-all _ c.requires.accepted_file.accepted)) _ _ _ (sym c.field_of.ensures ∙ ap place_of c.in-Some.is) w.ensures.0 c.requires.clear_room.room w.ensures.1 (search rules) in
+    field_at _ _ _ _ refl c.field.ensures
     (next-cleared c.args.path w.result _ _ w.ensures.2 (search rules) h c.then.ensures.whole c.requires.clear_room.clear)
-    (c.then.ensures.holds.is ∙ ap (λ p. then p c.in-Just.i) c.within.ensures.0)
-    (sym c.field_of.ensures ∙ ap place_of c.in-Just.is)
+    (c.then.ensures.holds.is ∙ ap (λ p. then p c.in-Some.i) c.within.ensures.0)
+    (sym c.field_of.ensures ∙ ap place_of c.in-Some.is)

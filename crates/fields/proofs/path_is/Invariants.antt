@@ -7,6 +7,3 @@ use Rattle.fields.proofs.path_is.Given as goal
 
 abbrev pub invariant-loop-i : goal.invariant-loop-i
 invariant-loop-i l = (same_from l.file (l.at + 3) l.n l.steps 0 ≡ same_from l.file (l.at + 3) l.n l.steps l.i) × (l.i ≤ l.n) × (length l.steps ≡ step_limit)
-
-abbrev pub decreases-loop-i : goal.decreases-loop-i
-decreases-loop-i l = l.n - l.i

@@ -1,11 +1,10 @@
-use mathlib.Core.Path.{ap}
-use Rattle.views.specs.Views.{type_option}
+use mathlib.Core.Path.{refl}
 use Rattle.fields.proofs.Slots.{no_value, value-is}
 use Rattle.slots.proofs.Tidy.{plain-is}
 use Rattle.fields.proofs.value_side.Goals as goal
 
-pub returns-in-Nothing : goal.returns-in-Nothing
-returns-in-Nothing c = no_value _ c.nothing.ensures (ap type_option c.in-Nothing.is)
+pub returns-in-None : goal.returns-in-None
+returns-in-None c = no_value _ refl (c.in-None.is)
 
-pub returns-in-Just : goal.returns-in-Just
-returns-in-Just c = value-is _ _ (plain-is _ _ c.just.ensures c.plain.ensures) (ap type_option c.in-Just.is)
+pub returns-in-Some : goal.returns-in-Some
+returns-in-Some c = value-is _ _ (plain-is _ _ refl c.plain.ensures) (c.in-Some.is)

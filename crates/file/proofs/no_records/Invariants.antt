@@ -1,11 +1,8 @@
 use mathlib.Core.Path.{◌≡◌}
-use Prim.Native.Nat.{◌≤◌, ◌-◌}
+use Prim.Native.Nat.{◌-◌}
 use lib.ListN.{length}
 use Rattle.file.specs.Steps.{emptied}
 use Rattle.file.proofs.no_records.Given as goal
 
 abbrev pub invariant-loop-s : goal.invariant-loop-s
-invariant-loop-s l = (emptied 10 0 l.initial.index ≡ emptied (10 - l.s) l.s l.index) × (l.s ≤ 10) × (length l.index ≡ length l.initial.index)
-
-abbrev pub decreases-loop-s : goal.decreases-loop-s
-decreases-loop-s l = 10 - l.s
+invariant-loop-s l = (emptied 10 0 l.initial.index ≡ emptied (10 - l.s) l.s l.index) × (length l.index ≡ length l.initial.index)

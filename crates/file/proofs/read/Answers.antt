@@ -1,8 +1,8 @@
-use mathlib.Core.Path.{sym, ◌∙◌, subst}
+use mathlib.Core.Path.{◌∙◌}
 use native.Mathlib.Omega.{arith}
-use Rattle.file.specs.Tables.{Indexed}
 use Rattle.file.proofs.Empty.{empty-reads, empty-indexes, other-reads, other-indexes}
-use Rattle.file.proofs.Accepted.{indexed}
+use Rattle.file.proofs.Accepted.{indexed-if}
+use Rattle.std.specs.Prelude.{Ok}
 use borrow.Author.Rules.{rules}
 use Rattle.file.proofs.read.Goals as goal
 
@@ -11,7 +11,7 @@ returns-then-file-eq0 c =
     let f = c.args.file.now in
     let e = empty-reads f (omega arith) in
     let x = c.no_records.ensures ∙ empty-indexes f _ (omega arith) in
-    record { reads = e; indexes = x; finds = λ q g. subst (Indexed f) (sym x) (indexed f _ _ (search rules) (search rules) (sym e)) }
+    record { reads = e; indexes = x; finds = indexed-if f _ _ (Ok 0) (search rules) (search rules) e x }
 
 pub returns : goal.returns
 returns c =
@@ -19,4 +19,4 @@ returns c =
     let d = c.ten_sections.ensures in
     let e = d.reads ∙ other-reads f (omega arith) in
     let x = d.indexes ∙ other-indexes f _ (omega arith) in
-    record { reads = e; indexes = x; finds = λ q g. subst (Indexed f) (sym x) (indexed f _ q (search rules) (search rules) (sym e ∙ g)) }
+    record { reads = e; indexes = x; finds = indexed-if f _ _ _ (search rules) (search rules) e x }

@@ -1,14 +1,14 @@
 use mathlib.Core.Path.{sym, ◌∙◌}
 use native.Mathlib.Omega.{arith}
 use lib.ListN.{length-set}
+use Rattle.file.proofs.Raised.{raised}
 use Rattle.file.proofs.Sections.{roomy, count_next, section-on, section-fault, entries-stored, entries-kept}
 use Rattle.file.proofs.section.Goals as goal
 
 pub overflow_cast-index : goal.overflow_cast-index
 overflow_cast-index c =
-    let e = sym c.count.ensures ∙ c.in-Next.is in
     let s = c.args.s in
-    omega (arith, count_next _ _ _ _ (omega arith) e, roomy s (omega arith))
+    omega (arith, count_next _ _ _ _ (omega arith) (sym c.in_ok-n.ensures), roomy s (omega arith))
 
 pub offset_bounds-index-b : goal.offset_bounds-index-b
 offset_bounds-index-b c = let s = c.args.s in omega (arith, roomy s (omega arith))
@@ -20,22 +20,22 @@ pub overflow_add-b : goal.overflow_add-b
 overflow_add-b c = let s = c.args.s in omega (arith, roomy s (omega arith))
 
 pub overflow_add-p : goal.overflow_add-p
-overflow_add-p c =
-    let e = sym c.count.ensures ∙ c.in-Next.is in
-    omega (arith, count_next _ _ _ _ (omega arith) e)
+overflow_add-p c = omega (arith, count_next _ _ _ _ (omega arith) (sym c.in_ok-n.ensures))
 
 pub records-requires : goal.records-requires
 records-requires c =
-    let e = sym c.count.ensures ∙ c.in-Next.is in
     let s = c.args.s in
-    simp length-set (omega (arith, count_next _ _ _ _ (omega arith) e, roomy s (omega arith)))
+    simp length-set (omega (arith, count_next _ _ _ _ (omega arith) (sym c.in_ok-n.ensures), roomy s (omega arith)))
 
-pub returns-in-Next : goal.returns-in-Next
-returns-in-Next c =
-    let e = sym c.count.ensures ∙ c.in-Next.is in
-    record { reads = c.records.ensures.reads ∙ sym (section-on _ _ _ _ (omega arith) e); indexes = c.records.ensures.indexes ∙ entries-stored _ _ _ _ _ _ c.base-b.ensures e }
+pub returns-in_err-n : goal.returns-in_err-n
+returns-in_err-n c =
+    let e = sym c.in_err-n.ensures in
+    record { reads = raised _ _ _ c.from_residual.ensures.1 (sym (section-fault _ _ _ _ e)); indexes = entries-kept _ _ _ _ _ _ e }
 
-pub returns-in-Refused : goal.returns-in-Refused
-returns-in-Refused c =
-    let e = sym c.count.ensures ∙ c.in-Refused.is in
-    record { reads = sym (section-fault _ _ _ _ e); indexes = entries-kept _ _ _ _ _ _ e }
+pub returns : goal.returns
+returns c =
+    let e = sym c.in_ok-n.ensures in
+    record {
+      reads = c.records.ensures.reads ∙ sym (section-on _ _ _ _ (omega arith) e);
+      indexes = c.records.ensures.indexes ∙ entries-stored _ _ _ _ _ _ c.base-b.ensures e;
+    }

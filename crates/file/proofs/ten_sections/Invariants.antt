@@ -6,7 +6,8 @@ use Rattle.file.specs.Steps.{step_at, sections, filled}
 use Rattle.file.proofs.ten_sections.Given as goal
 
 abbrev pub invariant-loop-s : goal.invariant-loop-s
-invariant-loop-s l = (step_at l.file Read.ten_sections 0 ≡ step_at l.file (sections (10 - l.s) l.s) l.p) × (filled l.file 10 0 0 l.initial.index ≡ filled l.file (10 - l.s) l.s l.p l.index) × (l.p ≤ length l.file) × (l.s ≤ 10) × (length l.index ≡ length l.initial.index)
-
-abbrev pub decreases-loop-s : goal.decreases-loop-s
-decreases-loop-s l = 10 - l.s
+invariant-loop-s l =
+    (step_at l.file Read.ten_sections 0 ≡ step_at l.file (sections (10 - l.s) l.s) l.p)
+    × (filled l.file 10 0 0 l.initial.index ≡ filled l.file (10 - l.s) l.s l.p l.index)
+    × (l.p ≤ length l.file)
+    × (length l.index ≡ length l.initial.index)

@@ -10,8 +10,7 @@ use Rattle.key.proofs.Deeper.{has_room, fits-payload}
 use Rattle.key.proofs.Rounds.{inject-done, inject-lower, injects-walks}
 use Rattle.key.proofs.Rounds.{matched-met, matched-bytes, matched-pieces}
 use Rattle.field_cases.proofs.Opens.{count-is}
-use Rattle.tables.specs.Tables.{found_option}
-use mathlib.Core.Path.{ap, refl, sym, ◌∙◌}
+use mathlib.Core.Path.{refl, sym, ◌∙◌}
 use Rattle.key.proofs.Deeper.{has_room, fits-then}
 use Rattle.key.proofs.Quiet.{partial-quiet}
 use Rattle.key.proofs.Rounds.{partial-end}
@@ -42,14 +41,14 @@ field-returns-then-is_nothing t c = field-pieces _ _ _ _ _ _ _ c.way_of.ensures 
 pub field-narrow-requires : goal.field-narrow-requires
 field-narrow-requires t c = (c.requires.accepted_file, c.known-c.ensures.made (sym c.is_nothing.ensures ∙ c.if-is_nothing.false))
 
-pub field-lookup-found-requires : goal.field-lookup-found-requires
-field-lookup-found-requires t c = c.requires.accepted_file
+pub field-lookup-requires : goal.field-lookup-requires
+field-lookup-requires t c = c.requires.accepted_file
 
 pub field-matched-requires : goal.field-matched-requires
 field-matched-requires t c = (omega (arith, c.decreases), (c.requires.accepted_file, c.requires.fits))
 
-pub field-returns-then-found : goal.field-returns-then-found
-field-returns-then-found t c = found-bound _ _ _ _ _ _ _ _ _ _ c.lookup-found.result _ c.lists.ensures c.lookup-found.ensures _ c.way_of.ensures (nodes-lower _ (passed-all _ c.requires.accepted_file.accepted)) c.in-Variable.is c.if-found.true c.matched.ensures
+pub field-returns-in-Some : goal.field-returns-in-Some
+field-returns-in-Some t c = found-bound _ _ _ _ _ _ _ _ _ _ c.lookup.result _ c.lists.ensures c.lookup.ensures _ c.way_of.ensures (nodes-lower _ (passed-all _ c.requires.accepted_file.accepted)) c.in-Variable.is c.in-Some.is c.matched.ensures
 
 pub field-captured-requires : goal.field-captured-requires
 field-captured-requires t c = record { accepted_file = c.requires.accepted_file; ty_in_bounds = c.requires.fits.known }
@@ -57,20 +56,20 @@ field-captured-requires t c = record { accepted_file = c.requires.accepted_file;
 pub field-resolve-a-requires : goal.field-resolve-a-requires
 field-resolve-a-requires t c = c.requires.accepted_file
 
-pub field-matched-requires-then-a : goal.field-matched-requires-then-a
-field-matched-requires-then-a t c = (omega (arith, c.decreases), (c.requires.accepted_file, c.requires.fits))
+pub field-matched-requires-in-Some-slot : goal.field-matched-requires-in-Some-slot
+field-matched-requires-in-Some-slot t c = (omega (arith, c.decreases), (c.requires.accepted_file, c.requires.fits))
 
-pub field-returns-then-a : goal.field-returns-then-a
-field-returns-then-a t c = field-read _ _ _ _ _ _ _ _ _ _ _ _ c.lists-in-Read.ensures c.listed-l.ensures c.resolve-a.ensures _ c.way_of.ensures (nodes-lower _ (passed-all _ c.requires.accepted_file.accepted)) c.in-Read.is _ c.if-a.true c.matched-then-a.ensures
+pub field-returns-in-Some-slot : goal.field-returns-in-Some-slot
+field-returns-in-Some-slot t c = field-read _ _ _ _ _ _ _ _ _ _ _ _ c.lists-in-Read.ensures c.listed-l.ensures c.resolve-a.ensures _ c.way_of.ensures (nodes-lower _ (passed-all _ c.requires.accepted_file.accepted)) c.in-Read.is _ c.in-Some-slot.is c.matched-in-Some-slot.ensures
 
 pub field-pairs_of-requires : goal.field-pairs_of-requires
 field-pairs_of-requires t c = c.requires.accepted_file.indexed
 
-pub field-partial-requires-in-Just : goal.field-partial-requires-in-Just
-field-partial-requires-in-Just t c = (omega (arith, c.decreases), (c.requires.accepted_file, c.requires.fits))
+pub field-partial-requires-in-Some-pairs_of : goal.field-partial-requires-in-Some-pairs_of
+field-partial-requires-in-Some-pairs_of t c = (omega (arith, c.decreases), (c.requires.accepted_file, c.requires.fits))
 
-pub field-returns-in-Just : goal.field-returns-in-Just
-field-returns-in-Just t c = field-opened _ _ _ _ _ _ _ _ _ _ _ _ c.lists-in-Read.ensures c.listed-l.ensures c.resolve-a.ensures _ c.way_of.ensures (nodes-lower _ (passed-all _ c.requires.accepted_file.accepted)) c.in-Read.is _ c.if-a.false _ _ c.pairs_of.ensures.shows _ _ c.in-Just.is c.partial-in-Just.ensures
+pub field-returns-in-Some-pairs_of : goal.field-returns-in-Some-pairs_of
+field-returns-in-Some-pairs_of t c = field-opened _ _ _ _ _ _ _ _ _ _ _ _ c.lists-in-Read.ensures c.listed-l.ensures c.resolve-a.ensures _ c.way_of.ensures (nodes-lower _ (passed-all _ c.requires.accepted_file.accepted)) c.in-Read.is _ c.in_default-slot.is _ _ c.pairs_of.ensures.shows _ _ c.in-Some-pairs_of.is c.partial-in-Some-pairs_of.ensures
 
 pub field-unresolved-requires : goal.field-unresolved-requires
 field-unresolved-requires t c = c.requires.accepted_file.indexed
@@ -90,11 +89,11 @@ field-returns-in-Range t c = field-range _ _ _ _ _ _ _ c.way_of.ensures (nodes-l
 pub field-returns-else-is_nothing : goal.field-returns-else-is_nothing
 field-returns-else-is_nothing t c = field-bytes _ _ _ _ _ _ _ c.way_of.ensures (nodes-lower _ (passed-all _ c.requires.accepted_file.accepted)) c.in-Constant.is _ c.known-c.ensures _ (sym c.is_nothing.ensures ∙ c.if-is_nothing.false) (c.narrow.ensures _)
 
-pub field-returns-else-found : goal.field-returns-else-found
-field-returns-else-found t c = found-new _ _ _ _ _ _ _ _ _ _ c.captured.ensures c.lookup-found.result _ c.lists.ensures c.lookup-found.ensures _ c.way_of.ensures (nodes-lower _ (passed-all _ c.requires.accepted_file.accepted)) c.in-Variable.is c.if-found.false
-
 pub field-returns-in_default : goal.field-returns-in_default
-field-returns-in_default t c = unresolved-walks _ _ _ _ _ _ _ _ _ _ _ _ c.unresolved.ensures _ _ c.lists-in-Read.ensures c.listed-l.ensures c.resolve-a.ensures _ c.way_of.ensures (nodes-lower _ (passed-all _ c.requires.accepted_file.accepted)) c.in-Read.is c.if-a.false _ _ c.pairs_of.ensures.shows c.in_default.is
+field-returns-in_default t c = found-new _ _ _ _ _ _ _ _ _ _ c.captured.ensures c.lookup.result _ c.lists.ensures c.lookup.ensures _ c.way_of.ensures (nodes-lower _ (passed-all _ c.requires.accepted_file.accepted)) c.in-Variable.is c.in_default.is
+
+pub field-returns-in_default-pairs_of : goal.field-returns-in_default-pairs_of
+field-returns-in_default-pairs_of t c = unresolved-walks _ _ _ _ _ _ _ _ _ _ _ _ c.unresolved.ensures _ _ c.lists-in-Read.ensures c.listed-l.ensures c.resolve-a.ensures _ c.way_of.ensures (nodes-lower _ (passed-all _ c.requires.accepted_file.accepted)) c.in-Read.is c.in_default-slot.is _ _ c.pairs_of.ensures.shows c.in_default-pairs_of.is
 
 pub inject-choose-c-requires : goal.inject-choose-c-requires
 inject-choose-c-requires t c = record { accepted_file = c.requires.accepted_file; ty_in_bounds = c.requires.fits.known }
@@ -103,17 +102,17 @@ pub inject-returns-in_default : goal.inject-returns-in_default
 inject-returns-in_default t c = inject-done _ _ _ _ _ _ _ c.choose-c.result c.choose-c.ensures c.in_default.is
 
 pub inject-payload-q-requires : goal.inject-payload-q-requires
-inject-payload-q-requires t c = has_room _ (sound-tables _ _ c.requires.accepted_file) _ _ _ c.requires.fits (inject-lower _ 0 _ _ _ _ _ c.choose-c.result c.choose-c.ensures _ _ _ c.in-Just.is (sound-tables _ _ c.requires.accepted_file) c.requires.fits.known)
+inject-payload-q-requires t c = has_room _ (sound-tables _ _ c.requires.accepted_file) _ _ _ c.requires.fits (inject-lower _ 0 _ _ _ _ _ c.choose-c.result c.choose-c.ensures c.in-Some.is (sound-tables _ _ c.requires.accepted_file) c.requires.fits.known)
 
 pub inject-field-walked-requires : goal.inject-field-walked-requires
 inject-field-walked-requires t c =
-    let l = inject-lower _ 0 _ _ _ _ _ c.choose-c.result c.choose-c.ensures _ _ _ c.in-Just.is (sound-tables _ _ c.requires.accepted_file) c.requires.fits.known in
+    let l = inject-lower _ 0 _ _ _ _ _ c.choose-c.result c.choose-c.ensures c.in-Some.is (sound-tables _ _ c.requires.accepted_file) c.requires.fits.known in
     (omega (arith, l.lower, c.decreases), (c.requires.accepted_file, fits-payload _ (sound-tables _ _ c.requires.accepted_file) _ _ _ c.requires.fits l _ _ c.payload-q.ensures.holds))
 
 pub inject-returns : goal.inject-returns
 inject-returns t c =
-    let l = inject-lower _ 0 _ _ _ _ _ c.choose-c.result c.choose-c.ensures _ _ _ c.in-Just.is (sound-tables _ _ c.requires.accepted_file) c.requires.fits.known in
-    injects-walks _ _ _ _ _ _ c.choose-c.result _ _ c.choose-c.ensures _ _ _ c.in-Just.is l _ c.payload-q.ensures.holds _ _ _ _ _ _ _ c.tag-tagged.ensures c.field-walked.ensures c.closer.ensures
+    let l = inject-lower _ 0 _ _ _ _ _ c.choose-c.result c.choose-c.ensures c.in-Some.is (sound-tables _ _ c.requires.accepted_file) c.requires.fits.known in
+    injects-walks _ _ _ _ _ _ c.choose-c.result _ _ c.choose-c.ensures c.in-Some.is l _ c.payload-q.ensures.holds _ _ _ _ _ _ _ c.tag-tagged.ensures c.field-walked.ensures c.closer.ensures
 
 pub matched-meet-requires : goal.matched-meet-requires
 matched-meet-requires t c = record { accepted_file = c.requires.accepted_file; ty_in_bounds = c.requires.fits.known }
@@ -151,11 +150,8 @@ partial-loop-i-init t c = going-first _ _ _ _ _ _ _ _ _
 pub partial-piece_at-p-requires : goal.partial-piece_at-p-requires
 partial-piece_at-p-requires t c = record { accepted_file = c.requires.accepted_file; ty_in_bounds = c.requires.fits.known; opened = c.pieces-opened.ensures.opens; i_lt_count = c.loop-i-test.true }
 
-pub partial-overflow_cast-step : goal.partial-overflow_cast-step
-partial-overflow_cast-step t c = omega (arith, c.loop-i-test.true, c.pieces-opened.ensures.bounded)
-
-pub partial-overflow_add-i : goal.partial-overflow_add-i
-partial-overflow_add-i t c = omega (arith, c.loop-i-test.true, c.pieces-opened.ensures.bounded)
+pub partial-overflow_cast-i : goal.partial-overflow_cast-i
+partial-overflow_cast-i t c = omega (arith, c.loop-i-test.true, c.pieces-opened.ensures.bounded)
 
 pub partial-then-q-requires : goal.partial-then-q-requires
 partial-then-q-requires t c = has_room _ (sound-tables _ _ c.requires.accepted_file) _ _ _ c.requires.fits c.piece_at-p.ensures.lower
@@ -165,19 +161,13 @@ partial-field-l-requires t c =
     let l = c.piece_at-p.ensures.lower in
     (omega (arith, l.lower, c.decreases), (c.requires.accepted_file, fits-then _ (sound-tables _ _ c.requires.accepted_file) _ _ _ c.requires.fits l _ _ c.then-q.ensures.holds))
 
-pub partial-loop-i-smaller-in-Just : goal.partial-loop-i-smaller-in-Just
-partial-loop-i-smaller-in-Just t c = omega (arith, c.loop-i-test.true)
-
-pub partial-loop-i-preserved-in-Just : goal.partial-loop-i-preserved-in-Just
-partial-loop-i-preserved-in-Just t c =
-    going-given _ _ _ _ _ _ _ _ _ _ _ _ _ c.loop-i.invariant (omega (arith, c.loop-i-test.true, count-is _ _ _ _ _ c.pieces-opened.ensures.opens)) _ c.piece_at-p.ensures _ _ _ c.field-l.auto.work c.field-l.auto.plan
-    _ (ap found_option c.in-Just.is) _ c.then-q.ensures.holds c.field-l.ensures
-
-pub partial-loop-i-smaller : goal.partial-loop-i-smaller
-partial-loop-i-smaller t c = omega (arith, c.loop-i-test.true)
-
 pub partial-loop-i-preserved : goal.partial-loop-i-preserved
-partial-loop-i-preserved t c = going-missing _ _ _ _ _ _ _ _ _ _ _ _ _ c.loop-i.invariant (omega (arith, c.loop-i-test.true, count-is _ _ _ _ _ c.pieces-opened.ensures.opens)) _ c.piece_at-p.ensures _ _ _ refl refl c.in_default.is refl
+partial-loop-i-preserved t c =
+    going-given _ _ _ _ _ _ _ _ _ _ _ _ _ c.loop-i.invariant (omega (arith, c.loop-i-test.true, count-is _ _ _ _ _ c.pieces-opened.ensures.opens)) _ c.piece_at-p.ensures _ _ _ c.field-l.auto.work c.field-l.auto.plan
+    _ (c.in-Some.is) _ c.then-q.ensures.holds c.field-l.ensures
+
+pub partial-loop-i-preserved-in_default : goal.partial-loop-i-preserved-in_default
+partial-loop-i-preserved-in_default t c = going-missing _ _ _ _ _ _ _ _ _ _ _ _ _ c.loop-i.invariant (omega (arith, c.loop-i-test.true, count-is _ _ _ _ _ c.pieces-opened.ensures.opens)) _ c.piece_at-p.ensures _ _ _ refl refl c.in_default.is refl
 
 pub partial-returns : goal.partial-returns
 partial-returns t c = partial-end _ _ _ _ _ _ _ _ _ _ _ _ c.loop-i.invariant (omega (arith, c.loop-i-test.false, count-is _ _ _ _ _ c.pieces-opened.ensures.opens)) _ (c.skip-l.ensures _ _ _)

@@ -4,7 +4,6 @@ use Rattle.file.specs.Tables.{tables_of}
 use Rattle.paths.specs.Paths.{path_of}
 use Rattle.walk.specs.Walk.{walk_state}
 use Rattle.key.proofs.Going.{Going}
-use Prim.Native.Nat.{◌-◌}
 use Rattle.key.proofs.+field_inject_matched_partial.Given as goal
 
 abbrev pub decreases-field : goal.decreases-field
@@ -21,6 +20,3 @@ decreases-partial l = l.ty * 3
 
 abbrev pub invariant-partial-loop-i : goal.invariant-partial-loop-i
 invariant-partial-loop-i l = Going (tables_of l.file) l.address.0 l.node l.ty (λ x. x) (then (path_of l.path)) l.i (walk_state (tables_of l.file) l.initial.l l.initial.work l.initial.plan) (walk_state (tables_of l.file) l.l l.work l.plan) l.initial.work l.initial.plan l.work l.plan
-
-abbrev pub decreases-partial-loop-i : goal.decreases-partial-loop-i
-decreases-partial-loop-i l = l.opened.count - l.i

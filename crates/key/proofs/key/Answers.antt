@@ -8,8 +8,8 @@ field-requires c = record { accepted_file = c.requires.accepted_file; fits = fit
 pub returns-in_default : goal.returns-in_default
 returns-in_default c = key-scalar _ _ _ _ _ _ _ c.record_ty.ensures.shows _ c.in_default.is c.requires.ty_in_bounds _ c.field-path.ensures.holds c.field.ensures
 
-pub returns-in-Just-pairs_of : goal.returns-in-Just-pairs_of
-returns-in-Just-pairs_of c = key-by-record _ _ _ _ _ _ c.record_key.ensures _ _ c.record_ty.ensures.shows _ _ c.in-Just.is _ c.pairs_of.ensures.shows _ _ c.in-Just-pairs_of.is
+pub returns-in-Some-pairs_of : goal.returns-in-Some-pairs_of
+returns-in-Some-pairs_of c = key-by-record _ _ _ _ _ _ c.record_key.ensures _ _ c.record_ty.ensures.shows _ _ c.in-Some.is _ c.pairs_of.ensures.shows _ _ c.in-Some-pairs_of.is
 
 pub returns : goal.returns
-returns c = key-whole _ _ _ _ _ _ _ c.record_ty.ensures.shows _ _ _ c.in-Just.is _ c.pairs_of.ensures.shows c.in_default-pairs_of.is c.whole_key.ensures
+returns c = key-whole _ _ _ _ _ _ _ c.record_ty.ensures.shows _ _ _ c.in-Some.is _ c.pairs_of.ensures.shows c.in_default-pairs_of.is c.whole_key.ensures

@@ -1,4 +1,3 @@
-use Prim.Native.Nat.{◌-◌}
 use Rattle.rules.specs.File.{field_path}
 use Rattle.state.specs.Ops.{skip}
 use Rattle.file.specs.Tables.{tables_of}
@@ -8,6 +7,3 @@ use Rattle.key.proofs.record_key.Given as goal
 
 abbrev pub invariant-loop-i : goal.invariant-loop-i
 invariant-loop-i l = Going (tables_of l.file) l.address.0 l.node l.ty skip field_path l.i (walk_state (tables_of l.file) l.initial.l l.initial.work l.initial.plan) (walk_state (tables_of l.file) l.l l.work l.plan) l.initial.work l.initial.plan l.work l.plan
-
-abbrev pub decreases-loop-i : goal.decreases-loop-i
-decreases-loop-i l = l.opened.count - l.i

@@ -4,10 +4,10 @@ use Rattle.key.proofs.whole_field.Goals as goal
 pub matched-requires : goal.matched-requires
 matched-requires c = record { accepted_file = c.requires.accepted_file; fits = c.requires.fits }
 
-pub returns-then-a : goal.returns-then-a
-returns-then-a c =
+pub returns-in-Some : goal.returns-in-Some
+returns-in-Some c =
     let slot = c.field_slot-a in
-    field-some _ _ _ slot.result _ _ _ _ c.lists.ensures c.listed-l.ensures _ _ _ _ _ _ _ slot.ensures c.if-a.true c.requires.fits.known _ c.whole_node-n.ensures c.matched.ensures
+    field-some _ _ _ slot.result _ _ _ _ c.lists.ensures c.listed-l.ensures _ _ _ _ _ _ _ slot.ensures c.in-Some.is c.requires.fits.known _ c.whole_node-n.ensures c.matched.ensures
 
 pub returns : goal.returns
-returns c = field-none _ _ _ c.field_slot-a.result _ _ _ _ c.lists.ensures c.listed-l.ensures _ _ _ _ _ _ _ c.field_slot-a.ensures c.if-a.false (c.skip.ensures _ _ _)
+returns c = field-none _ _ _ c.field_slot-a.result _ _ _ _ c.lists.ensures c.listed-l.ensures _ _ _ _ _ _ _ c.field_slot-a.ensures c.in_default.is (c.skip.ensures _ _ _)

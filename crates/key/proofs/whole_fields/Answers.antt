@@ -11,22 +11,16 @@ pub loop-i-init : goal.loop-i-init
 loop-i-init c = matching-first _ _ _ _ _ _ _ _
 
 pub field_ty_at-f-requires : goal.field_ty_at-f-requires
-field_ty_at-f-requires c = omega (arith, c.loop-i-test.true, fields-inside _ _ _ _ c.record_ty.ensures.shows _ _ c.in-Just.is)
+field_ty_at-f-requires c = omega (arith, c.loop-i-test.true, fields-inside _ _ _ _ c.record_ty.ensures.shows _ _ c.in-Some.is)
 
 pub overflow_cast-i : goal.overflow_cast-i
-overflow_cast-i c = omega (arith, c.loop-i-test.true, fields-inside _ _ _ _ c.record_ty.ensures.shows _ _ c.in-Just.is, c.requires.accepted_file.indexed.small)
+overflow_cast-i c = omega (arith, c.loop-i-test.true, fields-inside _ _ _ _ c.record_ty.ensures.shows _ _ c.in-Some.is, c.requires.accepted_file.indexed.small)
 
 pub whole_field-l-requires : goal.whole_field-l-requires
-whole_field-l-requires c = record { accepted_file = c.requires.accepted_file; tidy_room = c.requires.tidy_room; fits = fits-field _ (sound-tables _ _ c.requires.accepted_file) _ (field-known _ _ _ _ c.record_ty.ensures.shows _ _ c.in-Just.is _ c.loop-i-test.true _ c.field_ty_at-f.ensures (sound-tables _ _ c.requires.accepted_file) c.requires.ty_in_bounds) _ _ c.field-path.ensures.holds }
-
-pub overflow_add-i : goal.overflow_add-i
-overflow_add-i c = omega (arith, c.loop-i-test.true, fields-inside _ _ _ _ c.record_ty.ensures.shows _ _ c.in-Just.is, c.requires.accepted_file.indexed.small)
-
-pub loop-i-smaller : goal.loop-i-smaller
-loop-i-smaller c = omega (arith, c.loop-i-test.true)
+whole_field-l-requires c = record { accepted_file = c.requires.accepted_file; tidy_room = c.requires.tidy_room; fits = fits-field _ (sound-tables _ _ c.requires.accepted_file) _ (field-known _ _ _ _ c.record_ty.ensures.shows _ _ c.in-Some.is _ c.loop-i-test.true _ c.field_ty_at-f.ensures (sound-tables _ _ c.requires.accepted_file) c.requires.ty_in_bounds) _ _ c.field-path.ensures.holds }
 
 pub loop-i-preserved : goal.loop-i-preserved
-loop-i-preserved c = matching-turn _ _ _ _ c.record_ty.ensures.shows _ _ c.in-Just.is _ c.loop-i-test.true _ c.field_ty_at-f.ensures _ _ _ _ _ _ _ _ _ c.loop-i.invariant _ c.field-path.ensures.holds _ _ _ c.whole_field-l.ensures c.whole_field-l.auto.work c.whole_field-l.auto.plan
+loop-i-preserved c = matching-turn _ _ _ _ c.record_ty.ensures.shows _ _ c.in-Some.is _ c.loop-i-test.true _ c.field_ty_at-f.ensures _ _ _ _ _ _ _ _ _ c.loop-i.invariant _ c.field-path.ensures.holds _ _ _ c.whole_field-l.ensures c.whole_field-l.auto.work c.whole_field-l.auto.plan
 
 pub returns : goal.returns
-returns c = matching-end _ _ _ _ _ _ _ _ _ _ _ _ c.loop-i.invariant (omega (arith, c.loop-i-test.false, fields-count _ _ _ _ c.record_ty.ensures.shows _ _ c.in-Just.is))
+returns c = matching-end _ _ _ _ _ _ _ _ _ _ _ _ c.loop-i.invariant (omega (arith, c.loop-i-test.false, fields-count _ _ _ _ c.record_ty.ensures.shows _ _ c.in-Some.is))

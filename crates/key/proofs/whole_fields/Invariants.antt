@@ -1,4 +1,3 @@
-use Prim.Native.Nat.{◌-◌}
 use Rattle.file.specs.Tables.{tables_of}
 use Rattle.slots.specs.Slots.{slot_of}
 use Rattle.walk.specs.Walk.{walk_state}
@@ -7,6 +6,3 @@ use Rattle.key.proofs.whole_fields.Given as goal
 
 abbrev pub invariant-loop-i : goal.invariant-loop-i
 invariant-loop-i l = Matching (tables_of l.file) l.address.0 l.node l.ty (slot_of l.slot) l.i (walk_state (tables_of l.file) l.initial.l l.initial.work l.initial.plan) (walk_state (tables_of l.file) l.l l.work l.plan) l.initial.work l.initial.plan l.work l.plan
-
-abbrev pub decreases-loop-i : goal.decreases-loop-i
-decreases-loop-i l = l.n - l.i

@@ -3,14 +3,13 @@ use Rattle.accepted_file.proofs.Given.{sound-tables}
 use Rattle.resolve.proofs.Rooms.{resolved-room}
 use Rattle.resolve.proofs.Answers.{rooms-of, rooms-from}
 use Rattle.slots.proofs.Tidy.{tidy-there}
-use Rattle.resolve.specs.Resolved.{found}
 use Rattle.key.proofs.whole_read.Goals as goal
 
 pub whole_fields-requires : goal.whole_fields-requires
-whole_fields-requires c = record { accepted_file = c.requires.accepted_file; ty_in_bounds = c.requires.ty_in_bounds; tidy_room = record { room = rooms-of _ c.resolve-a.result c.if-a.true (rooms-from _ c.resolve-a.ensures (λ s. resolved-room (sound-tables _ _ c.requires.accepted_file) _ s)); tidy = tidy-there (found c.resolve-a.result) c.resolve-a.ensures.tidy c.if-a.true } }
+whole_fields-requires c = record { accepted_file = c.requires.accepted_file; ty_in_bounds = c.requires.ty_in_bounds; tidy_room = record { room = rooms-of _ c.resolve-a.result c.in-Some.is (rooms-from _ c.resolve-a.ensures (λ s. resolved-room (sound-tables _ _ c.requires.accepted_file) _ s)); tidy = tidy-there c.resolve-a.ensures.tidy c.in-Some.is } }
 
-pub returns-then-a : goal.returns-then-a
-returns-then-a c = read_some _ _ _ c.resolve-a.result _ _ _ _ c.lists.ensures c.listed-l.ensures _ _ _ _ c.resolve-a.ensures c.if-a.true c.whole_fields.ensures
+pub returns-in-Some : goal.returns-in-Some
+returns-in-Some c = read_some _ _ _ c.resolve-a.result _ _ _ _ c.lists.ensures c.listed-l.ensures _ _ _ _ c.resolve-a.ensures c.in-Some.is c.whole_fields.ensures
 
 pub returns : goal.returns
-returns c = read_none _ _ _ c.resolve-a.result _ _ _ _ c.lists.ensures c.listed-l.ensures _ _ _ _ c.resolve-a.ensures c.if-a.false (c.skip.ensures _ _ _)
+returns c = read_none _ _ _ c.resolve-a.result _ _ _ _ c.lists.ensures c.listed-l.ensures _ _ _ _ c.resolve-a.ensures c.in_default.is (c.skip.ensures _ _ _)

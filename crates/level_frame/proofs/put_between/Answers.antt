@@ -1,36 +1,45 @@
 use native.Mathlib.Omega.{arith}
+use mathlib.Core.Path.{sym, ◌∙◌}
 use Rattle.file.specs.Tables.{tables_of}
 use Rattle.level_frame.proofs.Middles.{edges-small, range_small, put-edges, put-range, put-bare}
 use Rattle.level_frame.proofs.put_between.Goals as goal
 
-pub put_edge-p-requires : goal.put_edge-p-requires
-put_edge-p-requires c = record { accepted_file = c.requires.accepted_file; at_bound = (omega (arith, c.requires.at_le_plan_limit.0), (edges-small _ _ _ (c.seek_number-seek.ensures _) c.if-seek-eq3.true c.requires.at_le_plan_limit.1).0) }
+pub put_edge-p-requires-clause-at_bound : goal.put_edge-p-requires-clause-at_bound
+put_edge-p-requires-clause-at_bound c = (
+  omega (arith, c.requires.at_le_plan_limit.0),
+  (edges-small _ _ (sym c.is_bounded.ensures ∙ c.if-is_bounded.true) c.requires.at_le_plan_limit.1).0,
+)
 
-pub put_edge-requires : goal.put_edge-requires
-put_edge-requires c =
-    let h = edges-small (tables_of c.args.file.now) c.args.l _ (c.seek_number-seek.ensures _) c.if-seek-eq3.true c.requires.at_le_plan_limit.1 in
-    record { accepted_file = c.requires.accepted_file; at_bound = (omega (arith, c.requires.at_le_plan_limit.0, h.0, c.put_edge-p.ensures.place), h.1) }
+pub put_edge-requires-clause-at_bound : goal.put_edge-requires-clause-at_bound
+put_edge-requires-clause-at_bound c =
+    let h = edges-small (tables_of c.args.file.now) c.args.l (sym c.is_bounded.ensures ∙ c.if-is_bounded.true) c.requires.at_le_plan_limit.1 in
+    (omega (arith, c.requires.at_le_plan_limit.0, h.0, c.put_edge-p.ensures.place), h.1)
 
-pub returns-then-seek-eq3 : goal.returns-then-seek-eq3
-returns-then-seek-eq3 c = put-edges _ _ _ (c.seek_number-seek.ensures _) _ _ _ _ _ _ c.if-seek-eq3.true c.put_edge-p.ensures c.put_edge.ensures
+pub returns-then-is_bounded : goal.returns-then-is_bounded
+returns-then-is_bounded c = put-edges _ _ (sym c.is_bounded.ensures ∙ c.if-is_bounded.true) _ _ _ _ _ _ c.put_edge-p.ensures c.put_edge.ensures
 
 pub put_path-q-requires : goal.put_path-q-requires
 put_path-q-requires c =
-    let h = range_small (tables_of c.args.file.now) c.args.l _ (c.seek_number-seek.ensures _) c.if-seek-eq2.true c.requires.at_le_plan_limit.1 in
+    let e = sym c.is_bounded.ensures ∙ c.if-is_bounded.false in
+    let h = range_small (tables_of c.args.file.now) c.args.l e _ (sym c.kept.ensures ∙ c.in-Some.is) c.requires.at_le_plan_limit.1 in
     omega (arith, c.requires.at_le_plan_limit.0, h, c.put_prefix_text-p.ensures.place)
 
 pub put16-requires : goal.put16-requires
 put16-requires c =
-    let h = range_small (tables_of c.args.file.now) c.args.l _ (c.seek_number-seek.ensures _) c.if-seek-eq2.true c.requires.at_le_plan_limit.1 in
+    let e = sym c.is_bounded.ensures ∙ c.if-is_bounded.false in
+    let h = range_small (tables_of c.args.file.now) c.args.l e _ (sym c.kept.ensures ∙ c.in-Some.is) c.requires.at_le_plan_limit.1 in
     omega (arith, c.requires.at_le_plan_limit.0, h, c.put_prefix_text-p.ensures.place, c.put_path-q.ensures.1)
 
 pub overflow_add-result : goal.overflow_add-result
 overflow_add-result c =
-    let h = range_small (tables_of c.args.file.now) c.args.l _ (c.seek_number-seek.ensures _) c.if-seek-eq2.true c.requires.at_le_plan_limit.1 in
+    let e = sym c.is_bounded.ensures ∙ c.if-is_bounded.false in
+    let h = range_small (tables_of c.args.file.now) c.args.l e _ (sym c.kept.ensures ∙ c.in-Some.is) c.requires.at_le_plan_limit.1 in
     omega (arith, c.requires.at_le_plan_limit.0, h, c.put_prefix_text-p.ensures.place, c.put_path-q.ensures.1)
 
-pub returns-then-seek-eq2 : goal.returns-then-seek-eq2
-returns-then-seek-eq2 c = put-range _ _ _ (c.seek_number-seek.ensures _) _ _ _ _ _ _ _ c.if-seek-eq2.true c.put_prefix_text-p.ensures c.put_path-q.ensures.0 c.put_path-q.ensures.2 c.put16.ensures
+pub returns-in-Some : goal.returns-in-Some
+returns-in-Some c =
+    put-range _ _ (sym c.is_bounded.ensures ∙ c.if-is_bounded.false) _ (sym c.kept.ensures ∙ c.in-Some.is) _ _ _ _ _ _ _
+    c.put_prefix_text-p.ensures c.put_path-q.ensures.0 c.put_path-q.ensures.2 c.put16.ensures
 
-pub returns : goal.returns
-returns c = put-bare _ _ _ (c.seek_number-seek.ensures _) _ _ c.if-seek-eq3.false c.if-seek-eq2.false
+pub returns-in-None : goal.returns-in-None
+returns-in-None c = put-bare _ _ (sym c.is_bounded.ensures ∙ c.if-is_bounded.false) (sym c.kept.ensures ∙ c.in-None.is) _ _

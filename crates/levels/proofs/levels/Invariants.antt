@@ -1,10 +1,6 @@
-use Prim.Native.Nat.{◌-◌}
 use Rattle.file.specs.Tables.{tables_of}
 use Rattle.levels.proofs.Between.{Going}
 use Rattle.levels.proofs.levels.Given as goal
 
 abbrev pub invariant-loop-k : goal.invariant-loop-k
 invariant-loop-k l = Going (tables_of l.file) l.initial.w l.initial.work l.initial.plan l.initial.page l.k l.w l.work l.plan l.page
-
-abbrev pub decreases-loop-k : goal.decreases-loop-k
-decreases-loop-k l = l.n - l.k

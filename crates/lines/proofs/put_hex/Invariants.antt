@@ -1,5 +1,5 @@
 use mathlib.Core.Path.{◌≡◌}
-use Prim.Native.Nat.{◌*◌, ◌-◌, ◌≤◌}
+use Prim.Native.Nat.{◌*◌, ◌≤◌}
 use lib.ListN.{length, drop}
 use lib.Seq.{sets}
 use Rattle.lines.specs.Lines.{hex}
@@ -7,6 +7,3 @@ use Rattle.lines.proofs.put_hex.Given as goal
 
 abbrev pub invariant-loop-i : goal.invariant-loop-i
 invariant-loop-i l = (length l.out ≡ length l.initial.out) × (length l.bytes * 2 ≤ length l.initial.out) × (sets l.initial.out 0 (hex l.bytes) ≡ sets l.out (l.i * 2) (hex (drop l.i l.bytes)))
-
-abbrev pub decreases-loop-i : goal.decreases-loop-i
-decreases-loop-i l = length l.bytes - l.i

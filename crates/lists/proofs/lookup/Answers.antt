@@ -3,10 +3,10 @@ use Rattle.lists.proofs.Finds.{view-inside, of-made, of-file}
 use Rattle.lists.proofs.lookup.Goals as goal
 
 pub fitted-requires : goal.fitted-requires
-fitted-requires c = record { accepted_file = c.requires; slot_inside = view-inside _ _ _ c.made_slot.ensures.shows _ c.in-Just.is }
+fitted-requires c = record { accepted_file = c.requires; slot_inside = view-inside _ _ _ c.made_slot.ensures.shows _ c.in-Some.is }
 
-pub returns-in-Just : goal.returns-in-Just
-returns-in-Just c = λ lv tg p. slot-as c.fitted.ensures (of-made _ _ lv tg _ p _ _ c.wide32-count.ensures.0 _ c.made_slot.ensures.shows _ c.in-Just.is)
+pub returns-in-Some : goal.returns-in-Some
+returns-in-Some c = λ lv tg p. slot-as c.fitted.ensures (of-made _ _ lv tg _ p _ _ c.wide32-count.ensures.0 _ c.made_slot.ensures.shows _ c.in-Some.is)
 
 pub returns-in_default : goal.returns-in_default
 returns-in_default c = λ lv tg p. slot-as c.own_slot.ensures (of-file _ _ lv tg _ p _ _ c.wide32-count.ensures.0 _ c.made_slot.ensures.shows c.in_default.is)

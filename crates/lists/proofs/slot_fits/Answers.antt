@@ -1,4 +1,5 @@
 use mathlib.Core.Path.{refl}
+use mathlib.Core.Logic.{⊎_elim}
 use Rattle.rules.specs.Checks.{is_type}
 use Rattle.state.specs.Ops.{roomy}
 use Rattle.lists.proofs.Fits.{fits-as, inside-as}
@@ -15,18 +16,11 @@ pub returns-in-Key : goal.returns-in-Key
 unfolding roomy is_type
 returns-in-Key c = fits-as _ _ _ _ c.in-Key.is _ c.numbered.ensures
 
-pub returns-in-Derived : goal.returns-in-Derived
-unfolding roomy is_type
-returns-in-Derived c = fits-as _ _ _ _ c.in-Derived.is _ refl
-
 pub returns-in-Field : goal.returns-in-Field
 unfolding roomy is_type
 returns-in-Field c = fits-as _ _ _ _ c.in-Field.is _ c.path_fits.ensures
 
-pub returns-in-Value : goal.returns-in-Value
+pub returns-in-Derived : goal.returns-in-Derived
 unfolding roomy is_type
-returns-in-Value c = fits-as _ _ _ _ c.in-Value.is _ refl
-
-pub returns-in-Const : goal.returns-in-Const
-unfolding roomy is_type
-returns-in-Const c = fits-as _ _ _ _ c.in-Const.is _ refl
+returns-in-Derived c =
+    ⊎_elim (λ h. fits-as _ _ _ _ h.1 _ refl) (λ g. ⊎_elim (λ h. fits-as _ _ _ _ h.2 _ refl) (λ h. fits-as _ _ _ _ h.1 _ refl) g) c.in-Derived.is

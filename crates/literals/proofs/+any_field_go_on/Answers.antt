@@ -1,9 +1,8 @@
 use Rattle.field_cases.proofs.Opens.{count-is}
-use mathlib.Core.Path.{sym, ap, ◌∙◌}
+use mathlib.Core.Path.{sym, ◌∙◌}
 use native.Mathlib.Omega.{arith}
 use Rattle.file.specs.Tables.{tables_of}
 use Rattle.accepted_file.proofs.Given.{sound-tables}
-use Rattle.tables.specs.Tables.{found_option}
 use Rattle.tables.proofs.Recalls.{any-node, any-recalled}
 use Rattle.literals.proofs.Going.{going-first, going-missing, going-clear, going-met, going_end}
 use Rattle.literals.proofs.Steps.{met-known, met-fields, met-below, met-payload, payload-below, stepped-in}
@@ -19,9 +18,9 @@ any_field-returns-then-opened-eq0 t c = record { is = going_end _ _ _ _ 0 (going
 pub any_field-recall_any-requires : goal.any_field-recall_any-requires
 any_field-recall_any-requires t c = record { indexed = c.requires.accepted_file.indexed; t_in_bounds = c.requires.ty_in_bounds }
 
-pub any_field-returns-in-Just : goal.any_field-returns-in-Just
-any_field-returns-in-Just t c =
-    let e = sym c.recall_any.ensures ∙ ap found_option c.in-Just.is in
+pub any_field-returns-in-Some : goal.any_field-returns-in-Some
+any_field-returns-in-Some t c =
+    let e = sym c.recall_any.ensures ∙ c.in-Some.is in
     recalled-met _ _ c.requires.accepted_file _ _ _ (any-node _ _ _ c.args.ty _ e) c.requires.ty_in_bounds
     (omega (arith, c.if-opened-eq0.false, count-is _ _ _ _ _ c.pieces-opened.ensures.opens)) (any-recalled _ _ _ _ _ e)
 
@@ -30,9 +29,6 @@ any_field-loop-i-init t c = going-first _ _ _ _
 
 pub any_field-piece_at-p-requires : goal.any_field-piece_at-p-requires
 any_field-piece_at-p-requires t c = record { accepted_file = c.requires.accepted_file; ty_in_bounds = c.requires.ty_in_bounds; opened = c.pieces-opened.ensures.opens; i_lt_count = c.loop-i-test.true }
-
-pub any_field-overflow_add-i : goal.any_field-overflow_add-i
-any_field-overflow_add-i t c = omega (arith, c.loop-i-test.true, c.pieces-opened.ensures.bounded)
 
 pub any_field-step_at-requires : goal.any_field-step_at-requires
 any_field-step_at-requires t c = record { accepted_file = c.requires.accepted_file; ty_in_bounds = c.piece_at-p.ensures.lower.known }
@@ -46,24 +42,18 @@ pub any_field-returns-then-go_on : goal.any_field-returns-then-go_on
 any_field-returns-then-go_on t c =
     let k = c.piece_at-p.ensures in
     record {
-      is = going-met _ _ _ _ _ c.loop-i.invariant (omega (arith, c.loop-i-test.true, count-is _ _ _ _ _ c.pieces-opened.ensures.opens)) _ k _ c.in-Just-pattern.is
+      is = going-met _ _ _ _ _ c.loop-i.invariant (omega (arith, c.loop-i-test.true, count-is _ _ _ _ _ c.pieces-opened.ensures.opens)) _ k _ c.in-Some-pattern.is
           (λ limit l. sym c.if-go_on.true ∙ met-below _ _ _ _ _ c.step_at.ensures c.go_on.ensures limit (omega (arith, k.lower.lower, l)));
     }
 
-pub any_field-loop-i-smaller-else-go_on : goal.any_field-loop-i-smaller-else-go_on
-any_field-loop-i-smaller-else-go_on t c = omega (arith, c.loop-i-test.true)
-
-pub any_field-loop-i-preserved-else-go_on : goal.any_field-loop-i-preserved-else-go_on
-any_field-loop-i-preserved-else-go_on t c =
+pub any_field-loop-i-preserved : goal.any_field-loop-i-preserved
+any_field-loop-i-preserved t c =
     let k = c.piece_at-p.ensures in
-    going-clear _ _ _ _ _ c.loop-i.invariant (omega (arith, c.loop-i-test.true, count-is _ _ _ _ _ c.pieces-opened.ensures.opens)) _ k _ c.in-Just-pattern.is
+    going-clear _ _ _ _ _ c.loop-i.invariant (omega (arith, c.loop-i-test.true, count-is _ _ _ _ _ c.pieces-opened.ensures.opens)) _ k _ c.in-Some-pattern.is
     (λ limit l. sym c.if-go_on.false ∙ met-below _ _ _ _ _ c.step_at.ensures c.go_on.ensures limit (omega (arith, k.lower.lower, l)))
 
-pub any_field-loop-i-smaller : goal.any_field-loop-i-smaller
-any_field-loop-i-smaller t c = omega (arith, c.loop-i-test.true)
-
-pub any_field-loop-i-preserved : goal.any_field-loop-i-preserved
-any_field-loop-i-preserved t c = going-missing _ _ _ _ _ c.loop-i.invariant (omega (arith, c.loop-i-test.true, count-is _ _ _ _ _ c.pieces-opened.ensures.opens)) _ c.piece_at-p.ensures c.in_default-pattern.is
+pub any_field-loop-i-preserved-in_default-pattern : goal.any_field-loop-i-preserved-in_default-pattern
+any_field-loop-i-preserved-in_default-pattern t c = going-missing _ _ _ _ _ c.loop-i.invariant (omega (arith, c.loop-i-test.true, count-is _ _ _ _ _ c.pieces-opened.ensures.opens)) _ c.piece_at-p.ensures c.in_default-pattern.is
 
 pub any_field-returns : goal.any_field-returns
 any_field-returns t c = record { is = going_end _ _ _ _ _ c.loop-i.invariant (omega (arith, c.loop-i-test.false, count-is _ _ _ _ _ c.pieces-opened.ensures.opens)) }

@@ -1,7 +1,7 @@
 use Rattle.rules.specs.Literals.{meets_below}
 use Rattle.file.specs.Tables.{tables_of}
 use Rattle.literals.proofs.Going.{Going}
-use Prim.Native.Nat.{◌+◌, ◌-◌, ◌*◌}
+use Prim.Native.Nat.{◌+◌, ◌*◌}
 use Rattle.literals.proofs.+any_field_go_on.Given as goal
 
 abbrev pub decreases-any_field : goal.decreases-any_field
@@ -12,6 +12,3 @@ decreases-go_on l = l.ty * 2 + 1
 
 abbrev pub invariant-any_field-loop-i : goal.invariant-any_field-loop-i
 invariant-any_field-loop-i l = Going (meets_below (tables_of l.file)) (tables_of l.file) l.node l.ty l.i
-
-abbrev pub decreases-any_field-loop-i : goal.decreases-any_field-loop-i
-decreases-any_field-loop-i l = l.opened.count - l.i

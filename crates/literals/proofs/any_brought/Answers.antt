@@ -17,13 +17,10 @@ loop-i-init c = going-first _ _ _ _
 pub piece_at-p-requires : goal.piece_at-p-requires
 piece_at-p-requires c = record { accepted_file = c.requires.accepted_file; ty_in_bounds = c.requires.ty_in_bounds; opened = c.pieces-opened.ensures.opens; i_lt_count = c.loop-i-test.true }
 
-pub overflow_add-i : goal.overflow_add-i
-overflow_add-i c = omega (arith, c.loop-i-test.true, c.pieces-opened.ensures.bounded)
-
 pub brought-requires : goal.brought-requires
 brought-requires c =
     let k = c.piece_at-p.ensures in
-    record { accepted_file = c.requires.accepted_file; node_value = piece-constant _ _ _ _ _ (passed-all _ c.requires.accepted_file.accepted) c.requires.node_value k _ c.in-Just.is; ty_in_bounds = k.lower.known }
+    record { accepted_file = c.requires.accepted_file; node_value = piece-constant _ _ _ _ _ (passed-all _ c.requires.accepted_file.accepted) c.requires.node_value k _ c.in-Some.is; ty_in_bounds = k.lower.known }
 
 pub go_on-requires : goal.go_on-requires
 go_on-requires c =
@@ -33,23 +30,17 @@ go_on-requires c =
 pub returns-then-go_on : goal.returns-then-go_on
 returns-then-go_on c =
     let k = c.piece_at-p.ensures in
-    going-met _ _ _ _ _ c.loop-i.invariant (omega (arith, c.loop-i-test.true, count-is _ _ _ _ _ c.pieces-opened.ensures.opens)) _ k _ c.in-Just.is
+    going-met _ _ _ _ _ c.loop-i.invariant (omega (arith, c.loop-i-test.true, count-is _ _ _ _ _ c.pieces-opened.ensures.opens)) _ k _ c.in-Some.is
     (λ limit l. sym c.if-go_on.true ∙ met-brought _ _ _ _ _ k.lower.known c.brought.ensures c.go_on.ensures) c.args.ty (omega arith)
 
-pub loop-i-smaller-else-go_on : goal.loop-i-smaller-else-go_on
-loop-i-smaller-else-go_on c = omega (arith, c.loop-i-test.true)
-
-pub loop-i-preserved-else-go_on : goal.loop-i-preserved-else-go_on
-loop-i-preserved-else-go_on c =
+pub loop-i-preserved : goal.loop-i-preserved
+loop-i-preserved c =
     let k = c.piece_at-p.ensures in
-    going-clear _ _ _ _ _ c.loop-i.invariant (omega (arith, c.loop-i-test.true, count-is _ _ _ _ _ c.pieces-opened.ensures.opens)) _ k _ c.in-Just.is
+    going-clear _ _ _ _ _ c.loop-i.invariant (omega (arith, c.loop-i-test.true, count-is _ _ _ _ _ c.pieces-opened.ensures.opens)) _ k _ c.in-Some.is
     (λ limit l. sym c.if-go_on.false ∙ met-brought _ _ _ _ _ k.lower.known c.brought.ensures c.go_on.ensures)
 
-pub loop-i-smaller : goal.loop-i-smaller
-loop-i-smaller c = omega (arith, c.loop-i-test.true)
-
-pub loop-i-preserved : goal.loop-i-preserved
-loop-i-preserved c = going-missing _ _ _ _ _ c.loop-i.invariant (omega (arith, c.loop-i-test.true, count-is _ _ _ _ _ c.pieces-opened.ensures.opens)) _ c.piece_at-p.ensures c.in_default.is
+pub loop-i-preserved-in_default : goal.loop-i-preserved-in_default
+loop-i-preserved-in_default c = going-missing _ _ _ _ _ c.loop-i.invariant (omega (arith, c.loop-i-test.true, count-is _ _ _ _ _ c.pieces-opened.ensures.opens)) _ c.piece_at-p.ensures c.in_default.is
 
 pub returns : goal.returns
 returns c = going_end _ _ _ _ _ c.loop-i.invariant (omega (arith, c.loop-i-test.false, count-is _ _ _ _ _ c.pieces-opened.ensures.opens)) c.args.ty (omega arith)

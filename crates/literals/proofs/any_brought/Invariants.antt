@@ -1,4 +1,3 @@
-use Prim.Native.Nat.{◌-◌}
 use Rattle.rules.specs.Literals.{brought_meets, meets}
 use Rattle.file.specs.Tables.{tables_of}
 use Rattle.literals.proofs.Going.{Going}
@@ -6,6 +5,3 @@ use Rattle.literals.proofs.any_brought.Given as goal
 
 abbrev pub invariant-loop-i : goal.invariant-loop-i
 invariant-loop-i l = Going (λ limit. brought_meets (tables_of l.file) (meets (tables_of l.file))) (tables_of l.file) l.node l.ty l.i
-
-abbrev pub decreases-loop-i : goal.decreases-loop-i
-decreases-loop-i l = l.opened.count - l.i

@@ -1,6 +1,4 @@
-use mathlib.Core.Path.{ap}
 use native.Mathlib.Omega.{arith}
-use Rattle.tables.specs.Tables.{found_option}
 use Rattle.literals.proofs.Chains.{up_first, up_more, up_none, up-end}
 use Rattle.literals.proofs.climb.Goals as goal
 
@@ -8,7 +6,7 @@ pub loop-k-init : goal.loop-k-init
 loop-k-init c = up_first _ _ _ _
 
 pub returns-in_default : goal.returns-in_default
-returns-in_default c = up_none _ c.loop-k.invariant (ap found_option c.in_default.is)
+returns-in_default c = up_none _ c.loop-k.invariant (c.in_default.is)
 
 pub bounds-trail-k : goal.bounds-trail-k
 bounds-trail-k c =
@@ -18,7 +16,7 @@ bounds-trail-k c =
 pub loop-k-preserved : goal.loop-k-preserved
 loop-k-preserved c =
     let l = c.loop-k in
-    up_more _ l.invariant (omega (arith, c.loop-k-test.true)) (omega (arith, l.invariant.within, c.requires.passed_in_bounds, c.loop-k-test.true)) c.wide16.ensures (ap found_option c.in-Just.is) c.const_up-below.ensures
+    up_more _ l.invariant (omega (arith, c.loop-k-test.true)) (omega (arith, l.invariant.within, c.requires.passed_in_bounds, c.loop-k-test.true)) c.wide16.ensures (c.in-Some.is) c.const_up-below.ensures
 
 pub returns : goal.returns
 returns c = up-end _ c.loop-k.invariant (omega arith)

@@ -7,14 +7,14 @@ use Rattle.resolve.proofs.Chains.{chain-few, passed-within}
 use Rattle.literals.proofs.Chains.{chain-is}
 use Rattle.literals.proofs.folded_long.Goals as goal
 
-pub climb-requires : goal.climb-requires
-climb-requires c =
+pub folded_up-requires : goal.folded_up-requires
+folded_up-requires c =
     let low = nodes-lower _ (passed-all _ c.requires.accepted) in
     let f = chain-few _ low 2048 2048 c.args.node (omega arith) (few-nodes _ _ c.requires.indexed) in
-    record { indexed = c.requires.indexed; passed_in_bounds = passed-within _ low (replicate 2048 0) c.args.node (c.descend-chain.ensures.passes, c.descend-chain.ensures.writes) f }
+    record { accepted_file = c.requires; passed_in_bounds = passed-within _ low (replicate 2048 0) c.args.node (c.descend-chain.ensures.passes, c.descend-chain.ensures.writes) f }
 
 pub returns : goal.returns
 returns c =
     let low = nodes-lower _ (passed-all _ c.requires.accepted) in
     let f = chain-few _ low 2048 2048 c.args.node (omega arith) (few-nodes _ _ c.requires.indexed) in
-    chain-is _ low (replicate 2048 0) c.args.node (c.descend-chain.ensures.passes, c.descend-chain.ensures.writes) f _ _ c.leaf_const-end.ensures c.climb.ensures
+    chain-is _ low (replicate 2048 0) c.args.node (c.descend-chain.ensures.passes, c.descend-chain.ensures.writes) f c.folded_up.ensures

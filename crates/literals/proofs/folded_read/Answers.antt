@@ -5,14 +5,14 @@ use Rattle.resolve.proofs.Chains.{not-filled, passed-within}
 use Rattle.literals.proofs.Chains.{chain-is}
 use Rattle.literals.proofs.folded_read.Goals as goal
 
-pub climb-requires : goal.climb-requires
-climb-requires c =
+pub folded_up-requires : goal.folded_up-requires
+folded_up-requires c =
     let low = nodes-lower _ (passed-all _ c.requires.accepted) in
-    let f = not-filled _ (replicate 8 0) c.args.node (c.descend-chain.ensures.passes, c.descend-chain.ensures.writes) c.if-chain-eq8.false in
-    record { indexed = c.requires.indexed; passed_in_bounds = passed-within _ low (replicate 8 0) c.args.node (c.descend-chain.ensures.passes, c.descend-chain.ensures.writes) f }
+    let f = not-filled _ (replicate 8 0) c.args.node (c.descend-chain.ensures.passes, c.descend-chain.ensures.writes) c.if-chain-eq-SHORT_TRAIL.false in
+    record { accepted_file = c.requires; passed_in_bounds = passed-within _ low (replicate 8 0) c.args.node (c.descend-chain.ensures.passes, c.descend-chain.ensures.writes) f }
 
 pub returns : goal.returns
 returns c =
     let low = nodes-lower _ (passed-all _ c.requires.accepted) in
-    let f = not-filled _ (replicate 8 0) c.args.node (c.descend-chain.ensures.passes, c.descend-chain.ensures.writes) c.if-chain-eq8.false in
-    chain-is _ low (replicate 8 0) c.args.node (c.descend-chain.ensures.passes, c.descend-chain.ensures.writes) f _ _ c.leaf_const-end.ensures c.climb.ensures
+    let f = not-filled _ (replicate 8 0) c.args.node (c.descend-chain.ensures.passes, c.descend-chain.ensures.writes) c.if-chain-eq-SHORT_TRAIL.false in
+    chain-is _ low (replicate 8 0) c.args.node (c.descend-chain.ensures.passes, c.descend-chain.ensures.writes) f c.folded_up.ensures

@@ -9,8 +9,8 @@ go_on-requires c = record { accepted_file = c.requires.accepted_file; ty_in_boun
 pub returns-in_default : goal.returns-in_default
 returns-in_default c = key-scalar _ _ _ _ _ c.record_ty.ensures.shows c.in_default.is _ (met-whole _ _ _ _ _ c.requires.ty_in_bounds c.step_at.ensures c.go_on.ensures)
 
-pub returns-in-Just-pairs_of : goal.returns-in-Just-pairs_of
-returns-in-Just-pairs_of c = key-record _ _ _ _ _ c.record_ty.ensures.shows _ _ c.in-Just.is _ c.pairs_of.ensures.shows _ _ c.in-Just-pairs_of.is _ c.any_field.ensures c.requires.ty_in_bounds
+pub returns-in-Some-pairs_of : goal.returns-in-Some-pairs_of
+returns-in-Some-pairs_of c = key-record _ _ _ _ _ c.record_ty.ensures.shows _ _ c.in-Some.is _ c.pairs_of.ensures.shows _ _ c.in-Some-pairs_of.is _ c.any_field.ensures c.requires.ty_in_bounds
 
 pub returns-in_default-pairs_of : goal.returns-in_default-pairs_of
-returns-in_default-pairs_of c = key-whole _ _ _ _ _ c.record_ty.ensures.shows _ _ c.in-Just.is _ c.pairs_of.ensures.shows c.in_default-pairs_of.is _ c.whole.ensures
+returns-in_default-pairs_of c = key-whole _ _ _ _ _ c.record_ty.ensures.shows _ _ c.in-Some.is _ c.pairs_of.ensures.shows c.in_default-pairs_of.is _ c.whole.ensures

@@ -1,8 +1,7 @@
 use borrow.Author.Rules.{rules}
 use mathlib.Core.List.{[]}
-use mathlib.Core.Path.{sym, ap, ◌∙◌}
+use mathlib.Core.Path.{sym, ◌∙◌}
 use Rattle.rules.proofs.Sound.{passed-all}
-use Rattle.tables.specs.Tables.{found_option}
 use Rattle.literals.proofs.Chains.{folded-is-constant}
 use Rattle.literals.proofs.Seen.{whole-none, whole_plain, whole-record}
 use Rattle.literals.proofs.whole.Goals as goal
@@ -12,11 +11,11 @@ returns-in_default c = whole-none [] _ _ _ _ c.folded.ensures c.in_default.is
 
 pub any_brought-requires : goal.any_brought-requires
 any_brought-requires c =
-    let e = sym c.folded.ensures ∙ ap found_option c.in-Just.is in
+    let e = sym c.folded.ensures ∙ c.in-Some.is in
     record { accepted_file = c.requires.accepted_file; node_value = folded-is-constant _ (passed-all _ c.requires.accepted_file.accepted) _ _ e; ty_in_bounds = c.requires.ty_in_bounds }
 
-pub returns-in-Just-pairs_of : goal.returns-in-Just-pairs_of
-returns-in-Just-pairs_of c = whole-record _ _ _ _ _ _ c.folded.ensures c.in-Just.is _ c.pairs_of.ensures.shows _ _ c.in-Just-pairs_of.is _ (search rules)
+pub returns-in-Some-pairs_of : goal.returns-in-Some-pairs_of
+returns-in-Some-pairs_of c = whole-record _ _ _ _ _ _ c.folded.ensures c.in-Some.is _ c.pairs_of.ensures.shows _ _ c.in-Some-pairs_of.is _ (search rules)
 
 pub returns-in_default-pairs_of : goal.returns-in_default-pairs_of
-returns-in_default-pairs_of c = whole_plain _ _ _ _ _ _ c.folded.ensures c.in-Just.is _ c.pairs_of.ensures.shows c.in_default-pairs_of.is
+returns-in_default-pairs_of c = whole_plain _ _ _ _ _ _ c.folded.ensures c.in-Some.is _ c.pairs_of.ensures.shows c.in_default-pairs_of.is

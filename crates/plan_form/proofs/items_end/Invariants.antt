@@ -1,13 +1,11 @@
 use mathlib.Core.Path.{◌≡◌}
-use Prim.Native.Nat.{◌≤◌}
+use Prim.Native.Nat.{◌≤◌, ◌-◌}
 use lib.ListN.{length}
 use Rattle.rules.specs.Read.{many}
 use Rattle.file.specs.Steps.{step_at}
 use Rattle.plan_form.specs.Pieces.{item_of}
 use Rattle.plan_form.proofs.items_end.Given as goal
 
-abbrev pub invariant-loop-left : goal.invariant-loop-left
-invariant-loop-left l = (step_at l.plan (many l.n (item_of l.s)) l.at ≡ step_at l.plan (many l.left (item_of l.s)) l.p) × (l.p ≤ length l.plan)
-
-abbrev pub decreases-loop-left : goal.decreases-loop-left
-decreases-loop-left l = l.left
+abbrev pub invariant-loop : goal.invariant-loop
+invariant-loop l =
+    (step_at l.plan (many l.n (item_of l.s)) l.at ≡ step_at l.plan (many (l.n - l.counter) (item_of l.s)) l.p) × (l.p ≤ length l.plan)

@@ -7,7 +7,4 @@ use Rattle.plan_form.specs.Pieces.{lists}
 use Rattle.plan_form.proofs.plan_end.Given as goal
 
 abbrev pub invariant-loop-s : goal.invariant-loop-s
-invariant-loop-s l = (step_at l.plan Reader.plan 0 ≡ step_at l.plan (lists (5 - l.s) l.s) l.p) × (l.p ≤ length l.plan) × (l.s ≤ 5)
-
-abbrev pub decreases-loop-s : goal.decreases-loop-s
-decreases-loop-s l = 5 - l.s
+invariant-loop-s l = (step_at l.plan Reader.plan 0 ≡ step_at l.plan (lists (5 - l.s) l.s) l.p) × (l.p ≤ length l.plan)

@@ -1,8 +1,6 @@
+use Prim.Native.Nat.{◌-◌}
 use Rattle.plan_rules.proofs.Rules.{Bytes}
 use Rattle.plan_rules.proofs.composite_keeps.Given as goal
 
-abbrev pub invariant-loop-left : goal.invariant-loop-left
-invariant-loop-left l = Bytes l.plan l.n l.p l.left l.q
-
-abbrev pub decreases-loop-left : goal.decreases-loop-left
-decreases-loop-left l = l.left
+abbrev pub invariant-loop : goal.invariant-loop
+invariant-loop l = Bytes l.plan l.n l.p (l.n - l.counter) l.q

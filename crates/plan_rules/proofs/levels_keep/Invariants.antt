@@ -1,8 +1,7 @@
+use Prim.Native.Nat.{◌-◌}
+use Rattle.file.specs.Steps.{word}
 use Rattle.plan_rules.proofs.Rules.{Going}
 use Rattle.plan_rules.proofs.levels_keep.Given as goal
 
-abbrev pub invariant-loop-left : goal.invariant-loop-left
-invariant-loop-left l = Going l.plan l.left l.p
-
-abbrev pub decreases-loop-left : goal.decreases-loop-left
-decreases-loop-left l = l.left
+abbrev pub invariant-loop : goal.invariant-loop
+invariant-loop l = Going l.plan (word l.plan 0 - l.counter) l.p

@@ -3,7 +3,7 @@ use mathlib.Core.Path.{ap}
 use Prim.Native.Nat.{ℕ}
 use lib.ListN.{drop}
 use native.Mathlib.Omega.{arith}
-use Rattle.reader.proofs.Copied.{refused-15, decided-front}
+use Rattle.reader.proofs.Copied.{refused-15, refused-by, copied}
 use Rattle.reader.proofs.decide.Goals as goal
 
 named : {A B C : Type 0} → A × (B × C) → record { outcome : A; within : B; copied : C }
@@ -15,7 +15,11 @@ returns-then-plan-gt-PLAN_LIMIT c = named (refused-15 _ _ (omega (arith, c.if-pl
 pub returns-then-plan-out : goal.returns-then-plan-out
 returns-then-plan-out c = named (refused-15 _ _ (omega (arith, c.if-plan-out.true)))
 
+pub returns-in_err-n : goal.returns-in_err-n
+returns-in_err-n c = named (refused-by _ _ (omega (arith, c.if-plan-gt-PLAN_LIMIT.false)) (omega (arith, c.if-plan-out.false)) _ _ c.from_residual.ensures.1 c.in_err-n.ensures.outcome)
+
 pub returns : goal.returns
 returns c =
-    let copied = ap (λ (front : List ℕ). front ++ drop c.length-n.result c.args.out.now) c.copy_from_slice.ensures.after in
-    named (decided-front _ _ c.judged-e.result _ _ c.if-plan-gt-PLAN_LIMIT.false c.if-plan-out.false c.judged-e.ensures.outcome c.judged-e.ensures.within c.length-n.ensures copied)
+    let w = c.in_ok-n.ensures in
+    let after = ap (λ (front : List ℕ). front ++ drop c.in_ok-n.n c.args.out.now) c.copy_from_slice.ensures.after in
+    named (copied _ _ (omega (arith, c.if-plan-gt-PLAN_LIMIT.false)) (omega (arith, c.if-plan-out.false)) _ _ w.outcome w.within after)

@@ -4,10 +4,12 @@ use Rattle.record_checks.specs.RecordChecks.{section_lower}
 use Rattle.record_checks.proofs.Every.{both_false, both-then}
 use Rattle.record_checks.proofs.children_lower.Goals as goal
 
-pub returns-then-not-records_lower : goal.returns-then-not-records_lower
+pub returns-else-records_lower : goal.returns-else-records_lower
 unfolding children_lower section_lower
-returns-then-not-records_lower c = sym (both_false _ _ (sym c.records_lower.ensures ∙ c.if-not-records_lower.true))
+returns-else-records_lower c =
+    c.if-records_lower.false ∙ sym (both_false _ _ (sym c.records_lower.ensures ∙ c.if-records_lower.false))
 
-pub returns : goal.returns
+pub returns-then-records_lower : goal.returns-then-records_lower
 unfolding children_lower section_lower
-returns c = c.records_lower-2.ensures ∙ sym (both-then _ _ (sym c.records_lower.ensures ∙ c.if-not-records_lower.false))
+returns-then-records_lower c =
+    c.records_lower-then-records_lower.ensures ∙ sym (both-then _ _ (sym c.records_lower.ensures ∙ c.if-records_lower.true))

@@ -1,24 +1,34 @@
-use mathlib.Core.Path.{refl, sym, ◌∙◌}
+use mathlib.Core.Path.{sym, ◌∙◌}
 use native.Mathlib.Omega.{arith}
-use Rattle.record_checks.specs.RecordChecks.{number_at}
-use Rattle.record_checks.proofs.Every.{words-first, words-next}
+use Prim.Native.Nat.{◌+◌, ◌-◌, ◌*◌}
+use Rattle.views.specs.Views.{run}
+use Rattle.record_checks.specs.RecordChecks.{number_at, rising}
+use Rattle.record_checks.proofs.Every.{words-at, left-first, left-next}
 use Rattle.record_checks.proofs.Rising.{rising-end, rising-on, rising-stop}
 use Rattle.record_checks.proofs.is_rising.Goals as goal
 
-pub loop-left-init : goal.loop-left-init
-loop-left-init c = (refl, c.requires)
+pub loop-k-init : goal.loop-k-init
+loop-k-init c = left-first (λ m q. rising c.args.x (run (number_at c.args.file.now c.args.long) c.args.w m q)) _ _ _
+
+pub overflow_mul-w : goal.overflow_mul-w
+overflow_mul-w c = omega (arith, words-at c.requires c.loop-k.k c.loop-k-test.true, c.requires.small)
+
+pub overflow_add-p : goal.overflow_add-p
+overflow_add-p c = omega (arith, words-at c.requires c.loop-k.k c.loop-k-test.true, c.requires.small)
 
 pub number_at-y-requires : goal.number_at-y-requires
-number_at-y-requires c = words-first _ _ _ _ _ c.loop-left.invariant.1 c.loop-left-test.true
+number_at-y-requires c = words-at c.requires c.loop-k.k c.loop-k-test.true
 
 pub returns-then-y-last : goal.returns-then-y-last
-returns-then-y-last c = let t = c.loop-left-test.true in sym (c.loop-left.invariant.0 ∙ rising-stop (number_at c.args.file.now c.args.long) _ c.loop-left.last c.loop-left.left c.loop-left.q c.number_at-y.result t c.number_at-y.ensures c.if-y-last.true)
+returns-then-y-last c =
+    sym (c.loop-k.invariant ∙ rising-stop (number_at c.args.file.now c.args.long) c.args.w c.loop-k.last (c.args.n - c.loop-k.k)
+    (c.args.p + c.args.w * c.loop-k.k) c.number_at-y.result (omega (arith, c.loop-k-test.true)) c.number_at-y.ensures c.if-y-last.true)
 
-pub overflow_add-q : goal.overflow_add-q
-overflow_add-q c = let x = c.loop-left.invariant.1 in omega (arith, words-first _ _ _ _ _ x c.loop-left-test.true, x.small, x.stride)
-
-pub loop-left-preserved : goal.loop-left-preserved
-loop-left-preserved c = let t = c.loop-left-test.true in (c.loop-left.invariant.0 ∙ rising-on (number_at c.args.file.now c.args.long) _ c.loop-left.last c.loop-left.left c.loop-left.q c.number_at-y.result t c.number_at-y.ensures c.if-y-last.false, words-next _ _ _ _ _ c.loop-left.invariant.1 t)
+pub loop-k-preserved : goal.loop-k-preserved
+loop-k-preserved c =
+    c.loop-k.invariant ∙ rising-on (number_at c.args.file.now c.args.long) c.args.w c.loop-k.last (c.args.n - c.loop-k.k)
+    (c.args.p + c.args.w * c.loop-k.k) c.number_at-y.result (omega (arith, c.loop-k-test.true)) c.number_at-y.ensures c.if-y-last.false
+    ∙ left-next (λ m q. rising c.number_at-y.result (run (number_at c.args.file.now c.args.long) c.args.w m q)) c.args.w c.args.n c.args.p c.loop-k.k
 
 pub returns : goal.returns
-returns c = sym (c.loop-left.invariant.0 ∙ rising-end _ _ _ _ _ (omega arith))
+returns c = sym (c.loop-k.invariant ∙ rising-end _ _ _ _ _ (omega arith))

@@ -13,10 +13,10 @@ overflow_cast-t c = let h = c.requires.indexed.predicates.under in omega (arith,
 pub returns-then-p-types : goal.returns-then-p-types
 returns-then-p-types c = predicate-no _ c.predicate_at-p.result _ c.predicate_at-p.ensures (omega (arith, c.count_of-types.ensures))
 
-pub returns-in-Nothing : goal.returns-in-Nothing
+pub returns-in-None : goal.returns-in-None
 unfolding none_or
-returns-in-Nothing c = predicate-yes _ c.predicate_at-p.result _ _ _ c.predicate_at-p.ensures (omega (arith, c.count_of-types.ensures)) c.in-Nothing.is refl
+returns-in-None c = predicate-yes _ c.predicate_at-p.result _ _ _ c.predicate_at-p.ensures (omega (arith, c.count_of-types.ensures)) c.in-None.is refl
 
-pub returns-in-Just : goal.returns-in-Just
+pub returns-in-Some : goal.returns-in-Some
 unfolding none_or is_type
-returns-in-Just c = predicate-yes _ c.predicate_at-p.result _ _ _ c.predicate_at-p.ensures (omega (arith, c.count_of-types.ensures)) c.in-Just.is (ap (ltb _) c.count_of-types.ensures)
+returns-in-Some c = predicate-yes _ c.predicate_at-p.result _ _ _ c.predicate_at-p.ensures (omega (arith, c.count_of-types.ensures)) c.in-Some.is (ap (ltb _) c.count_of-types.ensures)

@@ -1,20 +1,15 @@
-use mathlib.Core.Path.{sym, ◌∙◌}
-use native.Mathlib.Omega.{arith}
-use Rattle.record_checks.proofs.Every.{every-none, every-yes, every-no}
+use Rattle.std.proofs.Common.{rules, refl, sym, ◌∙◌}
+use borrow.Author.Tests.{tests}
+use Rattle.std.proofs.lemmas.Iterator.{YieldsList-from_range}
+use Rattle.std.proofs.lemmas.Iterator.Search.{all_from_yields_List}
+use Rattle.file.specs.Tables.{tables_of}
+use Rattle.rules.specs.File.{type_at}
+use Rattle.rules.specs.Checks.{type_distinct}
+use Rattle.record_checks.proofs.Every.{every-list}
 use Rattle.record_checks.proofs.Seen.{types-distinct-every, every-start}
 use Rattle.record_checks.proofs.types_distinct.Goals as goal
 
-pub loop-t-init : goal.loop-t-init
-loop-t-init c = (types-distinct-every _ ∙ every-start _ _ _ c.count_of-n.ensures, omega arith, c.count_of-n.ensures)
-
-pub type_distinct-requires : goal.type_distinct-requires
-type_distinct-requires c = record { indexed = c.requires; t_in_bounds = omega (arith, c.loop-t.invariant.2, c.loop-t-test.true) }
-
-pub returns-then-not-type_distinct : goal.returns-then-not-type_distinct
-returns-then-not-type_distinct c = sym (c.loop-t.invariant.0 ∙ every-no _ _ _ (omega arith) (sym c.type_distinct.ensures ∙ c.if-not-type_distinct.true))
-
-pub loop-t-preserved : goal.loop-t-preserved
-loop-t-preserved c = (c.loop-t.invariant.0 ∙ every-yes _ _ _ _ (omega arith) (sym c.type_distinct.ensures ∙ c.if-not-type_distinct.false), omega arith, c.loop-t.invariant.2)
-
 pub returns : goal.returns
-returns c = sym (c.loop-t.invariant.0 ∙ every-none _ _ _ (omega arith))
+returns c =
+    all_from_yields_List (λ t. type_distinct (type_at (tables_of c.args.file.now) t)) _ _ _ c.all.ensures.ran (YieldsList-from_range 0 _ _ refl refl) (λ x b q k. search (rules, tests))
+    ∙ every-list _ _ _ ∙ sym (types-distinct-every _ ∙ every-start _ _ _ c.count_of.ensures)

@@ -12,13 +12,12 @@ pub overflow_cast-n-2 : goal.overflow_cast-n-2
 overflow_cast-n-2 c = omega (arith, c.within-q.ensures.1)
 
 pub loop-i-init : goal.loop-i-init
-loop-i-init c = (omega arith, refl, steps_first _ _ _ _)
+loop-i-init c = (refl, steps_first _ _ _ _)
 
 pub loop-i-preserved : goal.loop-i-preserved
 loop-i-preserved c = (
-  omega arith,
-  c.put32.auto.buf ∙ c.loop-i.invariant.1,
-  c.loop-i.invariant.2 ∙ steps-more _ _ _ _ _ _ (search rules) c.within-q.ensures.1 c.loop-i-test.true c.put32.ensures,
+  c.put32.auto.buf ∙ c.loop-i.invariant.0,
+  c.loop-i.invariant.1 ∙ steps-more _ _ _ _ _ _ (search rules) c.within-q.ensures.1 c.loop-i-test.true c.put32.ensures,
 )
 
 pub returns : goal.returns
@@ -28,5 +27,5 @@ returns c =
     let s : 3 + 4 * q.result.count ≡ length (Plan.path (path_of c.args.p)) = path-size q.result (search rules) q.ensures.1 ∙ ap (λ p. length (Plan.path p)) q.ensures.0 in (
       omega arith,
       omega (arith, q.ensures.1),
-      path-put q.result _ at _ _ _ _ _ _ (search rules) q.ensures.1 q.ensures.0 c.wide16.ensures c.put16.ensures c.put8.ensures c.loop-i-test.false c.loop-i.invariant.2,
+      path-put q.result _ at _ _ _ _ _ _ (search rules) q.ensures.1 q.ensures.0 c.wide16.ensures c.put16.ensures c.put8.ensures c.loop-i-test.false c.loop-i.invariant.1,
     )

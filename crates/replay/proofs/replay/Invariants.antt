@@ -1,12 +1,6 @@
-use mathlib.Core.Path.{◌≡◌}
-use Prim.Native.Nat.{◌-◌, ◌≤◌}
-use lib.ListN.{length, drop}
-use Rattle.tally.specs.Tallies.{split, tallied}
+use Rattle.tally.proofs.Splits.{Tallied}
 use Rattle.replay.specs.Pairs.{agrees}
 use Rattle.replay.proofs.replay.Given as goal
 
-abbrev pub invariant-loop-at : goal.invariant-loop-at
-invariant-loop-at l = (l.t.compared ≤ l.at) × (l.t.different ≤ l.at) × (tallied agrees (split l.text) l.initial.t ≡ tallied agrees (split (drop l.at l.text)) l.t)
-
-abbrev pub decreases-loop-at : goal.decreases-loop-at
-decreases-loop-at l = length l.text - l.at
+abbrev pub invariant-loop-line : goal.invariant-loop-line
+invariant-loop-line l = Tallied agrees l.yielded l.t

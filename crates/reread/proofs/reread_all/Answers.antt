@@ -1,46 +1,28 @@
-use lib.Arith.{lt_of_le-ne}
-use mathlib.Core.Path.{refl, sym, ◌∙◌}
-use native.Mathlib.Omega.{arith}
-use Rattle.tally.proofs.Counts.{counted-within}
-use Rattle.tally.proofs.Splits.{left-none, left-more, left-last}
+use Rattle.std.proofs.Common.{rules, arith}
+use borrow.Author.Tests.{tests}
+use lib.Dec.{eqb}
+use Rattle.std.proofs.lemmas.Iterator.Consumers.{YieldsList-turn, YieldsList-end}
+use Rattle.std.proofs.lemmas.Iterator.Splits.{YieldsList-from_slice_split}
+use Rattle.reread.specs.Plans.{agrees}
+use Rattle.tally.proofs.Splits.{parts-most, lines-none, lines-more, lines_all}
 use Rattle.reread.proofs.reread_all.Goals as goal
 
-pub loop-at-init : goal.loop-at-init
-loop-at-init c = (omega arith, omega arith, refl)
+pub loop-line-init : goal.loop-line-init
+loop-line-init c = lines-none agrees
 
-pub slice_bounds-count-count : goal.slice_bounds-count-count
-slice_bounds-count-count c = omega (arith, c.find-e.ensures.finds)
-
-pub slice_bounds-count-start : goal.slice_bounds-count-start
-slice_bounds-count-start c = omega (arith, c.find-e.ensures.finds)
-
-pub slice_bounds-count-end : goal.slice_bounds-count-end
-slice_bounds-count-end c = omega (arith, c.find-e.ensures.bounded)
+pub loop-line-preserved : goal.loop-line-preserved
+loop-line-preserved c = lines-more agrees _ _ _ _ c.loop-line.invariant c.count-t.ensures
 
 pub count-t-requires : goal.count-t-requires
-count-t-requires c = (omega arith, omega arith)
-
-pub returns-then-e-text : goal.returns-then-e-text
-returns-then-e-text c =
-    let l = c.loop-at in
-    c.count-t.ensures ∙ sym (l.invariant.2 ∙ left-last _ _ _ _ _ c.find-e.ensures.finds c.if-e-text.true)
-
-pub overflow_add-at : goal.overflow_add-at
-overflow_add-at c =
-    let h = lt_of_le-ne c.find-e.ensures.bounded c.if-e-text.false in
-    record { fits = omega (arith, h) }
-
-pub loop-at-smaller : goal.loop-at-smaller
-loop-at-smaller c = omega (arith, c.find-e.ensures.finds, lt_of_le-ne c.find-e.ensures.bounded c.if-e-text.false)
-
-pub loop-at-preserved : goal.loop-at-preserved
-loop-at-preserved c =
-    let l = c.loop-at in
-    let w = counted-within _ _ _ _ c.count-t.ensures in (
-      omega (arith, c.find-e.ensures.finds, w.0, l.invariant.0),
-      omega (arith, c.find-e.ensures.finds, w.1, l.invariant.1),
-      l.invariant.2 ∙ left-more _ _ _ _ _ c.find-e.ensures.finds (lt_of_le-ne c.find-e.ensures.bounded c.if-e-text.false) _ c.count-t.ensures,
-    )
+count-t-requires c =
+    let t = YieldsList-turn (YieldsList-from_slice_split _ (λ b. eqb b 10) c.args.text.now (cc) (cc) (cc) (λ x b q k. search (rules, tests)))
+    c.loop-line.yielded _ c.loop-line.yielded_by _ _ c.in-Some.line c.in-Some.is c.next.ensures.steps in
+    let most = parts-most c.args.text.now in
+    let l = c.loop-line.invariant in
+    (omega (arith, t.0, most, l.compared), omega (arith, t.0, most, l.different))
 
 pub returns : goal.returns
-returns c = sym (c.loop-at.invariant.2 ∙ left-none _ _ _ _ c.loop-at-test.false)
+returns c =
+    let e = YieldsList-end (YieldsList-from_slice_split _ (λ b. eqb b 10) c.args.text.now (cc) (cc) (cc) (λ x b q k. search (rules, tests)))
+    c.loop-line.yielded _ c.loop-line.yielded_by _ _ c.in-None.is c.next.ensures.steps in
+    lines_all agrees _ c.args.text.now _ c.loop-line.invariant e.0

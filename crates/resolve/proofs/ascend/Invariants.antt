@@ -6,6 +6,3 @@ use Rattle.resolve.proofs.ascend.Given as goal
 
 abbrev pub invariant-loop-k : goal.invariant-loop-k
 invariant-loop-k l = Up (tables_of l.file) l.trail l.passed l.initial.below l.initial.work l.below l.work l.k × (length l.work ≡ length l.initial.work)
-
-abbrev pub decreases-loop-k : goal.decreases-loop-k
-decreases-loop-k l = l.k

@@ -16,12 +16,12 @@ returns-in_default c = named (down-end _ c.loop-k.invariant (sym c.read_of.ensur
 pub overflow_cast-trail : goal.overflow_cast-trail
 overflow_cast-trail c =
     let l = c.loop-k in
-    omega (arith, reader-in _ _ _ _ (sym c.read_of.ensures ∙ c.in-Just.is), few-nodes _ _ c.requires.indexed)
+    omega (arith, reader-in _ _ _ _ (sym c.read_of.ensures ∙ c.in-Some.is), few-nodes _ _ c.requires.indexed)
 
 pub loop-k-preserved : goal.loop-k-preserved
 loop-k-preserved c =
     let l = c.loop-k in
-    down-more _ l.invariant _ _ (sym c.read_of.ensures ∙ c.in-Just.is) (omega (arith, l.invariant.long, c.loop-k-test.true))
+    down-more _ l.invariant _ _ (sym c.read_of.ensures ∙ c.in-Some.is) (omega (arith, l.invariant.long, c.loop-k-test.true))
 
 pub returns : goal.returns
-returns c = named (down-full _ c.loop-k.invariant (omega (arith, c.loop-k.invariant.long, c.loop-k-test.false)))
+returns c = named (down-full _ c.loop-k.invariant c.loop-k-test.false)

@@ -1,14 +1,14 @@
-use mathlib.Core.Path.{ap}
+use mathlib.Core.Path.{refl, ap}
 use Rattle.rules.specs.Resolve.{fetched_row}
 use Rattle.fields.specs.Found.{address_option}
 use Rattle.slots.proofs.Tidy.{plain-is}
 use Rattle.resolve.proofs.Answers.{gives-is, fetched-at}
 use Rattle.resolve.proofs.fetched_row.Goals as goal
 
-pub returns-in-Nothing : goal.returns-in-Nothing
+pub returns-in-None : goal.returns-in-None
 unfolding fetched_row
-returns-in-Nothing c = λ T. fetched-at T _ _ (ap address_option c.in-Nothing.is) (c.declined.ensures T)
+returns-in-None c = λ T. fetched-at T _ _ (ap address_option c.in-None.is) (c.declined.ensures T)
 
-pub returns-in-Just : goal.returns-in-Just
+pub returns-in-Some : goal.returns-in-Some
 unfolding fetched_row
-returns-in-Just c = λ T. fetched-at T _ _ (ap address_option c.in-Just.is) (gives-is c.gives.ensures (plain-is _ _ c.just.ensures c.plain.ensures))
+returns-in-Some c = λ T. fetched-at T _ _ (ap address_option c.in-Some.is) (gives-is c.gives.ensures (plain-is _ _ refl c.plain.ensures))

@@ -1,3 +1,4 @@
+use mathlib.Core.Path.{refl}
 use Rattle.rules.specs.Resolve.{field_slot}
 use Rattle.slots.proofs.Tidy.{no-slot, kind-is, field_room}
 use Rattle.resolve.proofs.Answers.{gives-is, field_at}
@@ -16,7 +17,7 @@ returns-in-Key c = field_at _ _ _ (kind-is _ _ c.in-Key.is) (gives-is c.gives-in
 
 pub returns-in-Derived : goal.returns-in-Derived
 unfolding field_slot
-returns-in-Derived c = field_at _ _ _ (kind-is _ _ c.in-Derived.is) (gives-is c.gives-in-Derived.ensures (no-slot c.nothing.ensures))
+returns-in-Derived c = field_at _ _ _ (kind-is _ _ c.in-Derived.is) (gives-is c.gives-in-Derived.ensures (no-slot refl))
 
 pub returns-in-Field : goal.returns-in-Field
 returns-in-Field c = field_at _ _ _ (kind-is _ _ c.in-Field.is) c.field_below.ensures

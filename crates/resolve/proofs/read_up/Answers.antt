@@ -1,9 +1,9 @@
-use mathlib.Core.Path.{sym, ◌∙◌}
+use mathlib.Core.Path.{refl, sym, ◌∙◌}
 use Rattle.resolve.proofs.Chains.{up-nothing, up-read}
 use Rattle.resolve.proofs.read_up.Goals as goal
 
-pub returns-in-Nothing : goal.returns-in-Nothing
-returns-in-Nothing c = up-nothing _ _ (sym c.in-Nothing.is ∙ c.base_of.ensures) c.nothing.ensures c.gives.ensures
+pub returns-in-None : goal.returns-in-None
+returns-in-None c = up-nothing _ _ (sym c.in-None.is ∙ c.base_of.ensures) refl c.gives.ensures
 
-pub returns-in-Just : goal.returns-in-Just
-returns-in-Just c = up-read _ _ _ _ (sym c.in-Just.is ∙ c.base_of.ensures) c.read_past.ensures
+pub returns-in-Some : goal.returns-in-Some
+returns-in-Some c = up-read _ _ _ _ (sym c.in-Some.is ∙ c.base_of.ensures) c.read_past.ensures

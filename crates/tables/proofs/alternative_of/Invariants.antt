@@ -5,6 +5,3 @@ use Rattle.tables.proofs.alternative_of.Given as goal
 
 abbrev pub invariant-loop-k : goal.invariant-loop-k
 invariant-loop-k l = Seeking (called l.name) (alternative_at l.file) 8 l.n l.at l.k
-
-abbrev pub decreases-loop-k : goal.decreases-loop-k
-decreases-loop-k l = l.n - l.k

@@ -1,13 +1,15 @@
+use mathlib.Core.Path.{sym, ap, ◌∙◌}
 use native.Mathlib.Omega.{arith}
+use Prim.Native.Nat.{ℕ, ◌/◌}
+use Rattle.accepted_file.specs.Fates.{digit}
 use Rattle.tables.proofs.Digits.{digit-first, digit-later}
-use mathlib.Core.Path.{sym, refl, ◌∙◌}
 use Rattle.tables.proofs.digit.Goals as goal
 
-pub loop-left-init : goal.loop-left-init
-loop-left-init c = refl
+pub loop-init : goal.loop-init
+loop-init c = ap (λ (i : ℕ). digit i c.args.word) (omega arith)
 
-pub loop-left-preserved : goal.loop-left-preserved
-loop-left-preserved c = c.loop-left.invariant ∙ digit-later _ _ (omega arith)
+pub loop-preserved : goal.loop-preserved
+loop-preserved c = c.loop.invariant ∙ digit-later _ _ (omega arith) ∙ ap (λ (i : ℕ). digit i (c.loop.w / 4)) (omega arith)
 
 pub returns : goal.returns
-returns c = digit-first _ _ (omega arith) ∙ sym c.loop-left.invariant
+returns c = digit-first _ _ (omega arith) ∙ sym c.loop.invariant

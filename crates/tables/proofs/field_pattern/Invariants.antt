@@ -5,6 +5,3 @@ use Rattle.tables.proofs.field_pattern.Given as goal
 
 abbrev pub invariant-loop-k : goal.invariant-loop-k
 invariant-loop-k l = Seeking (named l.name) (pattern_at l.file) 4 l.n l.at l.k
-
-abbrev pub decreases-loop-k : goal.decreases-loop-k
-decreases-loop-k l = l.n - l.k

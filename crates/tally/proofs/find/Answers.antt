@@ -1,23 +1,23 @@
-use mathlib.Core.Path.{◌≡◌, sym, ap, ◌∙◌}
-use Prim.Native.Nat.{ℕ, ◌+◌}
-use native.Mathlib.Omega.{arith}
-use Rattle.tally.proofs.Finds.{found-here, found-later, found-none}
+use Rattle.std.proofs.Common.{rules, sym, ap, ◌∙◌, ◌≡◌, ◌+◌, ◌-◌, ◌≤◌, ℕ, List, take, drop, length, arith}
+use borrow.Author.Tests.{tests}
+use Rattle.std.proofs.lemmas.Iterator.{YieldsList-from_slice, IsFirst-from_position}
+use Rattle.std.proofs.lemmas.Slice.{between_is}
 use Rattle.tally.specs.Bytes.{index_of, slice}
+use Rattle.tally.proofs.Finds.{index-first, index_within}
 use Rattle.tally.proofs.find.Goals as goal
 
-pub returns-then-text-i-clause-finds : goal.returns-then-text-i-clause-finds
-returns-then-text-i-clause-finds c =
-    let f = found-here _ _ _ c.loop-i-test.true c.requires.to_in_text _ c.if-text-i.true in
-    sym (c.loop-i.invariant.1 ∙ omega (arith, f))
+inner : (xs : List ℕ) (i j : ℕ) → take (j - i) (drop i xs) ≡ slice i j xs
+unfolding slice
+inner xs i j = search (rules, between_is)
 
-pub loop-i-preserved : goal.loop-i-preserved
-loop-i-preserved c =
-    let f = found-later _ _ _ c.loop-i-test.true c.requires.to_in_text _ c.if-text-i.false in
-    (omega arith, c.loop-i.invariant.1 ∙ omega (arith, f))
-
-pub returns-clause-finds : goal.returns-clause-finds
-returns-clause-finds c =
-    let e = found-none _ _ c.args.b c.requires.to_in_text in
-    let i : c.loop-i.i ≡ c.args.to = omega arith in
-    let n = ap (λ (k : ℕ). k + index_of c.args.b (slice k c.args.to c.args.text.now)) i in
-    sym (c.loop-i.invariant.1 ∙ n ∙ omega (arith, e, i))
+pub returns : goal.returns
+returns c =
+    let a = c.args in
+    let part = take (a.to - a.from) (drop a.from a.text.now) in
+    let e = index-first a.b part c.position.result
+    (IsFirst-from_position _ _ _ (λ x. x ≡ a.b) (λ x. x ≡ a.b → ⊥) c.position.ensures.ran (YieldsList-from_slice part cc)
+    (λ x q k. search (rules, tests)) (λ x q k. search (rules, tests))) in
+    let n : length part ≤ a.to - a.from = search (rules) in record {
+      finds = ap (λ k. a.from + k) (c.unwrap_or.ensures ∙ sym e ∙ ap (index_of a.b) (inner a.text.now a.from a.to));
+      bounded = omega (arith, c.unwrap_or.ensures, e, index_within a.b part, n);
+    }

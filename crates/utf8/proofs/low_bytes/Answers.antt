@@ -1,16 +1,10 @@
-use mathlib.Core.Path.{refl, sym, ◌∙◌}
-use native.Mathlib.Omega.{arith}
-use Rattle.utf8.proofs.Blocks.{low-more, low-fault, low_end}
+use Rattle.std.proofs.Common.{rules}
+use borrow.Author.Tests.{tests}
+use Rattle.std.proofs.lemmas.Iterator.{YieldsList-from_slice}
+use Rattle.std.proofs.lemmas.Iterator.Search.{all_from_yields_List}
+use Rattle.utf8.specs.Wants.{is_low}
 use Rattle.utf8.proofs.low_bytes.Goals as goal
 
-pub loop-i-init : goal.loop-i-init
-loop-i-init c = refl
-
-pub returns-then-bytes-i-ge128 : goal.returns-then-bytes-i-ge128
-returns-then-bytes-i-ge128 c = sym (c.loop-i.invariant ∙ low-fault _ _ c.loop-i-test.true (omega arith))
-
-pub loop-i-preserved : goal.loop-i-preserved
-loop-i-preserved c = c.loop-i.invariant ∙ low-more _ _ c.loop-i-test.true (omega arith)
-
 pub returns : goal.returns
-returns c = sym (c.loop-i.invariant ∙ low_end _ _ c.loop-i-test.false)
+unfolding is_low
+returns c = all_from_yields_List is_low _ _ _ c.all.ensures.ran (YieldsList-from_slice c.args.bytes.now cc) (λ x b q k. search (rules, tests))

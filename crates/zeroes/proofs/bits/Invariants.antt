@@ -1,11 +1,6 @@
-use mathlib.Core.Path.{◌≡◌}
-use Prim.Native.Nat.{◌-◌}
-use lib.ListN.{length, drop}
-use Rattle.zeroes.specs.Zeroed.{bits_of}
+use Rattle.std.proofs.Common.{◌≡◌, take, fold}
+use Rattle.std.specs.Int.Bits.{bit_or}
 use Rattle.zeroes.proofs.bits.Given as goal
 
-abbrev pub invariant-loop-i : goal.invariant-loop-i
-invariant-loop-i l = bits_of 0 l.bytes ≡ bits_of l.set (drop l.i l.bytes)
-
-abbrev pub decreases-loop-i : goal.decreases-loop-i
-decreases-loop-i l = length l.bytes - l.i
+abbrev pub invariant-loop-b : goal.invariant-loop-b
+invariant-loop-b l = l.set ≡ fold bit_or 0 (take l.b-index l.bytes)

@@ -11,15 +11,16 @@ pub returns-then-not-self : goal.returns-then-not-self
 returns-then-not-self c = λ e w p. bound-fallen _ _ _ c.args.self e w p c.if-self.false (not-true _ c.if-not-self.true)
 
 pub loop-i-init : goal.loop-i-init
-loop-i-init c = (omega arith, λ e w p. refl)
+loop-i-init c = λ e w p. refl
 
 pub compared-l-requires : goal.compared-l-requires
-compared-l-requires c = record { accepted_file = c.requires.accepted_file; k_in_bounds = omega (arith, c.loop-i-test.true, c.count_of-n.ensures); ty_in_bounds = c.requires.ty_in_bounds }
+compared-l-requires c = record { accepted_file = c.requires.accepted_file; k_in_bounds = omega (arith, c.loop-i-test.true, c.count_of-i-end.ensures); ty_in_bounds = c.requires.ty_in_bounds }
 
 pub loop-i-preserved : goal.loop-i-preserved
-loop-i-preserved c = (omega arith, λ e w p. c.loop-i.invariant.1 e w p ∙ turn _ _ _ c.loop-i.i _ _ (omega (arith, c.loop-i-test.true, c.count_of-n.ensures)) (c.compared-l.ensures e w p))
+loop-i-preserved c =
+    λ e w p. c.loop-i.invariant e w p ∙ turn _ _ _ c.loop-i.i _ _ (omega (arith, c.loop-i-test.true, c.count_of-i-end.ensures)) (c.compared-l.ensures e w p)
 
 pub returns : goal.returns
 returns c =
     λ e w p.
-    bound-folds _ _ _ c.args.self e w p _ c.if-self.false (not-false _ c.if-not-self.false) (c.loop-i.invariant.1 e w p ∙ ends _ _ _ c.loop-i.i _ (omega (arith, c.loop-i-test.false, c.count_of-n.ensures)))
+    bound-folds _ _ _ c.args.self e w p _ c.if-self.false (not-false _ c.if-not-self.false) (c.loop-i.invariant e w p ∙ ends _ _ _ c.loop-i.i _ (omega (arith, c.loop-i-test.false, c.count_of-i-end.ensures)))

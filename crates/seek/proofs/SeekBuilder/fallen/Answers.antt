@@ -1,5 +1,7 @@
-use Rattle.seek.proofs.Falls.{fell-is}
+use borrow.Author.Rules.{rules}
+use Rattle.seek.specs.Seek.{fell}
 use Rattle.seek.proofs.SeekBuilder.fallen.Goals as goal
 
 pub returns : goal.returns
-returns c = fell-is c.args.self _ _ c.kept.ensures c.kept-2.ensures
+unfolding fell
+returns c = search rules

@@ -1,25 +1,26 @@
-use mathlib.Core.Path.{refl}
+use mathlib.Core.Path.{refl, ap, ◌∙◌}
+use Rattle.std.specs.Prelude.{Some}
 use Rattle.seek.proofs.Constants.{at_place, in-names, by-nothing, by_bytes, by-prefix, by-fuzzy}
 use Rattle.seek.proofs.SeekBuilder.with_constant.Goals as goal
 
 pub bytes-requires : goal.bytes-requires
 bytes-requires c =
-    let k = at_place _ _ c.requires.1 _ _ _ c.in-Bytes.is in
+    let k = at_place _ _ c.requires.1 _ _ _ (c.in-Some.is ∙ ap Some c.in-Bytes.is) in
     record { accepted_file = c.requires.0; value_in_bounds = k.in-nodes; ty_in_bounds = k.in-types; ty_value = k.is }
 
 pub prefix-requires : goal.prefix-requires
-prefix-requires c = record { accepted_file = c.requires.0; name_in_bounds = in-names _ _ c.requires.0 _ c.requires.1 _ c.in-Prefix.is }
+prefix-requires c = record { accepted_file = c.requires.0; name_in_bounds = in-names _ _ c.requires.0 _ c.requires.1 _ (c.in-Some.is ∙ ap Some c.in-Prefix.is) }
 
-pub returns-in-Nothing : goal.returns-in-Nothing
-returns-in-Nothing c = λ e w. by-nothing _ _ _ _ _ _ c.in-Nothing.is refl
+pub returns-in_default : goal.returns-in_default
+returns-in_default c = λ e w. by-nothing _ _ _ _ _ _ c.in_default.is refl
 
 pub returns-in-Bytes : goal.returns-in-Bytes
 returns-in-Bytes c =
     λ e w.
-    by_bytes _ _ _ _ _ _ _ _ _ c.in-Bytes.is (at_place _ _ c.requires.1 _ _ _ c.in-Bytes.is).is (c.bytes.ensures e w)
+    by_bytes _ _ _ _ _ _ _ _ _ (c.in-Some.is ∙ ap Some c.in-Bytes.is) (at_place _ _ c.requires.1 _ _ _ (c.in-Some.is ∙ ap Some c.in-Bytes.is)).is (c.bytes.ensures e w)
 
 pub returns-in-Prefix : goal.returns-in-Prefix
-returns-in-Prefix c = λ e w. by-prefix _ _ _ _ _ _ _ c.in-Prefix.is (c.prefix.ensures e w)
+returns-in-Prefix c = λ e w. by-prefix _ _ _ _ _ _ _ (c.in-Some.is ∙ ap Some c.in-Prefix.is) (c.prefix.ensures e w)
 
 pub returns-in-Fuzzy : goal.returns-in-Fuzzy
-returns-in-Fuzzy c = λ e w. by-fuzzy _ _ _ _ _ _ _ _ _ c.in-Fuzzy.is (c.fuzzy.ensures _ e w)
+returns-in-Fuzzy c = λ e w. by-fuzzy _ _ _ _ _ _ _ _ _ (c.in-Some.is ∙ ap Some c.in-Fuzzy.is) (c.fuzzy.ensures _ e w)
