@@ -376,13 +376,16 @@ module _ (f : List ℕ) (p : ℕ) where
     unfolding Reader.diagnostic
     diagnostic-code = step_same f _ _ _ _ (fixed_then f 2 p fixed-u16 _ (omega arith)) ∙ alike-step f (alike-map _ (alike_refl Reader.code)) (p + 2)
 
-    pub diagnostic-zero : get_or f (p + 2) 0 ≡ 0 → step_at f Reader.diagnostic p ≡ Err 5
+    diagnostic-zero : get_or f (p + 2) 0 ≡ 0 → step_at f Reader.diagnostic p ≡ Err 5
     unfolding Reader.code refuse read_at
     diagnostic-zero e = diagnostic-code ∙ kinded f (p + 2) code_readers 0 (omega arith) (sym e) ∙ step-refused f (refuse 5) (p + 2 + 1) 5 refl
 
-    pub diagnostic-bad : 11 < get_or f (p + 2) 0 → step_at f Reader.diagnostic p ≡ Err 5
+    diagnostic-bad : 11 < get_or f (p + 2) 0 → step_at f Reader.diagnostic p ≡ Err 5
     unfolding Reader.code
     diagnostic-bad g = diagnostic-code ∙ kind-bad f (p + 2) code_readers (get_or f (p + 2) 0) (omega arith) refl g
+
+    pub diagnostic-off : (0 < get_or f (p + 2) 0 → 11 < get_or f (p + 2) 0) → step_at f Reader.diagnostic p ≡ Err 5
+    diagnostic-off k = ⊎_elim (λ g. diagnostic-zero (omega arith)) (λ g. diagnostic-bad (k (omega arith))) (lt-or-le (get_or f (p + 2) 0) 1)
 
     pub diagnostic-in : 0 < get_or f (p + 2) 0 → get_or f (p + 2) 0 ≤ 11 → step_at f Reader.diagnostic p ≡ Ok (p + 3)
     unfolding Reader.code

@@ -1,14 +1,15 @@
 -- What is left after each reading of a plan is an end of what was there before.
-use Prim.Native.Nat.{ℕ, ◌<◌}
-use mathlib.Core.Path.{subst}
+use Prim.Native.Nat.{ℕ}
 use mathlib.Core.Bool.{Bool, true, false}
 use mathlib.Core.List.{List}
 use lib.Dec.{leb}
 use Rattle.rules.specs.Limits.{step_limit}
 use Rattle.rules.specs.Read.{Reader, refuse, u32, many, anchor, fuzzy_node, row_slot, key_slot, derived_slot, value_slot, const_slot}
 use Rattle.rules.specs.Reader as Reader
-use Rattle.file.proofs.Suffix.{get_or-in, Suffix, suffix-pure, suffix-refuse, suffix-bind, suffix-u8, suffix-many, Suffixes, suffixes-none, suffixes-more, suffix-kind, suffix-u16, suffix-u32, suffix-optional, suffix-skim, suffix-one, suffix-two, suffix-three}
-use Rattle.plan_form.specs.Pieces.{item_readers, item_of, range, edges, after_guide, after_seek, list_readers, list_of}
+use Rattle.file.proofs.Suffix.{Suffix, suffix-pure, suffix-refuse, suffix-bind, suffix-u8, suffix-many, suffixes-none, suffixes-more, suffix-kind, suffix-u16, suffix-u32, suffix-optional, suffix-skim, suffix-one, suffix-two, suffix-three}
+use Rattle.plan_form.specs.Pieces.{item_of, range, edges, after_guide, after_seek}
+use Rattle.plan_form.specs.declared.Kind.{Kind}
+use Rattle.plan_form.specs.declared.Kind.TheVariants as Kinds
 
 pub suffix-counted : {A : Type 0} {r : Reader A} → Suffix r → Suffix (Reader.counted r)
 unfolding Reader.counted
@@ -157,24 +158,10 @@ pub suffix-after_seek : Suffix after_seek
 unfolding after_seek
 suffix-after_seek = suffix-bind suffix-guide (λ g. suffix-after_guide)
 
-items-suffix : Suffixes item_readers
-items-suffix =
-    suffixes-more (suffix-skim suffix-part)
-    (suffixes-more (suffix-skim suffix-residual)
-    (suffixes-more (suffix-skim suffix-binding)
-    (suffixes-more (suffix-skim suffix-select) (suffixes-more (suffix-skim suffix-diagnostic) suffixes-none))))
-
-pub suffix-item : (s : ℕ) → s < 5 → Suffix (item_of s)
+pub suffix-item : (k : Kind) → Suffix (item_of k)
 unfolding item_of
-suffix-item s h = subst Suffix (get_or-in item_readers s _ _ h) (items-suffix.each s)
-
-lists-suffix : Suffixes list_readers
-lists-suffix =
-    suffixes-more (suffix-skim (suffix-counted suffix-level))
-    (suffixes-more (suffix-skim (suffix-counted suffix-binding))
-    (suffixes-more (suffix-skim (suffix-counted suffix-u16))
-    (suffixes-more (suffix-skim (suffix-counted suffix-select)) (suffixes-more (suffix-skim (suffix-counted suffix-diagnostic)) suffixes-none))))
-
-pub suffix-list : (s : ℕ) → s < 5 → Suffix (list_of s)
-unfolding list_of
-suffix-list s h = subst Suffix (get_or-in list_readers s _ _ h) (lists-suffix.each s)
+suffix-item Kinds.Part = suffix-skim suffix-part
+suffix-item Kinds.Residual = suffix-skim suffix-residual
+suffix-item Kinds.Binding = suffix-skim suffix-binding
+suffix-item Kinds.Select = suffix-skim suffix-select
+suffix-item Kinds.Diagnostic = suffix-skim suffix-diagnostic

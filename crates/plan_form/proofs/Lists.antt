@@ -1,9 +1,8 @@
 -- Lists of items, levels and the whole plan by cases: the laws that the loops over them go by.
-use Prim.Native.Nat.{ℕ, ◌+◌, ◌-◌, ◌≤◌, ◌<◌}
+use Prim.Native.Nat.{ℕ, ◌+◌, ◌≤◌, ◌<◌}
 use mathlib.Core.Path.{◌≡◌, refl, sym, ap, ◌∙◌}
 use mathlib.Core.List.{List, [], ◌∷◌}
 use native.Mathlib.Omega.{arith}
-use native.Mathlib.Numerals.{add-one}
 use lib.ListN.{length, get_or, drop, drop_of_length-le}
 use lib.Seq.{drop-cons}
 use Rattle.rules.specs.Placement.{SeekKey}
@@ -11,12 +10,14 @@ use Rattle.rules.specs.Read.{Reader, follow, ◌>>=◌, pure, u8, u16, many, end
 use Rattle.rules.specs.Read.Read.{got}
 use Rattle.rules.specs.Reader as Reader
 use Rattle.file.specs.Steps.{word, read_at, step_at, skim}
-use Rattle.file.proofs.Readers.{down, step-got, step-refused, step_same, step-skim, many_more, many-fault, fixed-u16, needs-fixed, needs-first, needs-bind, cut_short, SameSteps, alike_refl, alike-step, alike-skim, alike-bind, alike-value, alike-pure, alike-many, alike-map}
-use Rattle.file.proofs.Suffix.{Suffix, suffix-many, ended, faulted}
+use Rattle.file.proofs.Readers.{step-got, step-refused, step_same, step-skim, many_more, many-fault, fixed-u16, needs-fixed, needs-first, needs-bind, cut_short, SameSteps, alike_refl, alike-step, alike-skim, alike-bind, alike-value, alike-pure, alike-many, alike-map}
+use Rattle.file.proofs.Suffix.{Suffix, suffix-many, suffix-skim, suffix-u16, ended, faulted}
 use Rattle.file.proofs.Leaves.{kinded, kind-cut, kind-bad}
 use Rattle.file.proofs.Sections.{word-then}
-use Rattle.plan_form.specs.Pieces.{then_at, item_of, range, edges, after_guide, after_seek, list_of, lists}
-use Rattle.plan_form.proofs.Forward.{suffix-counted, suffix-text, suffix-path, suffix-edge, suffix-guide, suffix-seek, suffix-item, suffix-list}
+use Rattle.plan_form.specs.Pieces.{then_at, item_of, range, edges, after_guide, after_seek}
+use Rattle.plan_form.specs.declared.Kind.{Kind}
+use Rattle.plan_form.specs.declared.Kind.TheVariants as Kinds
+use Rattle.plan_form.proofs.Forward.{suffix-counted, suffix-text, suffix-path, suffix-edge, suffix-guide, suffix-seek, suffix-item, suffix-level, suffix-binding, suffix-select, suffix-diagnostic}
 use Rattle.plan_form.proofs.Cases.{seq-next, seq-fault, seq-step, within, alike-number}
 use Rattle.std.specs.Prelude.{Ok, Err}
 
@@ -30,24 +31,24 @@ module _ {A : Type 0} (f : List ℕ) {r : Reader A} (x : Suffix r) (n p : ℕ) (
   pub each-fault : (y : ℕ) → 0 < n → step_at f r p ≡ Err y → step_at f (many n r) p ≡ Err y
   each-fault y k e = many-fault f r n p y k (faulted f r p y e)
 
--- an item by its number
-pub alike-part : SameSteps Reader.part (item_of 0)
+-- an item by its kind
+pub alike-part : SameSteps Reader.part (item_of Kinds.Part)
 unfolding item_of
 alike-part = alike-skim Reader.part
 
-pub alike-residual : SameSteps Reader.residual (item_of 1)
+pub alike-residual : SameSteps Reader.residual (item_of Kinds.Residual)
 unfolding item_of
 alike-residual = alike-skim Reader.residual
 
-pub alike-binding : SameSteps Reader.binding (item_of 2)
+pub alike-binding : SameSteps Reader.binding (item_of Kinds.Binding)
 unfolding item_of
 alike-binding = alike-skim Reader.binding
 
-pub alike_select : SameSteps Reader.select (item_of 3)
+pub alike_select : SameSteps Reader.select (item_of Kinds.Select)
 unfolding item_of
 alike_select = alike-skim Reader.select
 
-pub alike-diagnostic : SameSteps Reader.diagnostic (item_of 4)
+pub alike-diagnostic : SameSteps Reader.diagnostic (item_of Kinds.Diagnostic)
 unfolding item_of
 alike-diagnostic = alike-skim Reader.diagnostic
 
@@ -55,24 +56,24 @@ pub alike-counted : {A B : Type 0} {r : Reader A} {s : Reader B} → SameSteps r
 unfolding Reader.counted
 alike-counted x = alike-value u16 (λ n. alike-many x n)
 
-module _ (f : List ℕ) (p s : ℕ) where
-  item-is : {A : Type 0} (k : ℕ) {r : Reader A} → SameSteps r (item_of k) → s ≡ k → step_at f r p ≡ step_at f (item_of s) p
-  item-is k x e = alike-step f x p ∙ ap (λ (j : ℕ). step_at f (item_of j) p) (sym e)
+module _ (f : List ℕ) (p : ℕ) (k : Kind) where
+  item-is : {A : Type 0} (j : Kind) {r : Reader A} → SameSteps r (item_of j) → k ≡ j → step_at f r p ≡ step_at f (item_of k) p
+  item-is j x e = alike-step f x p ∙ ap (λ (i : Kind). step_at f (item_of i) p) (sym e)
 
-  pub item-part : s ≡ 0 → step_at f Reader.part p ≡ step_at f (item_of s) p
-  item-part e = item-is 0 alike-part e
+  pub item-part : k ≡ Kinds.Part → step_at f Reader.part p ≡ step_at f (item_of k) p
+  item-part e = item-is Kinds.Part alike-part e
 
-  pub item-residual : s ≡ 1 → step_at f Reader.residual p ≡ step_at f (item_of s) p
-  item-residual e = item-is 1 alike-residual e
+  pub item-residual : k ≡ Kinds.Residual → step_at f Reader.residual p ≡ step_at f (item_of k) p
+  item-residual e = item-is Kinds.Residual alike-residual e
 
-  pub item-binding : s ≡ 2 → step_at f Reader.binding p ≡ step_at f (item_of s) p
-  item-binding e = item-is 2 alike-binding e
+  pub item-binding : k ≡ Kinds.Binding → step_at f Reader.binding p ≡ step_at f (item_of k) p
+  item-binding e = item-is Kinds.Binding alike-binding e
 
-  pub item-select : s ≡ 3 → step_at f Reader.select p ≡ step_at f (item_of s) p
-  item-select e = item-is 3 alike_select e
+  pub item-select : k ≡ Kinds.Select → step_at f Reader.select p ≡ step_at f (item_of k) p
+  item-select e = item-is Kinds.Select alike_select e
 
-  pub item-diagnostic : s ≡ 4 → step_at f Reader.diagnostic p ≡ step_at f (item_of s) p
-  item-diagnostic e = item-is 4 alike-diagnostic e
+  pub item-diagnostic : k ≡ Kinds.Diagnostic → step_at f Reader.diagnostic p ≡ step_at f (item_of k) p
+  item-diagnostic e = item-is Kinds.Diagnostic alike-diagnostic e
 
 -- what a seek holds
 module _ (f : List ℕ) (p : ℕ) where
@@ -94,22 +95,22 @@ module _ (f : List ℕ) (p : ℕ) where
   unfolding edges
   edges-fault x e = seq-fault f p Reader.edge _ x e
 
-pub suffix-parts : (n : ℕ) → Suffix (many n (item_of 0))
-suffix-parts n = suffix-many (suffix-item 0 (omega arith)) n
+pub suffix-parts : (n : ℕ) → Suffix (many n (item_of Kinds.Part))
+suffix-parts n = suffix-many (suffix-item Kinds.Part) n
 
-pub suffix-residuals : Suffix (Reader.counted (item_of 1))
-suffix-residuals = suffix-counted (suffix-item 1 (omega arith))
+pub suffix-residuals : Suffix (Reader.counted (item_of Kinds.Residual))
+suffix-residuals = suffix-counted (suffix-item Kinds.Residual)
 
 module _ (n : ℕ) where
-  alike-composite : SameSteps (Reader.composite_seek n) (many n (item_of 0))
+  alike-composite : SameSteps (Reader.composite_seek n) (many n (item_of Kinds.Part))
   unfolding Reader.composite_seek
   alike-composite = alike-map _ (alike-many alike-part n)
 
-  alike-range_seek : SameSteps (Reader.range_seek n) (many n (item_of 0) >>= λ ps. range)
+  alike-range_seek : SameSteps (Reader.range_seek n) (many n (item_of Kinds.Part) >>= λ ps. range)
   unfolding Reader.range_seek range
   alike-range_seek = alike-bind (alike-many alike-part n) (λ ps us. alike-value Reader.text (λ t. alike-value Reader.path (λ q. alike-value u16 (λ n. alike-pure _ _))))
 
-  alike-bounded_seek : SameSteps (Reader.bounded_seek n) (many n (item_of 0) >>= λ ps. edges)
+  alike-bounded_seek : SameSteps (Reader.bounded_seek n) (many n (item_of Kinds.Part) >>= λ ps. edges)
   unfolding Reader.bounded_seek edges
   alike-bounded_seek = alike-bind (alike-many alike-part n) (λ ps us. alike-value Reader.edge (λ lo. alike-value Reader.edge (λ hi. alike-pure _ _)))
 
@@ -125,17 +126,17 @@ module _ (f : List ℕ) (n p : ℕ) where
   unfolding Reader.prefix_seek
   prefix_seek-fault x e = seq-fault f p Reader.text _ x e
 
-  pub range_seek-next : (q : ℕ) → p ≤ length f → step_at f (many n (item_of 0)) p ≡ Ok q → step_at f (Reader.range_seek n) p ≡ step_at f range q
-  range_seek-next q h e = alike-step f (alike-range_seek n) p ∙ seq-next f p (many n (item_of 0)) _ range q (suffix-parts n) (λ us. alike_refl range) h e
+  pub range_seek-next : (q : ℕ) → p ≤ length f → step_at f (many n (item_of Kinds.Part)) p ≡ Ok q → step_at f (Reader.range_seek n) p ≡ step_at f range q
+  range_seek-next q h e = alike-step f (alike-range_seek n) p ∙ seq-next f p (many n (item_of Kinds.Part)) _ range q (suffix-parts n) (λ us. alike_refl range) h e
 
-  pub range_seek-fault : (x : ℕ) → step_at f (many n (item_of 0)) p ≡ Err x → step_at f (Reader.range_seek n) p ≡ Err x
-  range_seek-fault x e = alike-step f (alike-range_seek n) p ∙ seq-fault f p (many n (item_of 0)) _ x e
+  pub range_seek-fault : (x : ℕ) → step_at f (many n (item_of Kinds.Part)) p ≡ Err x → step_at f (Reader.range_seek n) p ≡ Err x
+  range_seek-fault x e = alike-step f (alike-range_seek n) p ∙ seq-fault f p (many n (item_of Kinds.Part)) _ x e
 
-  pub bounded_seek-next : (q : ℕ) → p ≤ length f → step_at f (many n (item_of 0)) p ≡ Ok q → step_at f (Reader.bounded_seek n) p ≡ step_at f edges q
-  bounded_seek-next q h e = alike-step f (alike-bounded_seek n) p ∙ seq-next f p (many n (item_of 0)) _ edges q (suffix-parts n) (λ us. alike_refl edges) h e
+  pub bounded_seek-next : (q : ℕ) → p ≤ length f → step_at f (many n (item_of Kinds.Part)) p ≡ Ok q → step_at f (Reader.bounded_seek n) p ≡ step_at f edges q
+  bounded_seek-next q h e = alike-step f (alike-bounded_seek n) p ∙ seq-next f p (many n (item_of Kinds.Part)) _ edges q (suffix-parts n) (λ us. alike_refl edges) h e
 
-  pub bounded_seek-fault : (x : ℕ) → step_at f (many n (item_of 0)) p ≡ Err x → step_at f (Reader.bounded_seek n) p ≡ Err x
-  bounded_seek-fault x e = alike-step f (alike-bounded_seek n) p ∙ seq-fault f p (many n (item_of 0)) _ x e
+  pub bounded_seek-fault : (x : ℕ) → step_at f (many n (item_of Kinds.Part)) p ≡ Err x → step_at f (Reader.bounded_seek n) p ≡ Err x
+  bounded_seek-fault x e = alike-step f (alike-bounded_seek n) p ∙ seq-fault f p (many n (item_of Kinds.Part)) _ x e
 
   pub seek-cut : length f ≤ p → step_at f (Reader.seek n) p ≡ Err 3
   unfolding Reader.seek
@@ -146,7 +147,7 @@ module _ (f : List ℕ) (n p : ℕ) where
     unfolding Reader.seek
     seek-prefix e = kinded f p (seek_readers n) 0 h (sym e)
 
-    pub seek-composite : get_or f p 0 ≡ 1 → step_at f (Reader.seek n) p ≡ step_at f (many n (item_of 0)) (p + 1)
+    pub seek-composite : get_or f p 0 ≡ 1 → step_at f (Reader.seek n) p ≡ step_at f (many n (item_of Kinds.Part)) (p + 1)
     unfolding Reader.seek
     seek-composite e = kinded f p (seek_readers n) 1 h (sym e) ∙ alike-step f (alike-composite n) (p + 1)
 
@@ -164,17 +165,17 @@ module _ (f : List ℕ) (n p : ℕ) where
 
 -- a level
 module _ (f : List ℕ) (p : ℕ) where
-  alike-after_guide : SameSteps after_guide (Reader.counted (item_of 1) >>= λ rs. Reader.counted u16)
+  alike-after_guide : SameSteps after_guide (Reader.counted (item_of Kinds.Residual) >>= λ rs. Reader.counted u16)
   unfolding after_guide
   alike-after_guide = alike-bind (alike-counted alike-residual) (λ rs us. alike-map _ (alike_refl (Reader.counted u16)))
 
-  pub after_guide-next : (q : ℕ) → p ≤ length f → step_at f (Reader.counted (item_of 1)) p ≡ Ok q → step_at f after_guide p ≡ step_at f (Reader.counted u16) q
+  pub after_guide-next : (q : ℕ) → p ≤ length f → step_at f (Reader.counted (item_of Kinds.Residual)) p ≡ Ok q → step_at f after_guide p ≡ step_at f (Reader.counted u16) q
   after_guide-next q h e =
       alike-step f alike-after_guide p
-      ∙ seq-next f p (Reader.counted (item_of 1)) _ (Reader.counted u16) q suffix-residuals (λ us. alike_refl _) h e
+      ∙ seq-next f p (Reader.counted (item_of Kinds.Residual)) _ (Reader.counted u16) q suffix-residuals (λ us. alike_refl _) h e
 
-  pub after_guide-fault : (x : ℕ) → step_at f (Reader.counted (item_of 1)) p ≡ Err x → step_at f after_guide p ≡ Err x
-  after_guide-fault x e = alike-step f alike-after_guide p ∙ seq-fault f p (Reader.counted (item_of 1)) _ x e
+  pub after_guide-fault : (x : ℕ) → step_at f (Reader.counted (item_of Kinds.Residual)) p ≡ Err x → step_at f after_guide p ≡ Err x
+  after_guide-fault x e = alike-step f alike-after_guide p ∙ seq-fault f p (Reader.counted (item_of Kinds.Residual)) _ x e
 
   pub after_seek-next : (q : ℕ) → p ≤ length f → step_at f Reader.guide p ≡ Ok q → step_at f after_seek p ≡ step_at f after_guide q
   unfolding after_seek
@@ -209,53 +210,29 @@ module _ (f : List ℕ) (p : ℕ) where
     pub level-fault : (x : ℕ) → step_at f (Reader.seek n) (p + 6) ≡ Err x → step_at f Reader.level p ≡ Err x
     level-fault x e = level-seek ∙ seq-fault f (p + 6) (Reader.seek n) _ x e
 
--- a plan's lists
-module _ (f : List ℕ) (p s : ℕ) where
-  list-is : {A B : Type 0} (k : ℕ) {r : Reader A} {t : Reader B} → SameSteps t r → list_of k ≡ skim t → s ≡ k → step_at f r p ≡ step_at f (list_of s) p
-  list-is k {r} {t} x g e =
-      sym (alike-step f x p) ∙ sym (step-skim f t p) ∙ ap (λ (u : Reader (Unit {0})). step_at f u p) (sym g) ∙ ap (λ (j : ℕ). step_at f (list_of j) p) (sym e)
+-- what follows in a plan where its lists before p were read
+unfoldable pub lists : List (Reader (Unit {0})) → Reader (Unit {0})
+lists [] = end tt
+lists (r ∷ rs) = r >>= λ a. lists rs
 
-  pub list-levels : s ≡ 0 → step_at f (Reader.counted Reader.level) p ≡ step_at f (list_of s) p
-  unfolding list_of
-  list-levels e = list-is 0 (alike_refl (Reader.counted Reader.level)) refl e
+abbrev pub last_list : List (Reader (Unit {0}))
+last_list = skim (Reader.counted Reader.diagnostic) ∷ []
 
-  pub list-bindings : s ≡ 1 → step_at f (Reader.counted (item_of 2)) p ≡ step_at f (list_of s) p
-  unfolding list_of
-  list-bindings e = list-is 1 (alike-counted alike-binding) refl e
+abbrev pub last_two : List (Reader (Unit {0}))
+last_two = skim (Reader.counted Reader.select) ∷ last_list
 
-  pub list-constrained : s ≡ 2 → step_at f (Reader.counted u16) p ≡ step_at f (list_of s) p
-  unfolding list_of
-  list-constrained e = list-is 2 (alike_refl (Reader.counted u16)) refl e
+abbrev pub last_three : List (Reader (Unit {0}))
+last_three = skim (Reader.counted u16) ∷ last_two
 
-  pub list-selects : s ≡ 3 → step_at f (Reader.counted (item_of 3)) p ≡ step_at f (list_of s) p
-  unfolding list_of
-  list-selects e = list-is 3 (alike-counted alike_select) refl e
+abbrev pub last_four : List (Reader (Unit {0}))
+last_four = skim (Reader.counted Reader.binding) ∷ last_three
 
-  pub list-diagnostics : s ≡ 4 → step_at f (Reader.counted (item_of 4)) p ≡ step_at f (list_of s) p
-  unfolding list_of
-  list-diagnostics e = list-is 4 (alike-counted alike-diagnostic) refl e
+abbrev pub all_lists : List (Reader (Unit {0}))
+all_lists = skim (Reader.counted Reader.level) ∷ last_four
 
--- the whole plan: n lists from list s on, and the end
-module _ (f : List ℕ) (n s p : ℕ) where
-  pub lists-more : (m q : ℕ) → s < 5 → p ≤ length f → n ≡ m + 1 → step_at f (list_of s) p ≡ Ok q → step_at f (lists n s) p ≡ step_at f (lists m (s + 1)) q
-  unfolding lists
-  lists-more m q h g k e =
-      ap (λ (j : ℕ). step_at f (lists j s) p) (k ∙ add-one m)
-      ∙ seq-next f p (list_of s) _ (lists m (s + 1)) q (suffix-list s h) (λ a. alike_refl (lists m (s + 1))) g e
-
-  pub lists-fault : (x : ℕ) → 0 < n → step_at f (list_of s) p ≡ Err x → step_at f (lists n s) p ≡ Err x
-  unfolding lists
-  lists-fault x h e = ap (λ (j : ℕ). step_at f (lists j s) p) (down n h) ∙ seq-fault f p (list_of s) _ x e
-
-  pub lists-over : n ≡ 0 → p < length f → step_at f (lists n s) p ≡ Err 7
-  unfolding lists end read_at
-  lists-over h g = ap (λ (j : ℕ). step_at f (lists j s) p) h ∙ step-refused f (end tt) p 7 (ap (end tt) (drop-cons f p 0 g))
-
-  pub lists-whole : n ≡ 0 → p ≤ length f → length f ≤ p → step_at f (lists n s) p ≡ Ok p
-  unfolding lists end read_at
-  lists-whole h k g =
-      let e : drop p f ≡ [] = drop_of_length-le f g in
-      ap (λ (j : ℕ). step_at f (lists j s) p) h ∙ step-got f (end tt) p tt p k (ap (end tt) e ∙ ap (got tt) (sym e))
+pub record ReadTo (f : List ℕ) (rs : List (Reader (Unit {0}))) (p : ℕ) : Type 0 where
+  pub whole : step_at f Reader.plan 0 ≡ step_at f (lists rs) p
+  pub within : p ≤ length f
 
 alike_end : {A B : Type 0} (a : A) (b : B) → SameSteps (end a) (end b)
 unfolding end skim ◌>>=◌ follow pure
@@ -266,14 +243,78 @@ alike_end a b = record { ends = go }
     go (x ∷ l) = refl
 
 -- the written rules' plan is its five lists
-pub plan-lists : (f : List ℕ) → step_at f Reader.plan 0 ≡ step_at f (lists 5 0) 0
-unfolding Reader.plan lists list_of
-plan-lists f =
-    alike-step f
-    (alike-bind (alike-skim (Reader.counted Reader.level)) (λ ls a.
-    alike-bind (alike-skim (Reader.counted Reader.binding)) (λ bs b.
-    alike-bind (alike-skim (Reader.counted u16)) (λ ks c.
-    alike-bind (alike-skim (Reader.counted Reader.select)) (λ ss d.
-    alike-bind (alike-skim (Reader.counted Reader.diagnostic)) (λ ds e.
-    alike_end _ _))))))
-    0
+pub plan-begun : (f : List ℕ) → ReadTo f all_lists 0
+unfolding Reader.plan lists
+plan-begun f =
+    record {
+      whole =
+          alike-step f
+          (alike-bind (alike-skim (Reader.counted Reader.level)) (λ ls a.
+          alike-bind (alike-skim (Reader.counted Reader.binding)) (λ bs b.
+          alike-bind (alike-skim (Reader.counted u16)) (λ ks c.
+          alike-bind (alike-skim (Reader.counted Reader.select)) (λ ss d.
+          alike-bind (alike-skim (Reader.counted Reader.diagnostic)) (λ ds e.
+          alike_end _ _))))))
+          0;
+      within = omega arith;
+    }
+
+module _ (f : List ℕ) {A B : Type 0} {r : Reader A} {t : Reader B} (rs : List (Reader (Unit {0}))) (p : ℕ) (x : SameSteps t r) (w : ReadTo f (skim t ∷ rs) p) where
+  here : step_at f (skim t) p ≡ step_at f r p
+  here = step-skim f t p ∙ alike-step f x p
+
+  pub list-read : Suffix t → (q : ℕ) → step_at f r p ≡ Ok q → ReadTo f rs q
+  unfolding lists
+  list-read y q e =
+      let g = here ∙ e in
+      record {
+        whole = w.whole ∙ seq-next f p (skim t) _ (lists rs) q (suffix-skim y) (λ a. alike_refl (lists rs)) w.within g;
+        within = within f (suffix-skim y) p q w.within g;
+      }
+
+  pub list-fault : (n : ℕ) → step_at f r p ≡ Err n → step_at f Reader.plan 0 ≡ Err n
+  unfolding lists
+  list-fault n e = w.whole ∙ seq-fault f p (skim t) _ n (here ∙ e)
+
+module _ (f : List ℕ) (p : ℕ) (w : ReadTo f [] p) where
+  pub plan-over : p < length f → step_at f Reader.plan 0 ≡ Err 7
+  unfolding lists end read_at
+  plan-over g = w.whole ∙ step-refused f (end tt) p 7 (ap (end tt) (drop-cons f p 0 g))
+
+  pub plan-whole : length f ≤ p → step_at f Reader.plan 0 ≡ Ok p
+  unfolding lists end read_at
+  plan-whole g =
+      let e : drop p f ≡ [] = drop_of_length-le f g in
+      w.whole ∙ step-got f (end tt) p tt p w.within (ap (end tt) e ∙ ap (got tt) (sym e))
+
+module _ (f : List ℕ) (p q : ℕ) where
+  pub levels-read : step_at f (Reader.counted Reader.level) 0 ≡ Ok q → ReadTo f last_four q
+  levels-read e = list-read f last_four 0 (alike_refl _) (plan-begun f) (suffix-counted suffix-level) q e
+
+  pub bindings-read : ReadTo f last_four p → step_at f (Reader.counted (item_of Kinds.Binding)) p ≡ Ok q → ReadTo f last_three q
+  bindings-read w e = list-read f last_three p (alike-counted alike-binding) w (suffix-counted suffix-binding) q e
+
+  pub constrained-read : ReadTo f last_three p → step_at f (Reader.counted u16) p ≡ Ok q → ReadTo f last_two q
+  constrained-read w e = list-read f last_two p (alike_refl _) w (suffix-counted suffix-u16) q e
+
+  pub selects_read : ReadTo f last_two p → step_at f (Reader.counted (item_of Kinds.Select)) p ≡ Ok q → ReadTo f last_list q
+  selects_read w e = list-read f last_list p (alike-counted alike_select) w (suffix-counted suffix-select) q e
+
+  pub diagnostics-read : ReadTo f last_list p → step_at f (Reader.counted (item_of Kinds.Diagnostic)) p ≡ Ok q → ReadTo f [] q
+  diagnostics-read w e = list-read f [] p (alike-counted alike-diagnostic) w (suffix-counted suffix-diagnostic) q e
+
+module _ (f : List ℕ) (p n : ℕ) where
+  pub levels-fault : step_at f (Reader.counted Reader.level) 0 ≡ Err n → step_at f Reader.plan 0 ≡ Err n
+  levels-fault e = list-fault f last_four 0 (alike_refl _) (plan-begun f) n e
+
+  pub bindings-fault : ReadTo f last_four p → step_at f (Reader.counted (item_of Kinds.Binding)) p ≡ Err n → step_at f Reader.plan 0 ≡ Err n
+  bindings-fault w e = list-fault f last_three p (alike-counted alike-binding) w n e
+
+  pub constrained-fault : ReadTo f last_three p → step_at f (Reader.counted u16) p ≡ Err n → step_at f Reader.plan 0 ≡ Err n
+  constrained-fault w e = list-fault f last_two p (alike_refl _) w n e
+
+  pub selects_fault : ReadTo f last_two p → step_at f (Reader.counted (item_of Kinds.Select)) p ≡ Err n → step_at f Reader.plan 0 ≡ Err n
+  selects_fault w e = list-fault f last_list p (alike-counted alike_select) w n e
+
+  pub diagnostics-fault : ReadTo f last_list p → step_at f (Reader.counted (item_of Kinds.Diagnostic)) p ≡ Err n → step_at f Reader.plan 0 ≡ Err n
+  diagnostics-fault w e = list-fault f [] p (alike-counted alike-diagnostic) w n e

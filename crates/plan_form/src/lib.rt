@@ -2,38 +2,25 @@
 // Which items of the plan stand where: proofs/Places.antt, `item-at` of any number of items and `opened` of the five lists.
 #![tactic(auto)]
 
-ghost use Rattle.std.specs.Prelude.{◌≡◌, ◌≤◌, ◌<◌, length};
+ghost use Rattle.std.specs.Prelude.{◌≡◌, ◌≤◌, length};
 ghost use Rattle.rules.specs.Read.{u8, u16, many};
 ghost use Rattle.rules.specs.Reader as Reader;
 ghost use Rattle.file.specs.Refusals.{numbered};
 ghost use Rattle.file.specs.Steps.{step_at};
-ghost use Rattle.plan_form.specs.Pieces.{item_kinds, item_of, range, edges, after_guide, after_seek};
-ghost use Rattle.plan_form.specs.Pieces.{list_count, list_of};
+ghost use Rattle.plan_form.specs.Pieces.{item_of, range, edges, after_guide, after_seek};
 
 use file::{Refusal, fixed, fuzzy_end, wide, word_at};
 use paths::FieldPath;
 
-// The items by number: those of a seek and of a level, and those of the lists after all levels.
-pub const PARTS: usize = 0;
-
-pub const RESIDUALS: usize = 1;
-
-pub const BINDINGS: usize = 2;
-
-pub const SELECTS: usize = 3;
-
-pub const DIAGNOSTICS: usize = 4;
-
-// A plan's lists by number, in its order; the last are the diagnostics.
-const LEVEL_LIST: usize = 0;
-
-const BINDING_LIST: usize = 1;
-
-const CONSTRAINED_LIST: usize = 2;
-
-const SELECT_LIST: usize = 3;
-
-const LISTS: usize = 5;
+// The items of a plan that hold no list of their own: those of a seek and of a level, and those of the lists after all levels.
+#[derive(Clone, Copy, PartialEq, Eq)]
+pub enum Kind {
+    Part,
+    Residual,
+    Binding,
+    Select,
+    Diagnostic,
+}
 
 // The last code that a diagnostic may have; the first is 1.
 const LAST_CODE: u8 = 11;
@@ -149,13 +136,10 @@ pub fn diagnostic_end(plan: &[u8], p: usize) -> Result<usize, Refusal>
     if plan.len() - p < 3 {
         return Err(Refusal::Ends);
     }
-    if plan[p + 2] < 1 {
-        return Err(Refusal::Kind);
+    match plan[p + 2] {
+        1..=LAST_CODE => Ok(p + 3),
+        _ => Err(Refusal::Kind),
     }
-    if plan[p + 2] > LAST_CODE {
-        return Err(Refusal::Kind);
-    }
-    Ok(p + 3)
 }
 
 // Where the key of the part at p ends: its kind says whether bytes, address and path or an address follow.
@@ -249,42 +233,42 @@ pub fn residual_end(plan: &[u8], p: usize) -> Result<usize, Refusal>
     fixed(plan, 2, op_end(plan, q)?)
 }
 
-// Where item s at p ends.
-pub fn item_end(plan: &[u8], s: usize, p: usize) -> Result<usize, Refusal>
-    requires { (p ≤ length plan.now) × (s < item_kinds) }
-    ensures { numbered result ≡ step_at plan.now (item_of s) p }
+// Where the item at p ends.
+pub fn item_end(plan: &[u8], kind: Kind, p: usize) -> Result<usize, Refusal>
+    requires { p ≤ length plan.now }
+    ensures { numbered result ≡ step_at plan.now (item_of kind) p }
 {
-    match s {
-        PARTS => part_end(plan, p),
-        RESIDUALS => residual_end(plan, p),
-        BINDINGS => binding_end(plan, p),
-        SELECTS => select_end(plan, p),
-        _ => diagnostic_end(plan, p),
+    match kind {
+        Kind::Part => part_end(plan, p),
+        Kind::Residual => residual_end(plan, p),
+        Kind::Binding => binding_end(plan, p),
+        Kind::Select => select_end(plan, p),
+        Kind::Diagnostic => diagnostic_end(plan, p),
     }
 }
 
-// Where n items s from `at` on end.
-pub fn items_end(plan: &[u8], s: usize, n: usize, at: usize) -> Result<usize, Refusal>
-    requires { (at ≤ length plan.now) × (s < item_kinds) }
-    ensures { numbered result ≡ step_at plan.now (many n (item_of s)) at }
+// Where n items of a kind end, from `at` on.
+pub fn items_end(plan: &[u8], kind: Kind, n: usize, at: usize) -> Result<usize, Refusal>
+    requires { at ≤ length plan.now }
+    ensures { numbered result ≡ step_at plan.now (many n (item_of kind)) at }
 {
     let mut p = at;
     for _ in 0..n {
-        p = item_end(plan, s, p)?;
+        p = item_end(plan, kind, p)?;
     }
     Ok(p)
 }
 
-// Where a count at p and as many items s end.
-pub fn list_end(plan: &[u8], s: usize, p: usize) -> Result<usize, Refusal>
-    requires { (p ≤ length plan.now) × (s < item_kinds) }
-    ensures { numbered result ≡ step_at plan.now (Reader.counted (item_of s)) p }
+// Where a count at p and as many items of a kind end.
+pub fn list_end(plan: &[u8], kind: Kind, p: usize) -> Result<usize, Refusal>
+    requires { p ≤ length plan.now }
+    ensures { numbered result ≡ step_at plan.now (Reader.counted (item_of kind)) p }
 {
     if plan.len() - p < 2 {
         return Err(Refusal::Ends);
     }
     let n = word_at(plan, p);
-    items_end(plan, s, n, p + 2)
+    items_end(plan, kind, n, p + 2)
 }
 
 // Where a range's text, path and node end.
@@ -319,7 +303,7 @@ fn range_seek_end(plan: &[u8], n: usize, p: usize) -> Result<usize, Refusal>
     requires { p ≤ length plan.now }
     ensures { numbered result ≡ step_at plan.now (Reader.range_seek n) p }
 {
-    let q = items_end(plan, PARTS, n, p)?;
+    let q = items_end(plan, Kind::Part, n, p)?;
     range_end(plan, q)
 }
 
@@ -328,7 +312,7 @@ fn bounded_seek_end(plan: &[u8], n: usize, p: usize) -> Result<usize, Refusal>
     requires { p ≤ length plan.now }
     ensures { numbered result ≡ step_at plan.now (Reader.bounded_seek n) p }
 {
-    let q = items_end(plan, PARTS, n, p)?;
+    let q = items_end(plan, Kind::Part, n, p)?;
     edges_end(plan, q)
 }
 
@@ -342,7 +326,7 @@ pub fn seek_end(plan: &[u8], n: usize, p: usize) -> Result<usize, Refusal>
     }
     match plan[p] {
         0 => prefix_seek_end(plan, n, p + 1),
-        1 => items_end(plan, PARTS, n, p + 1),
+        1 => items_end(plan, Kind::Part, n, p + 1),
         2 => range_seek_end(plan, n, p + 1),
         3 => bounded_seek_end(plan, n, p + 1),
         _ => Err(Refusal::Kind),
@@ -354,7 +338,7 @@ fn after_guide_end(plan: &[u8], p: usize) -> Result<usize, Refusal>
     requires { p ≤ length plan.now }
     ensures { numbered result ≡ step_at plan.now after_guide p }
 {
-    let q = list_end(plan, RESIDUALS, p)?;
+    let q = list_end(plan, Kind::Residual, p)?;
     words_end(plan, q)
 }
 
@@ -404,28 +388,15 @@ pub fn level_list_end(plan: &[u8], p: usize) -> Result<usize, Refusal>
     levels_end(plan, n, p + 2)
 }
 
-// Where list s of a plan ends that has its count at p.
-fn plan_list_end(plan: &[u8], s: usize, p: usize) -> Result<usize, Refusal>
-    requires { (p ≤ length plan.now) × (s < list_count) }
-    ensures { numbered result ≡ step_at plan.now (list_of s) p }
-{
-    match s {
-        LEVEL_LIST => level_list_end(plan, p),
-        BINDING_LIST => list_end(plan, BINDINGS, p),
-        CONSTRAINED_LIST => words_end(plan, p),
-        SELECT_LIST => list_end(plan, SELECTS, p),
-        _ => list_end(plan, DIAGNOSTICS, p),
-    }
-}
-
 // Reads the whole plan: the number of its first fault, or its end. The five lists are all that a plan holds.
 pub fn plan_end(plan: &[u8]) -> Result<usize, Refusal>
     ensures { numbered result ≡ step_at plan.now Reader.plan 0 }
 {
-    let mut p = 0;
-    for s in 0..LISTS {
-        p = plan_list_end(plan, s, p)?;
-    }
+    let b = level_list_end(plan, 0)?;
+    let k = list_end(plan, Kind::Binding, b)?;
+    let s = words_end(plan, k)?;
+    let d = list_end(plan, Kind::Select, s)?;
+    let p = list_end(plan, Kind::Diagnostic, d)?;
     if p < plan.len() {
         return Err(Refusal::Follows);
     }

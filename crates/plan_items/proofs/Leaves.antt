@@ -239,13 +239,16 @@ module _ (f : List ℕ) (p : ℕ) (x : Found f Reader.edge p) where
   unfolding Reader.edge read_at pure
   edge_none e = kind-reads f edge_readers p x 0 e None (p + 1) refl
 
-  pub exclusive-text : get_or f p 0 ≡ 1 → Found f Reader.text (p + 1)
+  exclusive-text : get_or f p 0 ≡ 1 → Found f Reader.text (p + 1)
   unfolding Reader.edge Reader.edge_that
   exclusive-text e = found_first f Reader.text _ (p + 1) (kind-then f edge_readers p x 1 e)
 
-  pub inclusive-text : get_or f p 0 ≡ 2 → Found f Reader.text (p + 1)
+  inclusive-text : get_or f p 0 ≡ 2 → Found f Reader.text (p + 1)
   unfolding Reader.edge Reader.edge_that
   inclusive-text e = found_first f Reader.text _ (p + 1) (kind-then f edge_readers p x 2 e)
+
+  pub edge-text : 0 < get_or f p 0 → Found f Reader.text (p + 1)
+  edge-text h = ⊎_elim (λ g. exclusive-text (omega arith)) (λ g. inclusive-text (omega (arith, edge-known))) (lt-or-le (get_or f p 0) 2)
 
   pub edge-exclusive : (t : TextView) → get_or f p 0 ≡ 1 → read_at f Reader.text (p + 1) ≡ got (text_of f t) (drop (t.at + t.len) f) → read_at f Reader.edge p ≡ got (Some (record { value = text_of f t; inclusive = false })) (drop (t.at + t.len) f)
   unfolding Reader.edge Reader.edge_that read_at pure

@@ -16,6 +16,7 @@ use Rattle.file.proofs.Readers.{alike-step}
 use Rattle.file.proofs.Suffix.{Suffix, suffix-u16}
 use Rattle.plan_form.specs.Places.{plan_of, Opened, Found}
 use Rattle.plan_form.specs.Pieces.{item_of}
+use Rattle.plan_form.specs.declared.Kind.TheVariants as Kinds
 use Rattle.plan_form.proofs.Forward.{suffix-part, suffix-residual}
 use Rattle.plan_form.proofs.Lists.{alike-binding, alike_select, alike-counted}
 use Rattle.plan_form.proofs.Places.{ItemAt, ListAt, item-at, opened}
@@ -60,14 +61,14 @@ module _ (f : List ℕ) (x : Opened f) (p : ℕ) (s : Result ℕ Refusal) (q : �
   pub past-levels : p ≡ 0 → numbered s ≡ step_at f (Reader.counted Reader.level) p → q ≡ (opened f x).bindings
   past-levels h e = g ∙ unwrapped s ∙ ap past_of (e ∙ ap (step_at f (Reader.counted Reader.level)) h ∙ (opened f x).levels-end)
 
-  pub past-bindings : p ≡ (opened f x).bindings → numbered s ≡ step_at f (Reader.counted (item_of 2)) p → q ≡ (opened f x).constrained
+  pub past-bindings : p ≡ (opened f x).bindings → numbered s ≡ step_at f (Reader.counted (item_of Kinds.Binding)) p → q ≡ (opened f x).constrained
   past-bindings h e =
       g ∙ unwrapped s ∙ ap past_of (e ∙ sym (alike-step f (alike-counted alike-binding) p) ∙ ap (step_at f (Reader.counted Reader.binding)) h ∙ (opened f x).bindings-end)
 
   pub past-constrained : p ≡ (opened f x).constrained → numbered s ≡ step_at f (Reader.counted u16) p → q ≡ (opened f x).selects
   past-constrained h e = g ∙ unwrapped s ∙ ap past_of (e ∙ ap (step_at f (Reader.counted u16)) h ∙ (opened f x).constrained-end)
 
-  pub past-selects : p ≡ (opened f x).selects → numbered s ≡ step_at f (Reader.counted (item_of 3)) p → q ≡ (opened f x).diagnostics
+  pub past-selects : p ≡ (opened f x).selects → numbered s ≡ step_at f (Reader.counted (item_of Kinds.Select)) p → q ≡ (opened f x).diagnostics
   past-selects h e =
       g ∙ unwrapped s ∙ ap past_of (e ∙ sym (alike-step f (alike-counted alike_select) p) ∙ ap (step_at f (Reader.counted Reader.select)) h ∙ (opened f x).selects-end)
 

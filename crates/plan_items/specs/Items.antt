@@ -19,7 +19,6 @@ use Rattle.plan_items.specs.declared.PartItem.{PartItem}
 use Rattle.plan_items.specs.declared.EdgeView.{EdgeView}
 use Rattle.plan_items.specs.declared.EdgeView.TheVariants as Ev
 use Rattle.plan_items.specs.declared.GuideView.{GuideView}
-use Rattle.plan_items.specs.declared.GuideView.TheVariants as Gv
 use Rattle.plan_items.specs.declared.NarrowingView.{NarrowingView}
 use Rattle.plan_items.specs.declared.NarrowingView.TheVariants as Nv
 use Rattle.plan_items.specs.declared.ResidualView.{ResidualView}
@@ -60,15 +59,15 @@ key_of f (Pv.RegisterFactId a) = SeekKeyPart.RegisterFactId a.0
 abbrev pub part_of : List ℕ → PartItem → Part
 part_of f v = record { key = key_of f v.part; node = v.node }
 
-abbrev pub edge_of : List ℕ → EdgeView → Option RangeEdge
-edge_of f Ev.Nothing = None
-edge_of f (Ev.Exclusive text) = Some (record { value = text_of f text; inclusive = false })
-edge_of f (Ev.Inclusive text) = Some (record { value = text_of f text; inclusive = true })
+abbrev pub edge_of : List ℕ → Option EdgeView → Option RangeEdge
+edge_of f None = None
+edge_of f (Some (Ev.Exclusive text)) = Some (record { value = text_of f text; inclusive = false })
+edge_of f (Some (Ev.Inclusive text)) = Some (record { value = text_of f text; inclusive = true })
 
-abbrev pub guide_of : List ℕ → GuideView → Option Guide
-guide_of f Gv.Nothing = None
-guide_of f (Gv.Just path x distance a n) =
-    Some (record { path = path_at f path; term = x; distance = distance; anchor = anchor_of a; node = n })
+abbrev pub guide_of : List ℕ → Option GuideView → Option Guide
+guide_of f None = None
+guide_of f (Some v) =
+    Some (record { path = path_at f v.path; term = v.term; distance = v.distance; anchor = anchor_of v.anchor; node = v.node })
 
 abbrev pub narrowing_of : List ℕ → NarrowingView → Narrowing
 narrowing_of f (Nv.Bytes text) = Narrowing.Bytes (text_of f text)
@@ -140,14 +139,14 @@ PartInside f (Pv.Bytes text) = TextInside f text
 PartInside f (Pv.RegisterField a path) = Found f Reader.path path
 PartInside f (Pv.RegisterFactId a) = Unit {0}
 
-abbrev pub EdgeInside : List ℕ → EdgeView → Type 0
-EdgeInside f Ev.Nothing = Unit {0}
-EdgeInside f (Ev.Exclusive text) = TextInside f text
-EdgeInside f (Ev.Inclusive text) = TextInside f text
+abbrev pub EdgeInside : List ℕ → Option EdgeView → Type 0
+EdgeInside f None = Unit {0}
+EdgeInside f (Some (Ev.Exclusive text)) = TextInside f text
+EdgeInside f (Some (Ev.Inclusive text)) = TextInside f text
 
-abbrev pub GuideInside : List ℕ → GuideView → Type 0
-GuideInside f Gv.Nothing = Unit {0}
-GuideInside f (Gv.Just path x distance a n) = Found f Reader.path path
+abbrev pub GuideInside : List ℕ → Option GuideView → Type 0
+GuideInside f None = Unit {0}
+GuideInside f (Some v) = Found f Reader.path v.path
 
 abbrev pub NarrowingInside : List ℕ → NarrowingView → Type 0
 NarrowingInside f (Nv.Bytes text) = TextInside f text

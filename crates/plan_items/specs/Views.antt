@@ -1,29 +1,29 @@
 -- Request [1]: the whole view of an item, from the bytes f of the plan and the item's position p. An item of several kinds begins with the
 -- byte of its kind, which chooses from the list of the kinds' views; `get_or`'s last argument is never met where the item was found.
-use Rattle.std.specs.Prelude.{ℕ, ◌+◌, ◌*◌, List, [], ◌∷◌, length, get_or}
+use Rattle.std.specs.Prelude.{ℕ, ◌+◌, ◌*◌, List, [], ◌∷◌, length, get_or, Option, None, Some}
 use Rattle.rules.specs.Read.{u16, many}
 use Rattle.rules.specs.Reader as Reader
 use Rattle.file.specs.Steps.{word, step_at}
 use Rattle.paths.specs.declared.Address.{Address}
 use Rattle.views.specs.Views.{byte_at, long, past_path, anchor_at, slot_view}
+use Rattle.views.specs.declared.SlotView.{SlotView}
 use Rattle.views.specs.declared.SlotView.TheVariants as Sv
 use Rattle.views.specs.declared.TextView.{TextView}
 use Rattle.plan_items.specs.Items.{list_view, past_of}
+use Rattle.plan_items.specs.declared.Item.{Item}
+use Rattle.plan_items.specs.declared.PartView.{PartView}
 use Rattle.plan_items.specs.declared.PartView.TheVariants as Pv
-use Rattle.plan_items.specs.declared.KeyItem.{KeyItem}
 use Rattle.plan_items.specs.declared.PartItem.{PartItem}
+use Rattle.plan_items.specs.declared.EdgeView.{EdgeView}
 use Rattle.plan_items.specs.declared.EdgeView.TheVariants as Ev
-use Rattle.plan_items.specs.declared.EdgeItem.{EdgeItem}
-use Rattle.plan_items.specs.declared.GuideView.TheVariants as Gv
-use Rattle.plan_items.specs.declared.GuideItem.{GuideItem}
+use Rattle.plan_items.specs.declared.GuideView.{GuideView}
+use Rattle.plan_items.specs.declared.NarrowingView.{NarrowingView}
 use Rattle.plan_items.specs.declared.NarrowingView.TheVariants as Nv
-use Rattle.plan_items.specs.declared.NarrowingItem.{NarrowingItem}
 use Rattle.plan_items.specs.declared.ResidualView.{ResidualView}
+use Rattle.plan_items.specs.declared.SeekView.{SeekView}
 use Rattle.plan_items.specs.declared.SeekView.TheVariants as Kv
-use Rattle.plan_items.specs.declared.SeekItem.{SeekItem}
 use Rattle.plan_items.specs.declared.ListView.{ListView}
 use Rattle.plan_items.specs.declared.LevelView.{LevelView}
-use Rattle.plan_items.specs.declared.SlotItem.{SlotItem}
 use Rattle.plan_items.specs.declared.BindingItem.{BindingItem}
 use Rattle.plan_items.specs.declared.SelectView.{SelectView}
 use Rattle.plan_items.specs.declared.DiagnosticView.{DiagnosticView}
@@ -40,73 +40,84 @@ abbrev pub address_at : List ℕ → ℕ → Address
 address_at f p = record { 0 = word f p }
 
 -- a part's key by its kind, and of what follows the kind at q
-abbrev pub key_items : List ℕ → ℕ → List KeyItem
+abbrev pub key_items : List ℕ → ℕ → List (Item PartView)
 key_items f q =
-    record { key = Pv.Bytes (text_view f q); end = past_text f q } ∷
-    record { key = Pv.RegisterField (address_at f q) (q + 2); end = past_path f (q + 2) } ∷
-    record { key = Pv.RegisterFactId (address_at f q); end = q + 2 } ∷
+    record { view = Pv.Bytes (text_view f q); end = past_text f q } ∷
+    record { view = Pv.RegisterField (address_at f q) (q + 2); end = past_path f (q + 2) } ∷
+    record { view = Pv.RegisterFactId (address_at f q); end = q + 2 } ∷
     []
 
-abbrev pub no_key : KeyItem
-no_key = record { key = Pv.RegisterFactId (record { 0 = 0 }); end = 0 }
+abbrev pub no_key : Item PartView
+no_key = record { view = Pv.RegisterFactId (record { 0 = 0 }); end = 0 }
 
-unfoldable pub key_item : List ℕ → ℕ → KeyItem
+unfoldable pub key_item : List ℕ → ℕ → Item PartView
 key_item f p = get_or (key_items f (p + 1)) (byte_at f p) no_key
 
 -- a part: a key, then its node
 unfoldable pub part_item : List ℕ → ℕ → PartItem
-part_item f p = let k = key_item f p in record { part = k.key; node = word f k.end; end = k.end + 2 }
+part_item f p = let k = key_item f p in record { part = k.view; node = word f k.end; end = k.end + 2 }
 
 -- an edge
-abbrev pub edge_items : List ℕ → ℕ → List EdgeItem
+abbrev pub edge_items : List ℕ → ℕ → List (Item (Option EdgeView))
 edge_items f q =
-    record { edge = Ev.Nothing; end = q } ∷
-    record { edge = Ev.Exclusive (text_view f q); end = past_text f q } ∷
-    record { edge = Ev.Inclusive (text_view f q); end = past_text f q } ∷
+    record { view = None; end = q } ∷
+    record { view = Some (Ev.Exclusive (text_view f q)); end = past_text f q } ∷
+    record { view = Some (Ev.Inclusive (text_view f q)); end = past_text f q } ∷
     []
 
-abbrev pub no_edge : EdgeItem
-no_edge = record { edge = Ev.Nothing; end = 0 }
+abbrev pub no_edge : Item (Option EdgeView)
+no_edge = record { view = None; end = 0 }
 
-unfoldable pub edge_item : List ℕ → ℕ → EdgeItem
+unfoldable pub edge_item : List ℕ → ℕ → Item (Option EdgeView)
 edge_item f p = get_or (edge_items f (p + 1)) (byte_at f p) no_edge
 
 -- a guide: a path, then at o a name, a distance, an anchor and a node
-abbrev pub guide_that : List ℕ → ℕ → ℕ → GuideItem
-guide_that f q o = record { guide = Gv.Just q (word f o) (byte_at f (o + 2)) (anchor_at (byte_at f (o + 3))) (word f (o + 4)); end = o + 6 }
+abbrev pub guide_that : List ℕ → ℕ → ℕ → Item (Option GuideView)
+guide_that f q o =
+    record {
+      view =
+          Some (record {
+            path = q;
+            term = word f o;
+            distance = byte_at f (o + 2);
+            anchor = anchor_at (byte_at f (o + 3));
+            node = word f (o + 4);
+          });
+      end = o + 6;
+    }
 
-abbrev pub guide_items : List ℕ → ℕ → List GuideItem
-guide_items f q = record { guide = Gv.Nothing; end = q } ∷ guide_that f q (past_path f q) ∷ []
+abbrev pub guide_items : List ℕ → ℕ → List (Item (Option GuideView))
+guide_items f q = record { view = None; end = q } ∷ guide_that f q (past_path f q) ∷ []
 
-abbrev pub no_guide : GuideItem
-no_guide = record { guide = Gv.Nothing; end = 0 }
+abbrev pub no_guide : Item (Option GuideView)
+no_guide = record { view = None; end = 0 }
 
-unfoldable pub guide_item : List ℕ → ℕ → GuideItem
+unfoldable pub guide_item : List ℕ → ℕ → Item (Option GuideView)
 guide_item f p = get_or (guide_items f (p + 1)) (byte_at f p) no_guide
 
 -- an op
-abbrev pub narrowing_items : List ℕ → ℕ → List NarrowingItem
+abbrev pub narrowing_items : List ℕ → ℕ → List (Item NarrowingView)
 narrowing_items f q =
-    record { narrowing = Nv.Bytes (text_view f q); end = past_text f q } ∷
-    record { narrowing = Nv.Prefix (text_view f q); end = past_text f q } ∷
-    record { narrowing = Nv.RegisterField (address_at f q) (q + 2); end = past_path f (q + 2) } ∷
-    record { narrowing = Nv.FactId (address_at f q); end = q + 2 } ∷
-    record { narrowing = Nv.Tag (long f q); end = q + 4 } ∷
-    record { narrowing = Nv.Fuzzy (word f q) (byte_at f (q + 2)) (anchor_at (byte_at f (q + 3))); end = q + 4 } ∷
-    record { narrowing = Nv.OwnField q; end = past_path f q } ∷
+    record { view = Nv.Bytes (text_view f q); end = past_text f q } ∷
+    record { view = Nv.Prefix (text_view f q); end = past_text f q } ∷
+    record { view = Nv.RegisterField (address_at f q) (q + 2); end = past_path f (q + 2) } ∷
+    record { view = Nv.FactId (address_at f q); end = q + 2 } ∷
+    record { view = Nv.Tag (long f q); end = q + 4 } ∷
+    record { view = Nv.Fuzzy (word f q) (byte_at f (q + 2)) (anchor_at (byte_at f (q + 3))); end = q + 4 } ∷
+    record { view = Nv.OwnField q; end = past_path f q } ∷
     []
 
-abbrev pub no_narrowing : NarrowingItem
-no_narrowing = record { narrowing = Nv.Tag 0; end = 0 }
+abbrev pub no_narrowing : Item NarrowingView
+no_narrowing = record { view = Nv.Tag 0; end = 0 }
 
-unfoldable pub narrowing_item : List ℕ → ℕ → NarrowingItem
+unfoldable pub narrowing_item : List ℕ → ℕ → Item NarrowingView
 narrowing_item f p = get_or (narrowing_items f (p + 1)) (byte_at f p) no_narrowing
 
 -- a residual: a path, then an op, then its node
 unfoldable pub residual_view : List ℕ → ℕ → ResidualView
 residual_view f p =
     let o = narrowing_item f (past_path f p) in
-    record { path = p; op = o.narrowing; node = word f o.end; end = o.end + 2 }
+    record { path = p; op = o.view; node = word f o.end; end = o.end + 2 }
 
 -- where n parts end, and n residuals, that stand one after another from p on
 unfoldable pub parts_past : List ℕ → ℕ → ℕ → ℕ
@@ -116,32 +127,32 @@ unfoldable pub residuals_past : List ℕ → ℕ → ℕ → ℕ
 residuals_past f n p = past_of (step_at f (many n Reader.residual) p)
 
 -- what a seek of each kind holds, from p on; n is the level's number of parts
-unfoldable pub prefix_item : List ℕ → ℕ → ℕ → SeekItem
-prefix_item f n p = let nodes = past_text f p in record { seek = Kv.Prefix (text_view f p) nodes; end = nodes + 2 * n }
+unfoldable pub prefix_item : List ℕ → ℕ → ℕ → Item SeekView
+prefix_item f n p = let nodes = past_text f p in record { view = Kv.Prefix (text_view f p) nodes; end = nodes + 2 * n }
 
-unfoldable pub composite_item : List ℕ → ℕ → ℕ → SeekItem
-composite_item f n p = record { seek = Kv.Composite p; end = parts_past f n p }
+unfoldable pub composite_item : List ℕ → ℕ → ℕ → Item SeekView
+composite_item f n p = record { view = Kv.Composite p; end = parts_past f n p }
 
-unfoldable pub range_item : List ℕ → ℕ → ℕ → SeekItem
+unfoldable pub range_item : List ℕ → ℕ → ℕ → Item SeekView
 range_item f n p =
     let q = parts_past f n p in
     let path = past_text f q in
     let o = past_path f path in
-    record { seek = Kv.PrefixRange p (text_view f q) path (word f o); end = o + 2 }
+    record { view = Kv.PrefixRange p (text_view f q) path (word f o); end = o + 2 }
 
-unfoldable pub bounded_item : List ℕ → ℕ → ℕ → SeekItem
+unfoldable pub bounded_item : List ℕ → ℕ → ℕ → Item SeekView
 bounded_item f n p =
     let low = edge_item f (parts_past f n p) in
     let high = edge_item f low.end in
-    record { seek = Kv.Bounded p low.edge high.edge; end = high.end }
+    record { view = Kv.Bounded p low.view high.view; end = high.end }
 
-abbrev pub no_seek : SeekItem
-no_seek = record { seek = Kv.Composite 0; end = 0 }
+abbrev pub no_seek : Item SeekView
+no_seek = record { view = Kv.Composite 0; end = 0 }
 
-abbrev pub seek_items : List ℕ → ℕ → ℕ → List SeekItem
+abbrev pub seek_items : List ℕ → ℕ → ℕ → List (Item SeekView)
 seek_items f n q = prefix_item f n q ∷ composite_item f n q ∷ range_item f n q ∷ bounded_item f n q ∷ []
 
-unfoldable pub seek_item : List ℕ → ℕ → ℕ → SeekItem
+unfoldable pub seek_item : List ℕ → ℕ → ℕ → Item SeekView
 seek_item f n p = get_or (seek_items f n (p + 1)) (byte_at f p) no_seek
 
 -- a level's two lists, counted at p
@@ -162,28 +173,28 @@ level_view f p =
       narrowings = word f p;
       closers = word f (p + 2);
       parts = word f (p + 4);
-      seek = s.seek;
-      guide = g.guide;
+      seek = s.view;
+      guide = g.view;
       residuals = rs;
       folded = fs;
       end = fs.end;
     }
 
 -- what a Field slot holds, from p on; and where a slot ends, by its kind
-unfoldable pub field_item : List ℕ → ℕ → SlotItem
+unfoldable pub field_item : List ℕ → ℕ → Item SlotView
 field_item f p =
     let q = past_path f (p + 2) in
-    record { slot = Sv.Field (address_at f p) (p + 2) (word f q); end = q + 2 }
+    record { view = Sv.Field (address_at f p) (p + 2) (word f q); end = q + 2 }
 
 abbrev pub slot_ends : List ℕ → ℕ → List ℕ
 slot_ends f q = (q + 4) ∷ (q + 4) ∷ (q + 2) ∷ (past_path f (q + 2) + 2) ∷ (q + 4) ∷ (q + 2) ∷ []
 
-unfoldable pub slot_item : List ℕ → ℕ → SlotItem
-slot_item f p = record { slot = slot_view f p; end = get_or (slot_ends f (p + 1)) (byte_at f p) 0 }
+unfoldable pub slot_item : List ℕ → ℕ → Item SlotView
+slot_item f p = record { view = slot_view f p; end = get_or (slot_ends f (p + 1)) (byte_at f p) 0 }
 
 -- the lists after all levels
 unfoldable pub binding_item : List ℕ → ℕ → BindingItem
-binding_item f p = let s = slot_item f (p + 2) in record { name = word f p; slot = s.slot; end = s.end }
+binding_item f p = let s = slot_item f (p + 2) in record { name = word f p; slot = s.view; end = s.end }
 
 unfoldable pub select_view : List ℕ → ℕ → SelectView
 select_view f p =

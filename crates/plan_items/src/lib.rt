@@ -24,10 +24,15 @@ ghost use Rattle.plan_items.specs.Views.{select_view, diagnostic_view, plan_view
 
 use file::word_at;
 use paths::{Address, FieldPath};
-use plan_form::{
-    BINDINGS, PARTS, RESIDUALS, SELECTS, items_end, level_list_end, list_end, words_end,
-};
+use plan_form::{Kind, items_end, level_list_end, list_end, words_end};
 use views::{Anchor, SlotView, TextView, anchor_of, half_at, long_at, maybe_predicate, past_path};
+
+// The view of an item, and where the item ends.
+#[derive(Clone, Copy)]
+pub struct Item<T> {
+    pub view: T,
+    pub end: usize,
+}
 
 // The key of a part of a seek. RegisterField has the position of its path.
 #[derive(Clone, Copy)]
@@ -35,13 +40,6 @@ pub enum PartView {
     Bytes(TextView),
     RegisterField(Address, usize),
     RegisterFactId(Address),
-}
-
-// The key of a part, and where it ends.
-#[derive(Clone, Copy)]
-pub struct KeyItem {
-    pub key: PartView,
-    pub end: usize,
 }
 
 // A part with the node that made it, and where it ends.
@@ -52,33 +50,21 @@ pub struct PartItem {
     pub end: usize,
 }
 
-// An edge of a Bounded seek.
+// An edge of a Bounded seek, where there is one.
 #[derive(Clone, Copy)]
 pub enum EdgeView {
-    Nothing,
     Exclusive(TextView),
     Inclusive(TextView),
 }
 
-// An edge, and where it ends.
+// A level's guide, where it has one: `path` is the position of its path, `term` a name.
 #[derive(Clone, Copy)]
-pub struct EdgeItem {
-    pub edge: EdgeView,
-    pub end: usize,
-}
-
-// A level's guide, if it has one: the position of its path, a name, a distance, an anchor and its node.
-#[derive(Clone, Copy)]
-pub enum GuideView {
-    Nothing,
-    Just(usize, usize, u8, Anchor, usize),
-}
-
-// A guide, and where it ends.
-#[derive(Clone, Copy)]
-pub struct GuideItem {
-    pub guide: GuideView,
-    pub end: usize,
+pub struct GuideView {
+    pub path: usize,
+    pub term: usize,
+    pub distance: u8,
+    pub anchor: Anchor,
+    pub node: usize,
 }
 
 // What a residual asks of the bytes at its path; RegisterField has the position of the register's path, OwnField that of the same row's.
@@ -91,13 +77,6 @@ pub enum NarrowingView {
     Tag(u32),
     Fuzzy(usize, u8, Anchor),
     OwnField(usize),
-}
-
-// What a residual asks, and where it ends.
-#[derive(Clone, Copy)]
-pub struct NarrowingItem {
-    pub narrowing: NarrowingView,
-    pub end: usize,
 }
 
 // A residual: the position of its path, its op and its node.
@@ -116,14 +95,7 @@ pub enum SeekView {
     Prefix(TextView, usize),
     Composite(usize),
     PrefixRange(usize, TextView, usize, usize),
-    Bounded(usize, EdgeView, EdgeView),
-}
-
-// A seek, and where it ends.
-#[derive(Clone, Copy)]
-pub struct SeekItem {
-    pub seek: SeekView,
-    pub end: usize,
+    Bounded(usize, Option<EdgeView>, Option<EdgeView>),
 }
 
 // A list: how many items it has, and the position of the first.
@@ -141,16 +113,9 @@ pub struct LevelView {
     pub closers: usize,
     pub parts: usize,
     pub seek: SeekView,
-    pub guide: GuideView,
+    pub guide: Option<GuideView>,
     pub residuals: ListView,
     pub folded: ListView,
-    pub end: usize,
-}
-
-// A slot, and where it ends.
-#[derive(Clone, Copy)]
-pub struct SlotItem {
-    pub slot: SlotView,
     pub end: usize,
 }
 
@@ -225,32 +190,32 @@ pub fn path_at(plan: &[u8], p: usize) -> FieldPath
 }
 
 // The key of the part at p.
-fn key_at(plan: &[u8], p: usize) -> KeyItem
+fn key_at(plan: &[u8], p: usize) -> Item<PartView>
     requires { Found plan.now Reader.part_key p }
     ensures reads { let bytes = plan.now in
-        read_at bytes Reader.part_key p ≡ got (key_of bytes result.key) (drop result.end bytes) }
-    ensures inside { PartInside plan.now result.key }
+        read_at bytes Reader.part_key p ≡ got (key_of bytes result.view) (drop result.end bytes) }
+    ensures inside { PartInside plan.now result.view }
     ensures view { result ≡ key_item plan.now p }
 {
     let q = p + 1;
     match plan[p] {
         0 => {
             let text = text_at(plan, q);
-            KeyItem {
-                key: PartView::Bytes(text),
+            Item {
+                view: PartView::Bytes(text),
                 end: text.at + text.len,
             }
         }
         1 => {
             let address = Address(half_at(plan, q));
             let path = q + 2;
-            KeyItem {
-                key: PartView::RegisterField(address, path),
+            Item {
+                view: PartView::RegisterField(address, path),
                 end: path_past(plan, path),
             }
         }
-        _ => KeyItem {
-            key: PartView::RegisterFactId(Address(half_at(plan, q))),
+        _ => Item {
+            view: PartView::RegisterFactId(Address(half_at(plan, q))),
             end: q + 2,
         },
     }
@@ -265,99 +230,93 @@ pub fn part_at(plan: &[u8], p: usize) -> PartItem
     ensures view { result ≡ part_item plan.now p }
 {
     let k = key_at(plan, p);
-    let part = k.key;
     PartItem {
-        part,
+        part: k.view,
         node: word_at(plan, k.end),
         end: k.end + 2,
     }
 }
 
 // The edge at p.
-pub fn edge_at(plan: &[u8], p: usize) -> EdgeItem
+pub fn edge_at(plan: &[u8], p: usize) -> Item<Option<EdgeView>>
     requires { Found plan.now Reader.edge p }
     ensures reads { let bytes = plan.now in
-        read_at bytes Reader.edge p ≡ got (edge_of bytes result.edge) (drop result.end bytes) }
-    ensures inside { EdgeInside plan.now result.edge }
+        read_at bytes Reader.edge p ≡ got (edge_of bytes result.view) (drop result.end bytes) }
+    ensures inside { EdgeInside plan.now result.view }
     ensures view { result ≡ edge_item plan.now p }
 {
     let q = p + 1;
-    match plan[p] {
-        0 => EdgeItem {
-            edge: EdgeView::Nothing,
-            end: q,
-        },
-        1 => {
-            let text = text_at(plan, q);
-            EdgeItem {
-                edge: EdgeView::Exclusive(text),
-                end: text.at + text.len,
-            }
-        }
-        _ => {
-            let text = text_at(plan, q);
-            EdgeItem {
-                edge: EdgeView::Inclusive(text),
-                end: text.at + text.len,
-            }
-        }
+    if plan[p] == 0 {
+        return Item { view: None, end: q };
+    }
+    let text = text_at(plan, q);
+    let edge = if plan[p] == 1 {
+        EdgeView::Exclusive(text)
+    } else {
+        EdgeView::Inclusive(text)
+    };
+    Item {
+        view: Some(edge),
+        end: text.at + text.len,
     }
 }
 
 // The guide at p, or that there is none.
-pub fn guide_at(plan: &[u8], p: usize) -> GuideItem
+pub fn guide_at(plan: &[u8], p: usize) -> Item<Option<GuideView>>
     requires { Found plan.now Reader.guide p }
     ensures reads { let bytes = plan.now in
-        read_at bytes Reader.guide p ≡ got (guide_of bytes result.guide) (drop result.end bytes) }
-    ensures inside { GuideInside plan.now result.guide }
+        read_at bytes Reader.guide p ≡ got (guide_of bytes result.view) (drop result.end bytes) }
+    ensures inside { GuideInside plan.now result.view }
     ensures view { result ≡ guide_item plan.now p }
 {
     let path = p + 1;
     if plan[p] == 0 {
-        return GuideItem {
-            guide: GuideView::Nothing,
+        return Item {
+            view: None,
             end: path,
         };
     }
     let q = path_past(plan, path);
-    let term = word_at(plan, q);
-    let distance = plan[q + 2];
-    let anchor = anchor_of(plan[q + 3]);
-    let node = word_at(plan, q + 4);
-    GuideItem {
-        guide: GuideView::Just(path, term, distance, anchor, node),
+    let guide = GuideView {
+        path,
+        term: word_at(plan, q),
+        distance: plan[q + 2],
+        anchor: anchor_of(plan[q + 3]),
+        node: word_at(plan, q + 4),
+    };
+    Item {
+        view: Some(guide),
         end: q + 6,
     }
 }
 
 // The op at p that is a text: 0 for bytes, 1 for a prefix.
-fn text_op(plan: &[u8], p: usize) -> NarrowingItem
+fn text_op(plan: &[u8], p: usize) -> Item<NarrowingView>
     requires found { Found plan.now Reader.op p }
     requires p_bound { get_or plan.now p 0 < 2 }
     ensures reads { let bytes = plan.now in
-        read_at bytes Reader.op p ≡ got (narrowing_of bytes result.narrowing) (drop result.end bytes) }
-    ensures inside { NarrowingInside plan.now result.narrowing }
+        read_at bytes Reader.op p ≡ got (narrowing_of bytes result.view) (drop result.end bytes) }
+    ensures inside { NarrowingInside plan.now result.view }
     ensures view { result ≡ narrowing_item plan.now p }
 {
     let text = text_at(plan, p + 1);
-    if plan[p] == 0 {
-        return NarrowingItem {
-            narrowing: NarrowingView::Bytes(text),
-            end: text.at + text.len,
-        };
-    }
-    NarrowingItem {
-        narrowing: NarrowingView::Prefix(text),
+    let view = if plan[p] == 0 {
+        NarrowingView::Bytes(text)
+    } else {
+        NarrowingView::Prefix(text)
+    };
+    Item {
+        view,
         end: text.at + text.len,
     }
 }
 
 // The op at p.
-fn op_at(plan: &[u8], p: usize) -> NarrowingItem
+fn op_at(plan: &[u8], p: usize) -> Item<NarrowingView>
     requires { Found plan.now Reader.op p }
     ensures reads { let bytes = plan.now in
-        read_at bytes Reader.op p ≡ got (narrowing_of bytes result.narrowing) (drop result.end bytes) }
-    ensures inside { NarrowingInside plan.now result.narrowing }
+        read_at bytes Reader.op p ≡ got (narrowing_of bytes result.view) (drop result.end bytes) }
+    ensures inside { NarrowingInside plan.now result.view }
     ensures view { result ≡ narrowing_item plan.now p }
 {
     let q = p + 1;
@@ -366,25 +325,25 @@ fn op_at(plan: &[u8], p: usize) -> NarrowingItem
         2 => {
             let address = Address(half_at(plan, q));
             let path = q + 2;
-            NarrowingItem {
-                narrowing: NarrowingView::RegisterField(address, path),
+            Item {
+                view: NarrowingView::RegisterField(address, path),
                 end: path_past(plan, path),
             }
         }
-        3 => NarrowingItem {
-            narrowing: NarrowingView::FactId(Address(half_at(plan, q))),
+        3 => Item {
+            view: NarrowingView::FactId(Address(half_at(plan, q))),
             end: q + 2,
         },
-        4 => NarrowingItem {
-            narrowing: NarrowingView::Tag(long_at(plan, q)),
+        4 => Item {
+            view: NarrowingView::Tag(long_at(plan, q)),
             end: q + 4,
         },
-        5 => NarrowingItem {
-            narrowing: NarrowingView::Fuzzy(word_at(plan, q), plan[q + 2], anchor_of(plan[q + 3])),
+        5 => Item {
+            view: NarrowingView::Fuzzy(word_at(plan, q), plan[q + 2], anchor_of(plan[q + 3])),
             end: q + 4,
         },
-        _ => NarrowingItem {
-            narrowing: NarrowingView::OwnField(q),
+        _ => Item {
+            view: NarrowingView::OwnField(q),
             end: path_past(plan, q),
         },
     }
@@ -400,10 +359,9 @@ pub fn residual_at(plan: &[u8], p: usize) -> ResidualView
 {
     let q = path_past(plan, p);
     let o = op_at(plan, q);
-    let op = o.narrowing;
     ResidualView {
         path: p,
-        op,
+        op: o.view,
         node: word_at(plan, o.end),
         end: o.end + 2,
     }
@@ -416,7 +374,7 @@ fn parts_past(plan: &[u8], n: usize, p: usize) -> usize
         read_at bytes (many n Reader.part) p ≡ got (items_at bytes Reader.part n p) (drop result bytes) }
     ensures view { result ≡ parts_past plan.now n p }
 {
-    items_end(plan, PARTS, n, p).unwrap_or(0)
+    items_end(plan, Kind::Part, n, p).unwrap_or(0)
 }
 
 // Where n residuals from p on end.
@@ -426,75 +384,74 @@ fn residuals_past(plan: &[u8], n: usize, p: usize) -> usize
         read_at bytes (many n Reader.residual) p ≡ got (items_at bytes Reader.residual n p) (drop result bytes) }
     ensures view { result ≡ residuals_past plan.now n p }
 {
-    items_end(plan, RESIDUALS, n, p).unwrap_or(0)
+    // Not one function with `parts_past`: what is read there has another type, and so the clause `reads` is another.
+    items_end(plan, Kind::Residual, n, p).unwrap_or(0)
 }
 
 // What a Prefix seek of n parts holds, from p on.
-fn prefix_seek(plan: &[u8], n: usize, p: usize) -> SeekItem
+fn prefix_seek(plan: &[u8], n: usize, p: usize) -> Item<SeekView>
     requires { Found plan.now (Reader.prefix_seek n) p }
     ensures reads { let bytes = plan.now in
-        read_at bytes (Reader.prefix_seek n) p ≡ got (seek_of bytes n result.seek) (drop result.end bytes) }
-    ensures inside { SeekInside plan.now n result.seek }
+        read_at bytes (Reader.prefix_seek n) p ≡ got (seek_of bytes n result.view) (drop result.end bytes) }
+    ensures inside { SeekInside plan.now n result.view }
     ensures view { result ≡ prefix_item plan.now n p }
 {
     let text = text_at(plan, p);
     let nodes = text.at + text.len;
-    SeekItem {
-        seek: SeekView::Prefix(text, nodes),
+    Item {
+        view: SeekView::Prefix(text, nodes),
         end: nodes + 2 * n,
     }
 }
 
 // What a PrefixRange seek of n parts holds, from p on.
-fn range_seek(plan: &[u8], n: usize, p: usize) -> SeekItem
+fn range_seek(plan: &[u8], n: usize, p: usize) -> Item<SeekView>
     requires { (p ≤ length plan.now) × Found plan.now (Reader.range_seek n) p }
     ensures reads { let bytes = plan.now in
-        read_at bytes (Reader.range_seek n) p ≡ got (seek_of bytes n result.seek) (drop result.end bytes) }
-    ensures inside { SeekInside plan.now n result.seek }
+        read_at bytes (Reader.range_seek n) p ≡ got (seek_of bytes n result.view) (drop result.end bytes) }
+    ensures inside { SeekInside plan.now n result.view }
     ensures view { result ≡ range_item plan.now n p }
 {
     let q = parts_past(plan, n, p);
     let text = text_at(plan, q);
     let path = text.at + text.len;
     let o = path_past(plan, path);
-    SeekItem {
-        seek: SeekView::PrefixRange(p, text, path, word_at(plan, o)),
+    Item {
+        view: SeekView::PrefixRange(p, text, path, word_at(plan, o)),
         end: o + 2,
     }
 }
 
 // What a Bounded seek of n parts holds, from p on.
-fn bounded_seek(plan: &[u8], n: usize, p: usize) -> SeekItem
+fn bounded_seek(plan: &[u8], n: usize, p: usize) -> Item<SeekView>
     requires { (p ≤ length plan.now) × Found plan.now (Reader.bounded_seek n) p }
     ensures reads { let bytes = plan.now in
-        read_at bytes (Reader.bounded_seek n) p ≡ got (seek_of bytes n result.seek) (drop result.end bytes) }
-    ensures inside { SeekInside plan.now n result.seek }
+        read_at bytes (Reader.bounded_seek n) p ≡ got (seek_of bytes n result.view) (drop result.end bytes) }
+    ensures inside { SeekInside plan.now n result.view }
     ensures view { result ≡ bounded_item plan.now n p }
 {
     let q = parts_past(plan, n, p);
     let low = edge_at(plan, q);
     let high = edge_at(plan, low.end);
-    let lo = low.edge;
-    let hi = high.edge;
-    SeekItem {
-        seek: SeekView::Bounded(p, lo, hi),
+    Item {
+        view: SeekView::Bounded(p, low.view, high.view),
         end: high.end,
     }
 }
 
 // The seek at p, of a level with n parts.
-pub fn seek_at(plan: &[u8], n: usize, p: usize) -> SeekItem
+pub fn seek_at(plan: &[u8], n: usize, p: usize) -> Item<SeekView>
     requires { Found plan.now (Reader.seek n) p }
     ensures reads { let bytes = plan.now in
-        read_at bytes (Reader.seek n) p ≡ got (seek_of bytes n result.seek) (drop result.end bytes) }
-    ensures inside { SeekInside plan.now n result.seek }
+        read_at bytes (Reader.seek n) p ≡ got (seek_of bytes n result.view) (drop result.end bytes) }
+    ensures inside { SeekInside plan.now n result.view }
     ensures view { result ≡ seek_item plan.now n p }
 {
     let q = p + 1;
     match plan[p] {
         0 => prefix_seek(plan, n, q),
-        1 => SeekItem {
-            seek: SeekView::Composite(q),
+        1 => Item {
+            view: SeekView::Composite(q),
             end: parts_past(plan, n, q),
         },
         2 => range_seek(plan, n, q),
@@ -527,6 +484,7 @@ fn words_at(plan: &[u8], p: usize) -> ListView
     ensures inside { ListInside plan.now u16 result }
     ensures view { result ≡ words_view plan.now p }
 {
+    // Not through `list_at`, which is given the end: here the end comes from the count.
     let count = word_at(plan, p);
     let at = p + 2;
     ListView {
@@ -548,17 +506,15 @@ pub fn level_at(plan: &[u8], p: usize) -> LevelView
     let closers = word_at(plan, p + 2);
     let parts = word_at(plan, p + 4);
     let s = seek_at(plan, parts, p + 6);
-    let seek = s.seek;
     let g = guide_at(plan, s.end);
-    let guide = g.guide;
     let residuals = residuals_at(plan, g.end);
     let folded = words_at(plan, residuals.end);
     LevelView {
         narrowings,
         closers,
         parts,
-        seek,
-        guide,
+        seek: s.view,
+        guide: g.view,
         residuals,
         folded,
         end: folded.end,
@@ -585,54 +541,54 @@ pub fn node_at(plan: &[u8], n: usize, p: usize, k: usize) -> usize
 }
 
 // What a Field slot holds, from p on: address, path, type.
-fn field_slot(plan: &[u8], p: usize) -> SlotItem
+fn field_slot(plan: &[u8], p: usize) -> Item<SlotView>
     requires { Found plan.now Reader.field_slot p }
     ensures reads { let bytes = plan.now in
-        read_at bytes Reader.field_slot p ≡ got (slot_viewed bytes result.slot) (drop result.end bytes) }
-    ensures inside { SlotInside plan.now result.slot }
+        read_at bytes Reader.field_slot p ≡ got (slot_viewed bytes result.view) (drop result.end bytes) }
+    ensures inside { SlotInside plan.now result.view }
     ensures view { result ≡ field_item plan.now p }
 {
     let address = Address(half_at(plan, p));
     let path = p + 2;
     let q = path_past(plan, path);
-    SlotItem {
-        slot: SlotView::Field(address, path, word_at(plan, q)),
+    Item {
+        view: SlotView::Field(address, path, word_at(plan, q)),
         end: q + 2,
     }
 }
 
 // The slot at p.
-pub fn slot_at(plan: &[u8], p: usize) -> SlotItem
+pub fn slot_at(plan: &[u8], p: usize) -> Item<SlotView>
     requires { Found plan.now Reader.slot p }
     ensures reads { let bytes = plan.now in
-        read_at bytes Reader.slot p ≡ got (slot_viewed bytes result.slot) (drop result.end bytes) }
-    ensures inside { SlotInside plan.now result.slot }
+        read_at bytes Reader.slot p ≡ got (slot_viewed bytes result.view) (drop result.end bytes) }
+    ensures inside { SlotInside plan.now result.view }
     ensures view { result ≡ slot_item plan.now p }
 {
     let q = p + 1;
     match plan[p] {
-        0 => SlotItem {
-            slot: SlotView::Row(
+        0 => Item {
+            view: SlotView::Row(
                 Address(half_at(plan, q)),
                 maybe_predicate(half_at(plan, q + 2)),
             ),
             end: q + 4,
         },
-        1 => SlotItem {
-            slot: SlotView::Key(Address(half_at(plan, q)), word_at(plan, q + 2)),
+        1 => Item {
+            view: SlotView::Key(Address(half_at(plan, q)), word_at(plan, q + 2)),
             end: q + 4,
         },
-        2 => SlotItem {
-            slot: SlotView::Derived(Address(half_at(plan, q))),
+        2 => Item {
+            view: SlotView::Derived(Address(half_at(plan, q))),
             end: q + 2,
         },
         3 => field_slot(plan, q),
-        4 => SlotItem {
-            slot: SlotView::Value(Address(half_at(plan, q)), word_at(plan, q + 2)),
+        4 => Item {
+            view: SlotView::Value(Address(half_at(plan, q)), word_at(plan, q + 2)),
             end: q + 4,
         },
-        _ => SlotItem {
-            slot: SlotView::Const(word_at(plan, q)),
+        _ => Item {
+            view: SlotView::Const(word_at(plan, q)),
             end: q + 2,
         },
     }
@@ -646,12 +602,10 @@ pub fn binding_at(plan: &[u8], p: usize) -> BindingItem
     ensures inside { SlotInside plan.now result.slot }
     ensures view { result ≡ binding_item plan.now p }
 {
-    let name = word_at(plan, p);
     let s = slot_at(plan, p + 2);
-    let slot = s.slot;
     BindingItem {
-        name,
-        slot,
+        name: word_at(plan, p),
+        slot: s.view,
         end: s.end,
     }
 }
@@ -711,9 +665,9 @@ pub fn open_plan(plan: &[u8]) -> PlanView
 {
     // A plan that has its form met no fault: each of these is where a list ends.
     let b = level_list_end(plan, 0).unwrap_or(0);
-    let k = list_end(plan, BINDINGS, b).unwrap_or(0);
+    let k = list_end(plan, Kind::Binding, b).unwrap_or(0);
     let s = words_end(plan, k).unwrap_or(0);
-    let d = list_end(plan, SELECTS, s).unwrap_or(0);
+    let d = list_end(plan, Kind::Select, s).unwrap_or(0);
     let levels = list_at(plan, 0, b);
     let bindings = list_at(plan, b, k);
     let constrained = list_at(plan, k, s);

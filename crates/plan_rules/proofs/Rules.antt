@@ -3,7 +3,8 @@ use Prim.Native.Nat.{ℕ, ◌+◌, ◌-◌, ◌≤◌, ◌<◌}
 use mathlib.Core.Path.{◌≡◌, refl, sym, ap, ◌∙◌, subst}
 use mathlib.Core.Bool.{Bool, true, false}
 use mathlib.Core.List.{List, [], ◌∷◌, ◌++◌}
-use Rattle.std.specs.Prelude.{Option, None, Some}
+use mir.Val.{bool_byte}
+use Rattle.std.specs.Prelude.{Option, None, Some, is_some}
 use native.Mathlib.Omega.{arith}
 use borrow.Author.Tests.{leb-true, le-leb, lt-leb}
 use types.Run.{OneOf, miss}
@@ -25,16 +26,13 @@ use Rattle.views.specs.Views.{path_at, text_of}
 use Rattle.views.specs.declared.TextView.{TextView}
 use Rattle.views.proofs.Runs.{value_of}
 use Rattle.plan_form.specs.Places.{plan_of, Opened, Found}
-use Rattle.views.specs.declared.Anchor.{Anchor}
 use Rattle.plan_items.specs.Items.{items_at, edge_of, guide_of, seek_of, level_of, GuideInside, SeekInside, LevelInside}
 use Rattle.plan_items.specs.declared.EdgeView.{EdgeView}
 use Rattle.plan_items.specs.declared.EdgeView.TheVariants as Ev
-use Rattle.plan_items.specs.contracts.EdgeView as EdgeViews
 use Rattle.plan_items.specs.contracts.SeekView as SeekViews
 use Rattle.plan_items.specs.declared.SeekView.{SeekView}
 use Rattle.plan_items.specs.declared.SeekView.TheVariants as Kv
 use Rattle.plan_items.specs.declared.GuideView.{GuideView}
-use Rattle.plan_items.specs.declared.GuideView.TheVariants as Gv
 use Rattle.plan_items.specs.declared.LevelView.{LevelView}
 use Rattle.plan_items.proofs.Founds.{found-one, found-more, items_more, items-length}
 use Rattle.plan_items.proofs.Leaves.{path-reads}
@@ -127,22 +125,22 @@ module _ (f : List ℕ) (n p i q : ℕ) (x : Bytes f n p (n - i) q) (h : i < n) 
       subst (λ (k : ℕ). Bytes f n p k e) z (bytes-more f n p (n - i) q x a e (omega arith) r b)
 
 -- PrefixRange: the guide's path beside the range's
-module _ (f : List ℕ) (p : ℕ) (guide : GuideView) (parts : List Part) (prefix : List ℕ) (node : ℕ) where
+module _ (f : List ℕ) (p : ℕ) (guide : Option GuideView) (parts : List Part) (prefix : List ℕ) (node : ℕ) where
   abbrev beside : Option Guide → Bool
   beside g = seek_keeps (SeekKey.PrefixRange parts (record { path = path_at f p; prefix = prefix; node = node })) g
 
-  pub range-alone : guide ≡ Gv.Nothing → true ≡ beside (guide_of f guide)
+  pub range-alone : guide ≡ None → true ≡ beside (guide_of f guide)
   unfolding seek_keeps
-  range-alone e = ap (λ (v : GuideView). beside (guide_of f v)) (sym e)
+  range-alone e = ap (λ (v : Option GuideView). beside (guide_of f v)) (sym e)
 
-  pub range-beside : (at x d : ℕ) (a : Anchor) (m : ℕ) (u v : File.FieldPath) (l o : List ℕ) → guide ≡ Gv.Just at x d a m → Found f Reader.path at → Found f Reader.path p
-      → read_at f Reader.path at ≡ got u l → read_at f Reader.path p ≡ got v o → same_path u v ≡ beside (guide_of f guide)
+  pub range-beside : (g : GuideView) (u v : File.FieldPath) (l o : List ℕ) → guide ≡ Some g → Found f Reader.path g.path → Found f Reader.path p
+      → read_at f Reader.path g.path ≡ got u l → read_at f Reader.path p ≡ got v o → same_path u v ≡ beside (guide_of f guide)
   unfolding seek_keeps
-  range-beside at x d a m u v l o k s n e g =
-      ap (λ (w : File.FieldPath). same_path w v) (value_of e (path-reads f at s)) ∙ ap (same_path (path_at f at)) (value_of g (path-reads f p n))
-      ∙ ap (λ (w : GuideView). beside (guide_of f w)) (sym k)
+  range-beside w u v l o k s n e g =
+      ap (λ (t : File.FieldPath). same_path t v) (value_of e (path-reads f w.path s)) ∙ ap (same_path (path_at f w.path)) (value_of g (path-reads f p n))
+      ∙ ap (λ (w : Option GuideView). beside (guide_of f w)) (sym k)
 
-pub guide-as : (f : List ℕ) (v w : GuideView) → v ≡ w → GuideInside f v → GuideInside f w
+pub guide-as : (f : List ℕ) (v w : Option GuideView) → v ≡ w → GuideInside f v → GuideInside f w
 guide-as f v w e x = subst (GuideInside f) e x
 
 -- Bounded: an edge, and no guide
@@ -156,7 +154,7 @@ module _ (parts : List Part) (lo hi : Option RangeEdge) (guide : Option Guide) w
   some-edge n h e = ap (λ (j : ℕ). eqb j 0) e ∙ ap (λ (t : Bool). both t (eqb (number guide) 0)) (sym (le-leb _ _ h))
 
 -- a seek's edges
-pub edges_are : (f : List ℕ) (n parts : ℕ) (lo hi : EdgeView) (seek : SeekView) (a b : ℕ) → seek ≡ Kv.Bounded parts lo hi → a ≡ number (edge_of f lo) → b ≡ number (edge_of f hi) → a + b ≡ seek_edges (seek_of f n seek)
+pub edges_are : (f : List ℕ) (n parts : ℕ) (lo hi : Option EdgeView) (seek : SeekView) (a b : ℕ) → seek ≡ Kv.Bounded parts lo hi → a ≡ number (edge_of f lo) → b ≡ number (edge_of f hi) → a + b ≡ seek_edges (seek_of f n seek)
 unfolding seek_edges
 edges_are f n parts lo hi seek a b e u v =
     ap (λ (j : ℕ). j + b) u ∙ ap (λ (j : ℕ). number (edge_of f lo) + j) v ∙ ap (λ (w : SeekView). seek_edges (seek_of f n w)) (sym e)
@@ -184,7 +182,7 @@ module _ (f : List ℕ) (v : LevelView) (x : LevelInside f v) where
       → r ≡ Kept v.seek
   range-keeps parts t path node r e k = k (items_at f Reader.part v.parts parts) (text_of f t) node ∙ ap Kept (sym e)
 
-  pub bounded-keeps : (parts : ℕ) (lo hi : EdgeView) (r : Bool) → v.seek ≡ Kv.Bounded parts lo hi
+  pub bounded-keeps : (parts : ℕ) (lo hi : Option EdgeView) (r : Bool) → v.seek ≡ Kv.Bounded parts lo hi
       → ((g : List ℕ) (ps : List Part) → r ≡ seek_keeps (SeekKey.Bounded ps (edge_of g lo) (edge_of g hi)) (guide_of g v.guide)) → r ≡ Kept v.seek
   bounded-keeps parts lo hi r e k = k f (items_at f Reader.part v.parts parts) ∙ ap Kept (sym e)
 
@@ -271,12 +269,17 @@ going-step f n i q x h l e r k =
     let z : n - i - 1 ≡ n - (i + 1) = omega arith in
     subst (λ (j : ℕ). Going f j e) z (going_more f (n - i) q x (omega arith) l e r k)
 
--- an edge, and the seeks that have no range or no edges
-pub edge-some : (f : List ℕ) (v : EdgeView) → OneOf (1 ∷ 2 ∷ []) (tag_of EdgeViews.the_type v) → 1 ≡ number (edge_of f v)
+-- an edge or a guide by number, and the seeks that have no range or no edges
+pub edge-number : (f : List ℕ) (v : Option EdgeView) → bool_byte (is_some v) ≡ number (edge_of f v)
 unfolding number
-edge-some f Ev.Nothing w = absurd (miss (1 ∷ 2 ∷ []) 0 tt w)
-edge-some f (Ev.Exclusive t) w = refl
-edge-some f (Ev.Inclusive t) w = refl
+edge-number f None = refl
+edge-number f (Some (Ev.Exclusive t)) = refl
+edge-number f (Some (Ev.Inclusive t)) = refl
+
+pub guide-number : (f : List ℕ) (v : Option GuideView) → bool_byte (is_some v) ≡ number (guide_of f v)
+unfolding number
+guide-number f None = refl
+guide-number f (Some v) = refl
 
 pub range-none : (f : List ℕ) (n : ℕ) (v : SeekView) → OneOf (0 ∷ 1 ∷ 3 ∷ []) (tag_of SeekViews.the_type v) → 0 ≡ number (seek_range (seek_of f n v))
 unfolding number seek_range

@@ -18,25 +18,19 @@ use file::word_at;
 use plan_items::{EdgeView, GuideView, LevelView, PartView, SeekView, level_at, part_at, path_at};
 
 // An edge by number: 0 or 1.
-fn edge_number(edge: EdgeView) -> usize
+fn edge_number(edge: Option<EdgeView>) -> usize
     ensures is { (f : List ℕ) → result ≡ number (edge_of f edge) }
     ensures most { result ≤ 1 }
 {
-    match edge {
-        EdgeView::Nothing => 0,
-        _ => 1,
-    }
+    edge.is_some() as usize
 }
 
 // A guide by number: 0 or 1.
-fn guide_number(guide: GuideView) -> usize
+fn guide_number(guide: Option<GuideView>) -> usize
     ensures is { (f : List ℕ) → result ≡ number (guide_of f guide) }
     ensures most { result ≤ 1 }
 {
-    match guide {
-        GuideView::Nothing => 0,
-        GuideView::Just(_, _, _, _, _) => 1,
-    }
+    guide.is_some() as usize
 }
 
 // A seek's range by number: 0 or 1.
@@ -73,20 +67,15 @@ fn narrowings_sum(level: LevelView) -> bool
     requires parts_lt_word_limit { (level.parts < word_limit) × (level.residuals.count < word_limit) }
     ensures { (f : List ℕ) → LevelInside f level → result ≡ narrowings_sum (level_of f level) }
 {
-    let seek = level.seek;
-    let guide = level.guide;
-    let residuals = level.residuals;
-    let placed = level.parts - level.closers + residuals.count;
-    level.narrowings == placed + range_number(seek) + guide_number(guide)
+    let placed = level.parts - level.closers + level.residuals.count;
+    level.narrowings == placed + range_number(level.seek) + guide_number(level.guide)
 }
 
 // Each edge is of one folded comparison.
 fn edges_folded(level: LevelView) -> bool
     ensures { (f : List ℕ) → LevelInside f level → result ≡ edges_folded (level_of f level) }
 {
-    let seek = level.seek;
-    let folded = level.folded;
-    edges_number(seek) == folded.count
+    edges_number(level.seek) == level.folded.count
 }
 
 // Whether a part is bytes.
@@ -115,7 +104,7 @@ fn composite_keeps(plan: &[u8], n: usize, p: usize) -> bool
 }
 
 // A guide beside a range has the range's path, which stands at p.
-fn range_keeps(plan: &[u8], p: usize, guide: GuideView) -> bool
+fn range_keeps(plan: &[u8], p: usize, guide: Option<GuideView>) -> bool
     requires found { Found plan.now Reader.path p }
     requires guide_inside { GuideInside plan.now guide }
     ensures { ((parts : List Part) (prefix : List ℕ) (node : ℕ) →
@@ -125,16 +114,13 @@ fn range_keeps(plan: &[u8], p: usize, guide: GuideView) -> bool
         ) }
 {
     match guide {
-        GuideView::Nothing => true,
-        GuideView::Just(at, _, _, _, _) => {
-            let path = path_at(plan, at);
-            path.same(path_at(plan, p))
-        }
+        None => true,
+        Some(guide) => path_at(plan, guide.path).same(path_at(plan, p)),
     }
 }
 
 // Bounded has an edge, and an edge excludes a guide.
-fn bounded_keeps(lo: EdgeView, hi: EdgeView, guide: GuideView) -> bool
+fn bounded_keeps(lo: Option<EdgeView>, hi: Option<EdgeView>, guide: Option<GuideView>) -> bool
     ensures { (f : List ℕ) (parts : List Part) →
         result ≡ seek_keeps (SeekKey.Bounded parts (edge_of f lo) (edge_of f hi)) (guide_of f guide) }
 {
@@ -147,13 +133,11 @@ fn seek_keeps(plan: &[u8], level: LevelView) -> bool
     ensures { let bytes = plan.now in
         result ≡ seek_keeps (seek_of bytes level.parts level.seek) (guide_of bytes level.guide) }
 {
-    let seek = level.seek;
-    let guide = level.guide;
-    match seek {
+    match level.seek {
         SeekView::Prefix(_, _) => true,
         SeekView::Composite(parts) => composite_keeps(plan, level.parts, parts),
-        SeekView::PrefixRange(_, _, path, _) => range_keeps(plan, path, guide),
-        SeekView::Bounded(_, lo, hi) => bounded_keeps(lo, hi, guide),
+        SeekView::PrefixRange(_, _, path, _) => range_keeps(plan, path, level.guide),
+        SeekView::Bounded(_, lo, hi) => bounded_keeps(lo, hi, level.guide),
     }
 }
 
@@ -162,13 +146,10 @@ pub fn level_keeps(plan: &[u8], level: LevelView) -> bool
     requires { LevelInside plan.now level }
     ensures { result ≡ level_rules (level_of plan.now level) }
 {
-    if !closers_among_parts(level) {
-        return false;
-    }
-    if !narrowings_sum(level) {
-        return false;
-    }
-    edges_folded(level) && seek_keeps(plan, level)
+    closers_among_parts(level)
+        && narrowings_sum(level)
+        && edges_folded(level)
+        && seek_keeps(plan, level)
 }
 
 // Whether every level of the plan keeps the rules.

@@ -8,4 +8,4 @@ use Rattle.plan_form.proofs.items_end.Given as goal
 
 abbrev pub invariant-loop : goal.invariant-loop
 invariant-loop l =
-    (step_at l.plan (many l.n (item_of l.s)) l.at ≡ step_at l.plan (many (l.n - l.counter) (item_of l.s)) l.p) × (l.p ≤ length l.plan)
+    (step_at l.plan (many l.n (item_of l.kind)) l.at ≡ step_at l.plan (many (l.n - l.counter) (item_of l.kind)) l.p) × (l.p ≤ length l.plan)

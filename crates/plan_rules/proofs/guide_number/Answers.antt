@@ -1,14 +1,7 @@
-use native.Mathlib.Omega.{arith}
-use mathlib.Core.Path.{ap, sym}
-use Rattle.rules.specs.Demand3.{number}
-use Rattle.plan_items.specs.declared.GuideView.{GuideView}
-use Rattle.plan_items.specs.Items.{guide_of}
+use mathlib.Core.Path.{ap, ◌∙◌}
+use mir.Val.{bool_byte}
+use Rattle.plan_rules.proofs.Rules.{guide-number}
 use Rattle.plan_rules.proofs.guide_number.Goals as goal
 
-pub returns-in-Nothing : goal.returns-in-Nothing
-unfolding number
-returns-in-Nothing c = record { is = λ f. ap (λ (v : GuideView). number (guide_of f v)) (sym c.in-Nothing.is); most = omega arith }
-
-pub returns-in-Just : goal.returns-in-Just
-unfolding number
-returns-in-Just c = record { is = λ f. ap (λ (v : GuideView). number (guide_of f v)) (sym c.in-Just.is); most = omega arith }
+pub returns-clause-is : goal.returns-clause-is
+returns-clause-is c = λ f. ap bool_byte c.is_some.ensures ∙ guide-number f c.args.guide
