@@ -1,2 +1,4 @@
 pub mod AcceptedFile
 pub mod Fates
+pub mod Tables
+pub mod Props

@@ -16,10 +16,8 @@ use Rattle.rules.specs.File.{Tables, Ty, Node, type_at, node_at, child_types, ch
 use Rattle.rules.specs.Checks.{children_lower}
 use Rattle.file.proofs.Readers.{lt-or-le}
 use Rattle.file.proofs.Accepted.{sets-in}
-use Rattle.views.specs.Views.{size_of}
-use Rattle.record_checks.specs.RecordChecks.{record_lower, section_lower}
 use Rattle.record_checks.proofs.Every.{if-both, both-inv, every-at}
-use Rattle.record_checks.proofs.Seen.{lower-every}
+use Rattle.record_checks.proofs.Seen.{types-lower-every, nodes-lower-every}
 
 module _ {A B : Type 0} (f : List B → A → B) (d : B) (a : A) where
   bottom-length : (l : List A) (done : List B) → length (bottom_up f done l) ≡ length done + length l
@@ -147,17 +145,18 @@ module _ (T : Tables) where
   unfolding constants node_at
   constants-entry n h = bottom-entry constant_of false Node.Error T.nodes n h
 
-  -- 9 at one record, at one type, at one node
-  record-lower : (s t : ℕ) → section_lower T s ≡ true → t < size_of T s → record_lower T s t ≡ true
-  record-lower s t e h = ap (record_lower T s) (sym (zero-add t)) ∙ every-at (record_lower T s) (size_of T s) 0 t (sym (lower-every T s) ∙ e) h
-
+  -- 9 at one type, at one node
   pub type-lower : children_lower T ≡ true → (t : ℕ) → t < length T.types → all (λ c. ltb c t) (child_types (type_at T t)) ≡ true
-  unfolding children_lower section_lower record_lower
-  type-lower e t h = record-lower 1 t (both-inv (section_lower T 1) (section_lower T 3) e).0 h
+  unfolding children_lower
+  type-lower e t h =
+      ap (λ (k : ℕ). all (λ c. ltb c k) (child_types (type_at T k))) (sym (zero-add t))
+      ∙ every-at _ (length T.types) 0 t (sym (types-lower-every T) ∙ (both-inv _ _ e).0) h
 
   pub node-lower : children_lower T ≡ true → (n : ℕ) → n < length T.nodes → all (λ c. ltb c n) (child_nodes (node_at T n)) ≡ true
-  unfolding children_lower section_lower record_lower
-  node-lower e n h = record-lower 3 n (both-inv (section_lower T 1) (section_lower T 3) e).1 h
+  unfolding children_lower
+  node-lower e n h =
+      ap (λ (k : ℕ). all (λ c. ltb c k) (child_nodes (node_at T k))) (sym (zero-add n))
+      ∙ every-at _ (length T.nodes) 0 n (sym (nodes-lower-every T) ∙ (both-inv _ _ e).1) h
 
   -- no type is deeper than its number allows
   deepest-bound : (ds cs : List ℕ) (b : ℕ) → ((c : ℕ) → get_or ds c 0 ≤ b) → deepest ds cs ≤ b

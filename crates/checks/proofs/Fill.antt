@@ -14,7 +14,7 @@ use Rattle.rules.specs.Limits.{depth_limit, step_limit}
 use Rattle.rules.specs.File as File
 use Rattle.rules.specs.File.{Tables, type_at, node_at, deepest, depth_of, depths, depth, constant_of, constants}
 use Rattle.rules.specs.Read.{Reader}
-use Rattle.rules.specs.Checks.{is_name, is_type, is_node, slot_in, binding_in, numbers_in, children_lower, types_shallow, slot_constant, consts_constant, slot_fits}
+use Rattle.rules.specs.Checks.{is_name, is_type, is_node, type_in, predicate_in, node_in, slot_in, binding_in, numbers_in, children_lower, types_shallow, slot_constant, consts_constant, slot_fits}
 use Rattle.file.specs.Steps.{word, base_of, limit_of, depths_base, constants_base, index_length}
 use Rattle.file.specs.Tables.{Indexed, Section, Stands, tables_of}
 use Rattle.file.proofs.Readers.{down}
@@ -27,9 +27,8 @@ use Rattle.views.specs.declared.SlotView.{SlotView}
 use Rattle.views.specs.declared.SlotView.TheVariants as Sv
 use Rattle.views.proofs.Runs.{length_run}
 use Rattle.paths.specs.declared.Address.{Address}
-use Rattle.record_checks.specs.RecordChecks.{record_in, section_in}
 use Rattle.record_checks.proofs.Every.{every, if-both, both-inv, every-at, all-every, run-every}
-use Rattle.record_checks.proofs.Seen.{numbers-every, section-every, by-slot}
+use Rattle.record_checks.proofs.Seen.{bindings-in-every, by-slot}
 use Rattle.checks.specs.Checked.{bit_of, flags_at, flags_of, slots_fit, fetched_fit}
 use Rattle.checks.proofs.Bottom.{store-next, stored_at, depth-agree, constant-agree, depths-long, constants-long, depths-entry, constants-entry, depth-bound, type-lower, node-lower}
 
@@ -197,11 +196,13 @@ module _ (T : Tables) where
   -- 8 at one binding
   module _ (e : numbers_in T ≡ true) (b : ℕ) (h : b < length T.bindings) where
     binding-in : both (is_name T (binding_at T b).name) (slot_in T (binding_at T b).slot) ≡ true
-    unfolding record_in binding_in
+    unfolding numbers_in binding_in
     binding-in =
-        let s : section_in T 4 ≡ true = every-at (section_in T) 10 0 4 (sym (numbers-every T) ∙ e) (lit< tt) in
-        let r : record_in T 4 (0 + b) ≡ true = every-at (record_in T 4) (length T.bindings) 0 b (sym (section-every T 4 (lit< tt)) ∙ s) h in
-        ap (λ (k : ℕ). binding_in T (binding_at T k)) (sym (zero-add b)) ∙ r
+        let p = (both-inv (all (type_in T) T.types) _ e).1 in
+        let n = (both-inv (all (predicate_in T) T.predicates) _ p).1 in
+        let s = (both-inv (all (node_in T) T.nodes) _ n).1 in
+        ap (λ (k : ℕ). binding_in T (binding_at T k)) (sym (zero-add b))
+        ∙ every-at (λ k. binding_in T (binding_at T k)) (length T.bindings) 0 b (sym (bindings-in-every T) ∙ (both-inv (all (binding_in T) T.bindings) _ s).0) h
 
     pub slot-in : slot_in T (binding_at T b).slot ≡ true
     slot-in = (both-inv (is_name T (binding_at T b).name) (slot_in T (binding_at T b).slot) binding-in).1

@@ -31,7 +31,7 @@ use Rattle.accepted_file.specs.AcceptedFile.{AcceptedFile, flag}
 use Rattle.checks.specs.Checked.{bit_of, Checked, verdict_of, all_fault, read_verdict, file_verdict}
 use Rattle.std.specs.Prelude.{Result, Ok, Err, Option, None, Some}
 use Rattle.std.specs.Result.{IsErrAnd}
-use Rattle.file.specs.Refusals.{number}
+use Rattle.file.specs.Refusals.{number, numbered}
 use Rattle.file.specs.declared.Refusal.{Refusal}
 use Rattle.file.specs.declared.Refusal.TheVariants as Refusals
 use Rattle.endings.specs.Endings.{ending_outcome, Within}
@@ -82,13 +82,13 @@ refused-by f room area n =
     (λ p e. ap Outcome.refused (refused-number n 2 (sym e))))
     (λ q e. ap Outcome.refused (refused-number n 1 (sym e)))
 
-pub refused-outcome : (f p : List ℕ) (room area : ℕ) (x : Refusal) → call_verdict f area ≡ Err (number x) → ending_outcome (Err x) p ≡ outcome f room area
+pub refused-outcome : (f p : List ℕ) (room area : ℕ) (x : Refusal) → call_verdict f area ≡ Err (number x) → ending_outcome (numbered (Err x)) p ≡ outcome f room area
 unfolding ending_outcome
 refused-outcome f p room area x e = refused-by f room area (number x) e
 
 -- what the exit of a `?` returns
 pub passed-on : (f p : List ℕ) (room area : ℕ) (r : Result ℕ Refusal) (x : Refusal) → IsErrAnd r (λ y. y ≡ x) → call_verdict f area ≡ Err (number x)
-    → (ending_outcome r p ≡ outcome f room area) × Within r p
+    → (ending_outcome (numbered r) p ≡ outcome f room area) × Within (numbered r) p
 passed-on f p room area (Ok n) x h e = absurd h
 passed-on f p room area (Err y) x h e = (refused-outcome f p room area y (e ∙ ap (λ (z : Refusal). Err (number z)) (sym h)), tt)
 
@@ -130,7 +130,7 @@ accepted-outcome f ix b k work plan short large =
 
 -- 19
 module _ (T : Tables) (work plan : List ℕ) (m : levels_meet T T.levels ≡ true) where
-  pub met-outcome : (p : List ℕ) → ending_outcome (Err Refusals.Literal) p ≡ accepted_outcome T work plan
+  pub met-outcome : (p : List ℕ) → ending_outcome (numbered (Err Refusals.Literal)) p ≡ accepted_outcome T work plan
   unfolding ending_outcome accepted_outcome
   met-outcome p = sym (pick (levels_meet T T.levels) true (Outcome.refused 19) _ m)
 
@@ -171,7 +171,7 @@ module _ (T : Tables) (work plan work' plan' : List ℕ) (w : Written) (m : leve
       ap (λ (k : StateLevels.Written). memory k.state.work k.state.plan) e
       ∙ sym (pick (levels_meet T T.levels) false (memory work plan) (memory (compiled T work plan).state.work (compiled T work plan).state.plan) m)
 
-  pub too_long : w.lists.over ≡ true → ending_outcome (Err Refusals.PlanTooLong) plan' ≡ accepted_outcome T work plan
+  pub too_long : w.lists.over ≡ true → ending_outcome (numbered (Err Refusals.PlanTooLong)) plan' ≡ accepted_outcome T work plan
   unfolding ending_outcome StateLevels.written_outcome written_of
   too_long o = ap (λ (b : Bool). elim b [ true ↦ Outcome.refused 15 | false ↦ Outcome.planned (take w.at plan') ]) (sym o) ∙ same
 

@@ -8,36 +8,38 @@ ghost use Rattle.rules.specs.Demand1.{refusals, Demand1};
 ghost use Rattle.rules.specs.Demand3.{Demand3};
 ghost use Rattle.file.specs.Steps.{index_length};
 ghost use Rattle.file.specs.Tables.{tables_of};
-ghost use Rattle.accepted_file.specs.AcceptedFile.{AcceptedFile};
+ghost use Rattle.file.specs.Refusals.{numbered};
+ghost use Rattle.accepted_file.specs.Tables.{accepted_tables};
 ghost use Rattle.endings.specs.Endings.{ending_outcome, Within};
 ghost use Rattle.compile.specs.Memories.{call_verdict, accepted_outcome, memory, accepted_memory, memory_by};
 ghost use Rattle.checks.specs.Checked.{file_verdict};
 
+use accepted_file::AcceptedFile;
 use checks::verify;
 use endings::finish;
 use fates::{LONG_INDEX, any_record, remember};
 use file::{INDEX, Refusal};
 use levels::write;
 use literals::levels_meet;
+use views::IndexedFile;
 
 const FILE_LIMIT: usize = 32768;
 
 const WORK_LIMIT: usize = 65536;
 
 // What an accepted file comes to: 19 is asked of all levels before any is walked.
-fn accepted(file: &[u8], index: &[u16], plan: &mut [u8], work: &mut [u8]) -> Result<usize, Refusal>
-    requires { AcceptedFile file.now index.now }
-    ensures outcome { let T = tables_of file.now in
-        ending_outcome result plan.new ≡ accepted_outcome T work.old plan.old }
-    ensures within { Within result plan.new }
-    ensures memory { let T = tables_of file.now in
+fn accepted(file: &AcceptedFile, plan: &mut [u8], work: &mut [u8]) -> Result<usize, Refusal>
+    ensures outcome { let T = accepted_tables file.now in
+        ending_outcome (numbered result) plan.new ≡ accepted_outcome T work.old plan.old }
+    ensures within { Within (numbered result) plan.new }
+    ensures memory { let T = accepted_tables file.now in
         let after = memory work.new plan.new in
         after ≡ accepted_memory T work.old plan.old }
 {
-    if levels_meet(file, index) {
+    if levels_meet(file) {
         return Err(Refusal::Literal);
     }
-    let w = write(file, index, work, plan);
+    let w = write(file, work, plan);
     let lists = w.lists;
     if lists.over {
         Err(Refusal::PlanTooLong)
@@ -47,41 +49,39 @@ fn accepted(file: &[u8], index: &[u16], plan: &mut [u8], work: &mut [u8]) -> Res
 }
 
 // The same, by an index that remembers what constants come to.
-fn remembered(
-    file: &[u8],
-    index: &[u16],
-    plan: &mut [u8],
-    work: &mut [u8],
-) -> Result<usize, Refusal>
-    requires accepted_file { AcceptedFile file.now index.now }
-    requires index_len { length index.now ≡ index_length }
-    ensures outcome { let T = tables_of file.now in
-        ending_outcome result plan.new ≡ accepted_outcome T work.old plan.old }
-    ensures within { Within result plan.new }
-    ensures memory { let T = tables_of file.now in
+fn remembered(file: &AcceptedFile, plan: &mut [u8], work: &mut [u8]) -> Result<usize, Refusal>
+    requires { length file.now.tables.index.now ≡ index_length }
+    ensures outcome { let T = accepted_tables file.now in
+        ending_outcome (numbered result) plan.new ≡ accepted_outcome T work.old plan.old }
+    ensures within { Within (numbered result) plan.new }
+    ensures memory { let T = accepted_tables file.now in
         let after = memory work.new plan.new in
         after ≡ accepted_memory T work.old plan.old }
 {
+    // No heap: on the stack.
     let mut long = [0u16; LONG_INDEX];
-    remember(file, index, &mut long);
-    accepted(file, &long, plan, work)
+    remember(file, &mut long);
+    let tables = IndexedFile {
+        bytes: file.tables.bytes,
+        index: &long,
+    };
+    accepted(&AcceptedFile { tables }, plan, work)
 }
 
 // Where a name stands for a Record it pays to remember what that comes to.
-fn walked(file: &[u8], index: &[u16], plan: &mut [u8], work: &mut [u8]) -> Result<usize, Refusal>
-    requires accepted_file { AcceptedFile file.now index.now }
-    requires index_len { length index.now ≡ index_length }
-    ensures outcome { let T = tables_of file.now in
-        ending_outcome result plan.new ≡ accepted_outcome T work.old plan.old }
-    ensures within { Within result plan.new }
-    ensures memory { let T = tables_of file.now in
+fn walked(file: &AcceptedFile, plan: &mut [u8], work: &mut [u8]) -> Result<usize, Refusal>
+    requires { length file.now.tables.index.now ≡ index_length }
+    ensures outcome { let T = accepted_tables file.now in
+        ending_outcome (numbered result) plan.new ≡ accepted_outcome T work.old plan.old }
+    ensures within { Within (numbered result) plan.new }
+    ensures memory { let T = accepted_tables file.now in
         let after = memory work.new plan.new in
         after ≡ accepted_memory T work.old plan.old }
 {
-    if any_record(file, index) {
-        remembered(file, index, plan, work)
+    if any_record(file) {
+        remembered(file, plan, work)
     } else {
-        accepted(file, index, plan, work)
+        accepted(file, plan, work)
     }
 }
 
@@ -90,24 +90,29 @@ fn checked(file: &[u8], plan: &mut [u8], work: &mut [u8]) -> Result<usize, Refus
     requires { (length file.now ≤ file_limit) × (work_limit ≤ length work.old) }
     ensures outcome { let room = length plan.old in
         let area = length work.old in
-        ending_outcome result plan.new ≡ CompileRules.outcome file.now room area }
-    ensures within { Within result plan.new }
+        ending_outcome (numbered result) plan.new ≡ CompileRules.outcome file.now room area }
+    ensures within { Within (numbered result) plan.new }
     ensures memory { let T = tables_of file.now in
         let verdict = file_verdict file.now in
         let after = memory work.new plan.new in
         after ≡ memory_by verdict T work.old plan.old }
 {
+    // No heap: on the stack.
     let mut index = [0u16; INDEX];
     verify(file, &mut index)?;
-    walked(file, &index, plan, work)
+    let tables = IndexedFile {
+        bytes: file,
+        index: &index,
+    };
+    walked(&AcceptedFile { tables }, plan, work)
 }
 
 // Everything except zeroing: check buffer sizes, then compile.
 fn decide(file: &[u8], plan: &mut [u8], work: &mut [u8]) -> Result<usize, Refusal>
     ensures outcome { let room = length plan.old in
         let area = length work.old in
-        ending_outcome result plan.new ≡ CompileRules.outcome file.now room area }
-    ensures within { Within result plan.new }
+        ending_outcome (numbered result) plan.new ≡ CompileRules.outcome file.now room area }
+    ensures within { Within (numbered result) plan.new }
     ensures memory { let T = tables_of file.now in
         let verdict = call_verdict file.now (length work.old) in
         let after = memory work.new plan.new in
@@ -138,5 +143,5 @@ pub fn sinalvento_compile(file: &[u8], plan: &mut [u8], work: &mut [u8]) -> u64
         Demand3 file.now (take result plan.new) }
 {
     let e = decide(file, plan, work);
-    finish(e, plan, work)
+    finish(e.map_err(Refusal::number), plan, work)
 }

@@ -3,7 +3,6 @@ pub mod Escapes
 -- The least of a run of bytes, and bytes that are their own escaped form.
 pub mod Plain
 -- A type of the form asked for, or not.
-pub mod Only
 -- Lengths that stop at the cap.
 pub mod Caps
 -- The fields and the payload, measured.

@@ -1,5 +1,5 @@
 -- What narrows a walk: a pattern's constant, and the patterns that constrain a variable.
-use Rattle.std.specs.Prelude.{ℕ, Bool, true, false, ◌≡◌, eqb, Option, None, Some}
+use Rattle.std.specs.Prelude.{ℕ, Bool, true, false, ◌≡◌, eqb, Option, None, Some, is_some}
 use Rattle.rules.specs.Base.{first}
 use Rattle.rules.specs.File as File
 use Rattle.rules.specs.File.{Tables, Constraint, node_at}
@@ -11,24 +11,12 @@ use Rattle.state.specs.Ops.{ops}
 use Rattle.seek.specs.Narrow.{IsConstant, const_of}
 use Rattle.walk.specs.Walk.{diagnosed}
 use Rattle.constant.specs.declared.Const.{Const}
-use Rattle.constant.specs.declared.Const.TheVariants as Co
-
-abbrev pub is_nothing : Option Const → Bool
-is_nothing None = true
-is_nothing (Some (Co.Bytes n t len)) = false
-is_nothing (Some (Co.Prefix x)) = false
-is_nothing (Some (Co.Fuzzy x d a)) = false
-
--- whether there is a constant
-abbrev pub is_some : {A : Type 0} → Option A → Bool
-is_some None = false
-is_some (Some c) = true
 
 -- c is the constant of node n at type t, if it has one
 pub record Known (T : Tables) (n t : ℕ) (c : Option Const) : Type 0 where
   pub is : const_of T c ≡ constant T n t
-  pub some : is_nothing c ≡ false → true ≡ is_some (constant T n t)
-  pub made : is_nothing c ≡ false → IsConstant T c
+  pub some : is_some c ≡ true → true ≡ is_some (constant T n t)
+  pub made : is_some c ≡ true → IsConstant T c
 
 -- a pattern that is no constant at the type of its field is reported; the flag says whether building falls there
 unfoldable pub narrow_or : Tables → ℕ → ℕ → File.FieldPath → Bool → State → State

@@ -7,67 +7,58 @@ ghost use Rattle.rules.specs.Walk as WalkRules;
 ghost use Rattle.rules.specs.Walk.{FieldWalk};
 ghost use Rattle.state.specs.State.{State};
 ghost use Rattle.state.specs.Ops.{ops};
-ghost use Rattle.file.specs.Tables.{Indexed, tables_of};
+ghost use Rattle.views.specs.Files.{tables_in};
 ghost use Rattle.paths.specs.Paths.{path_of};
 ghost use Rattle.views.specs.Views.{anchor_of, constraint_at};
-ghost use Rattle.accepted_file.specs.AcceptedFile.{AcceptedFile};
+ghost use Rattle.accepted_file.specs.Tables.{accepted_tables};
 ghost use Rattle.seek.specs.Narrow.{IsConstant, const_of, narrowed_by};
 ghost use Rattle.walk.specs.Walk.{walk_state};
-ghost use Rattle.constrain.specs.Constrain.{is_nothing, Known, narrow_or, pattern_for, is_constrained};
+ghost use Rattle.constrain.specs.Constrain.{Known, narrow_or, pattern_for, is_constrained};
 
+use accepted_file::AcceptedFile;
 use constant::{Const, constant};
-use file::{CONSTRAINTS, NODES};
+use file::Section;
 use lists::Code;
 use narrow::narrowed;
 use paths::FieldPath;
-use views::{Anchor, NodeView, constraint_at, count_of, node_of};
+use views::{Anchor, IndexedFile, NodeView};
 use walk::Walk;
 
-// Whether there is no constant.
-pub fn is_nothing(c: Option<Const>) -> bool
-    ensures { result ≡ is_nothing c }
-{
-    matches!(c, None)
-}
-
 // The constant that a node is at a type.
-pub fn known(file: &[u8], index: &[u16], node: usize, ty: usize) -> Option<Const>
-    requires accepted_file { AcceptedFile file.now index.now }
-    requires ty_in_bounds { ty < length (tables_of file.now).types }
-    ensures { Known (tables_of file.now) node ty result }
+pub fn known(file: &AcceptedFile, node: usize, ty: usize) -> Option<Const>
+    requires { ty < length (accepted_tables file.now).types }
+    ensures { Known (accepted_tables file.now) node ty result }
 {
-    if node >= count_of(file, index, NODES) {
+    if node >= file.tables.count_of(Section::Nodes) {
         return None;
     }
-    constant(file, index, node, ty)
+    constant(file, node, ty)
 }
 
 // The walk narrowed by a constant; `node` is what made the narrowing.
 pub fn narrow(
-    file: &[u8],
-    index: &[u16],
+    file: &AcceptedFile,
     plan: &mut [u8],
     node: usize,
     c: Option<Const>,
     path: FieldPath,
     w: Walk,
 ) -> Walk
-    requires { AcceptedFile file.now index.now × IsConstant (tables_of file.now) c }
+    requires { IsConstant (accepted_tables file.now) c }
     ensures { (work : List ℕ) →
-        let T = tables_of file.now in
+        let T = accepted_tables file.now in
         let before = walk_state T w work plan.old in
         let after = walk_state T result work plan.new in
         after ≡ narrowed_by T node (const_of T c) (path_of path) before }
 {
-    let l = narrowed(file, index, c, path, node, w.level, plan);
+    let l = narrowed(file, c, path, node, w.level, plan);
     w.placed(l)
 }
 
 // Narrowed by a node's constant. Without one the node is mistyped; `falls` says whether building falls there. Once the plan is too long
 // nothing changes any more, and the constant is not asked for.
 fn narrow_or_report(
-    file: &[u8],
-    index: &[u16],
+    file: &AcceptedFile,
     work: &mut [u8],
     plan: &mut [u8],
     node: usize,
@@ -76,9 +67,8 @@ fn narrow_or_report(
     falls: bool,
     w: Walk,
 ) -> Walk
-    requires accepted_file { AcceptedFile file.now index.now }
-    requires ty_in_bounds { ty < length (tables_of file.now).types }
-    ensures { let T = tables_of file.now in
+    requires { ty < length (accepted_tables file.now).types }
+    ensures { let T = accepted_tables file.now in
         let before = walk_state T w work.old plan.old in
         let after = walk_state T result work.new plan.new in
         after ≡ narrow_or T node ty (path_of path) falls before }
@@ -87,17 +77,16 @@ fn narrow_or_report(
     if level.over {
         return w;
     }
-    let c = known(file, index, node, ty);
-    if is_nothing(c) {
+    let c = known(file, node, ty);
+    if c.is_none() {
         return w.diagnose(work, node, Code::RejectTypeMismatch, falls);
     }
-    narrow(file, index, plan, node, c, path, w)
+    narrow(file, plan, node, c, path, w)
 }
 
 // A Prefix or a Fuzzy at a field. One that is mistyped is reported and leaves building as it is.
 pub fn ranged(
-    file: &[u8],
-    index: &[u16],
+    file: &AcceptedFile,
     work: &mut [u8],
     plan: &mut [u8],
     node: usize,
@@ -105,15 +94,14 @@ pub fn ranged(
     path: FieldPath,
     w: Walk,
 ) -> Walk
-    requires accepted_file { AcceptedFile file.now index.now }
-    requires ty_in_bounds { ty < length (tables_of file.now).types }
+    requires { ty < length (accepted_tables file.now).types }
     ensures { (address : ℕ) (below : FieldWalk State) →
-        let T = tables_of file.now in
+        let T = accepted_tables file.now in
         let before = walk_state T w work.old plan.old in
         let after = walk_state T result work.new plan.new in
         after ≡ WalkRules.ranged (ops T) T address below node ty (path_of path) before }
 {
-    narrow_or_report(file, index, work, plan, node, ty, path, false, w)
+    narrow_or_report(file, work, plan, node, ty, path, false, w)
 }
 
 fn anchor_rank(anchor: Anchor) -> usize
@@ -125,12 +113,12 @@ fn anchor_rank(anchor: Anchor) -> usize
     }
 }
 
-// In what order a pattern constrains: what extends the prefix first, then a range, then a guide.
-fn rank_of(file: &[u8], index: &[u16], node: usize) -> usize
-    requires { Indexed file.now index.now }
-    ensures { result ≡ WalkRules.rank (node_at (tables_of file.now) node) }
+// In what order a pattern constrains: what extends the prefix first, then a range, then a guide. A place in an order, as the written
+// rules count it, and no kind.
+fn rank_of(file: &IndexedFile, node: usize) -> usize
+    ensures { result ≡ WalkRules.rank (node_at (tables_in file.now) node) }
 {
-    match node_of(file, index, node) {
+    match file.node_of(node) {
         NodeView::Prefix(_) => 1,
         NodeView::Fuzzy(_, _, a) => anchor_rank(a),
         _ => 0,
@@ -138,14 +126,13 @@ fn rank_of(file: &[u8], index: &[u16], node: usize) -> usize
 }
 
 // The pattern of constraint k, if it is of the name and the rank.
-fn pattern_for(file: &[u8], index: &[u16], name: usize, rank: usize, k: usize) -> Option<usize>
-    requires indexed { Indexed file.now index.now }
-    requires k_in_bounds { k < length (tables_of file.now).constraints }
-    ensures { let T = tables_of file.now in
+fn pattern_for(file: &IndexedFile, name: usize, rank: usize, k: usize) -> Option<usize>
+    requires { k < length (tables_in file.now).constraints }
+    ensures { let T = tables_in file.now in
         result ≡ pattern_for T name rank (constraint_at T k) }
 {
-    let c = constraint_at(file, index, k);
-    if c.name == name && rank_of(file, index, c.node) == rank {
+    let c = file.constraint_at(k);
+    if c.name == name && rank_of(file, c.node) == rank {
         Some(c.node)
     } else {
         None
@@ -154,8 +141,7 @@ fn pattern_for(file: &[u8], index: &[u16], name: usize, rank: usize, k: usize) -
 
 // The constraints of one rank, in file order. Where one is mistyped building falls.
 fn constrain_rank(
-    file: &[u8],
-    index: &[u16],
+    file: &AcceptedFile,
     work: &mut [u8],
     plan: &mut [u8],
     name: usize,
@@ -164,35 +150,32 @@ fn constrain_rank(
     path: FieldPath,
     w: Walk,
 ) -> Walk
-    requires accepted_file { AcceptedFile file.now index.now }
-    requires ty_in_bounds { ty < length (tables_of file.now).types }
-    ensures { let T = tables_of file.now in
+    requires { ty < length (accepted_tables file.now).types }
+    ensures { let T = accepted_tables file.now in
         let before = walk_state T w work.old plan.old in
         let after = walk_state T result work.new plan.new in
         after ≡ WalkRules.constrain_each (ops T) T (WalkRules.constraints_of T name rank) ty (path_of path) before }
 {
     let mut l = w;
-    for k in 0..count_of(file, index, CONSTRAINTS) {
-        let Some(p) = pattern_for(file, index, name, rank, k) else {
+    for k in 0..file.tables.count_of(Section::Constraints) {
+        let Some(p) = pattern_for(&file.tables, name, rank, k) else {
             continue;
         };
-        l = narrow_or_report(file, index, work, plan, p, ty, path, true, l);
+        l = narrow_or_report(file, work, plan, p, ty, path, true, l);
     }
     l
 }
 
 // Whether any pattern constrains a name.
-fn is_constrained(file: &[u8], index: &[u16], name: usize) -> bool
-    requires { Indexed file.now index.now }
-    ensures { result ≡ is_constrained (tables_of file.now) name }
+fn is_constrained(file: &IndexedFile, name: usize) -> bool
+    ensures { result ≡ is_constrained (tables_in file.now) name }
 {
-    (0..count_of(file, index, CONSTRAINTS)).any(|k| constraint_at(file, index, k).name == name)
+    (0..file.count_of(Section::Constraints)).any(|k| file.constraint_at(k).name == name)
 }
 
 // The field that captures a variable, narrowed by every pattern that constrains it; without any, the comparisons bound the level.
 pub fn constrain(
-    file: &[u8],
-    index: &[u16],
+    file: &AcceptedFile,
     work: &mut [u8],
     plan: &mut [u8],
     name: usize,
@@ -200,22 +183,21 @@ pub fn constrain(
     path: FieldPath,
     w: Walk,
 ) -> Walk
-    requires accepted_file { AcceptedFile file.now index.now }
-    requires ty_in_bounds { ty < length (tables_of file.now).types }
-    ensures { let T = tables_of file.now in
+    requires { ty < length (accepted_tables file.now).types }
+    ensures { let T = accepted_tables file.now in
         let before = walk_state T w work.old plan.old in
         let after = walk_state T result work.new plan.new in
         after ≡ WalkRules.constrain (ops T) T name ty (path_of path) before }
 {
-    if is_constrained(file, index, name) {
+    if is_constrained(&file.tables, name) {
         let a = w.constrained(work, name);
-        let b = constrain_rank(file, index, work, plan, name, 0, ty, path, a);
-        let c = constrain_rank(file, index, work, plan, name, 1, ty, path, b);
-        let d = constrain_rank(file, index, work, plan, name, 2, ty, path, c);
-        return constrain_rank(file, index, work, plan, name, 3, ty, path, d);
+        let b = constrain_rank(file, work, plan, name, 0, ty, path, a);
+        let c = constrain_rank(file, work, plan, name, 1, ty, path, b);
+        let d = constrain_rank(file, work, plan, name, 2, ty, path, c);
+        return constrain_rank(file, work, plan, name, 3, ty, path, d);
     }
     let level = w.level;
-    let l = level.bound(file, index, name, ty);
+    let l = level.bound(file, name, ty);
     let fallen = l.skip();
     w.placed(fallen)
 }

@@ -4,7 +4,7 @@ use Prim.Native.Nat.{ℕ, zero, suc, ◌+◌, ◌*◌}
 use mathlib.Core.Path.{◌≡◌, refl, sym, ap, ◌∙◌, subst}
 use mathlib.Core.Bool.{true, false}
 use mathlib.Core.List.{List}
-use Rattle.std.specs.Prelude.{Option, None, Some}
+use Rattle.std.specs.Prelude.{Option, None, Some, is_some}
 use native.Mathlib.Omega.{arith}
 use Rattle.rules.specs.File as File
 use Rattle.rules.specs.File.{Tables, FieldPattern, type_at, node_at, record_fields, union_ty}
@@ -20,7 +20,7 @@ use Rattle.walk.specs.Walk.{walk_state}
 use Rattle.walk.specs.declared.Walk.{Walk}
 use Rattle.constant.specs.declared.Const.{Const}
 use Rattle.seek.specs.Narrow.{const_of, narrowed_by}
-use Rattle.constrain.specs.Constrain.{is_nothing, Known}
+use Rattle.constrain.specs.Constrain.{Known}
 use Rattle.constrain.proofs.Narrowings.{after-constant, after_none}
 use Rattle.field_cases.specs.FieldCases.{Choosing, unchosen, choosing_of, named_choice, only_choice, alternative_choice, choosing}
 use Rattle.field_cases.specs.declared.Chosen.{Chosen}
@@ -35,11 +35,11 @@ module _ (T : Tables) (n t : ℕ) where
 
   -- the whole union's constant, or its alternative
   module _ (path : File.FieldPath) (s₀ : State) (c : Option Const) (v : Known T n t c) where
-    pub whole-constant : is_nothing c ≡ false → (s : State) → s ≡ narrowed_by T n (const_of T c) path s₀ → unchosen s ≡ choosing T n t path s₀
+    pub whole-constant : is_some c ≡ true → (s : State) → s ≡ narrowed_by T n (const_of T c) path s₀ → unchosen s ≡ choosing T n t path s₀
     unfolding choosing
     whole-constant e s q = after-constant T n n t path s₀ c v unchosen alternative e s q
 
-    pub whole-other : is_nothing c ≡ true → (x : Choosing) → x ≡ alternative_choice (record_fields (node_at T n)) (union_ty (type_at T t)) n s₀ → x ≡ choosing T n t path s₀
+    pub whole-other : is_some c ≡ false → (x : Choosing) → x ≡ alternative_choice (record_fields (node_at T n)) (union_ty (type_at T t)) n s₀ → x ≡ choosing T n t path s₀
     unfolding choosing
     whole-other e x q = q ∙ after_none T n n t path s₀ c v unchosen alternative e
 

@@ -1,26 +1,18 @@
 -- What gives nothing but a skip, as the code reads it.
 use Prim.Native.Nat.{ℕ, ◌≤◌, ◌<◌}
 use mathlib.Core.Path.{◌≡◌, refl, sym, ap, ◌∙◌, subst}
-use mathlib.Core.Bool.{Bool, true, false}
+use mathlib.Core.Bool.{false}
 use mathlib.Core.List.{List, [], ◌∷◌}
 use Rattle.std.specs.Prelude.{Option, None, Some}
 use native.Mathlib.Omega.{arith}
 use borrow.Author.Tests.{lt-ltb}
 use lib.Dec.{ltb}
 use lib.ListN.{length}
-use Rattle.rules.specs.Base.{either}
 use Rattle.rules.specs.File.{Tables, FieldTy, FieldPattern, type_at, node_at, record_fields, record_ty}
 use Rattle.views.specs.Views.{run, field_at, pattern_at}
 use Rattle.views.proofs.Runs.{length_run}
 use Rattle.tables.specs.Tables.{SeenRun}
 use Rattle.field_cases.specs.Silent.{empty_by, empty_at}
-
--- the first of two tests, or the second
-pub first_holds : (a b : Bool) → a ≡ true → true ≡ either a b
-first_holds a b e = ap (λ (x : Bool). either x b) (sym e)
-
-pub first-fails : (a b c : Bool) → a ≡ false → c ≡ b → c ≡ either a b
-first-fails a b c e q = q ∙ ap (λ (x : Bool). either x b) (sym e)
 
 -- a Record with a pair is not empty, and a type that is no Record opens none
 paired : (ps : List FieldPattern) (u : Option (List FieldTy)) → 0 < length ps → false ≡ empty_by (Some ps) u

@@ -9,11 +9,12 @@ ghost use Rattle.rules.specs.File.{type_at, node_at, is_constant, record_fields,
 ghost use Rattle.rules.specs.Walk as WalkRules;
 ghost use Rattle.state.specs.State.{State};
 ghost use Rattle.state.specs.Ops.{bind, ops};
-ghost use Rattle.file.specs.Tables.{Indexed, tables_of};
+ghost use Rattle.file.specs.Tables.{tables_of};
+ghost use Rattle.views.specs.Files.{tables_in};
 ghost use Rattle.paths.specs.Paths.{path_of};
 ghost use Rattle.views.specs.Views.{node_entry, pattern_at, predicate_option};
 ghost use Rattle.slots.specs.Slots.{slot_of};
-ghost use Rattle.accepted_file.specs.AcceptedFile.{AcceptedFile};
+ghost use Rattle.accepted_file.specs.Tables.{accepted_tables};
 ghost use Rattle.tables.specs.Tables.{pairs_in, SeenRun};
 ghost use Rattle.tables.specs.Recalled.{quiet_in};
 ghost use Rattle.walk.specs.Walk.{walk_state};
@@ -22,14 +23,15 @@ ghost use Rattle.field_cases.specs.FieldCases.{is_injection, literal_way, way_at
 ghost use Rattle.field_cases.specs.FieldCases.{choosing_of, alternative_choice, choosing};
 ghost use Rattle.field_cases.specs.Silent.{empty_at};
 
-use constrain::{constrain, is_nothing, known, narrow};
+use accepted_file::AcceptedFile;
+use constrain::{constrain, known, narrow};
 use fields::fact_ty;
 use lists::Code;
 use paths::{Address, FieldPath, PredicateId};
 use resolve::constant_node;
 use slots::{Slot, SlotKind};
 use tables::{alternative_of, field_pattern, is_quiet, record_ty, union_ty};
-use views::{NodeView, field_pattern_at, field_ty_at, node_of};
+use views::{IndexedFile, NodeView, field_pattern_at, field_ty_at};
 use walk::Walk;
 
 // How `field` goes on, by the pattern's kind: a union value, a skip, a diagnostic with a skip, a range or a guide, a constant, a variable
@@ -76,14 +78,13 @@ pub struct Piece {
 }
 
 // A Record's pairs, of any node.
-pub fn pairs_of(file: &[u8], index: &[u16], node: usize) -> Option<(usize, usize)>
-    requires { Indexed file.now index.now }
-    ensures shows { let f = file.now in
+pub fn pairs_of(file: &IndexedFile, node: usize) -> Option<(usize, usize)>
+    ensures shows { let f = file.now.bytes.now in
         SeenRun f (pattern_at f) 4 (record_fields (node_at (tables_of f) node)) result }
-    ensures view { let f = file.now in
-        result ≡ pairs_in (node_entry (tables_of f) f index.now node) }
+    ensures view { let f = file.now.bytes.now in
+        result ≡ pairs_in (node_entry (tables_of f) f file.now.index.now node) }
 {
-    if let NodeView::Record(k, at) = node_of(file, index, node) {
+    if let NodeView::Record(k, at) = file.node_of(node) {
         Some((k, at))
     } else {
         None
@@ -103,16 +104,15 @@ fn closed() -> Places
 }
 
 // The fields that are walked of a Record against a Record type; none of anything else.
-pub fn pieces(file: &[u8], index: &[u16], node: usize, ty: usize) -> Places
-    requires accepted_file { AcceptedFile file.now index.now }
-    requires ty_in_bounds { ty < length (tables_of file.now).types }
-    ensures opens { Opened file.now (tables_of file.now) node ty result }
+pub fn pieces(file: &AcceptedFile, node: usize, ty: usize) -> Places
+    requires { ty < length (accepted_tables file.now).types }
+    ensures opens { Opened file.now.tables.bytes.now (accepted_tables file.now) node ty result }
     ensures bounded { result.count < file_limit }
 {
-    let Some((pairs, at)) = pairs_of(file, index, node) else {
+    let Some((pairs, at)) = pairs_of(&file.tables, node) else {
         return closed();
     };
-    if let Some((count, from)) = record_ty(file, index, ty) {
+    if let Some((count, from)) = record_ty(&file.tables, ty) {
         Places {
             count,
             pairs,
@@ -125,38 +125,29 @@ pub fn pieces(file: &[u8], index: &[u16], node: usize, ty: usize) -> Places
 }
 
 // Field i of those.
-pub fn piece_at(
-    file: &[u8],
-    index: &[u16],
-    node: usize,
-    ty: usize,
-    opened: Places,
-    i: usize,
-) -> Piece
-    requires accepted_file { AcceptedFile file.now index.now }
-    requires ty_in_bounds { ty < length (tables_of file.now).types }
-    requires opened { Opened file.now (tables_of file.now) node ty opened }
+pub fn piece_at(file: &AcceptedFile, node: usize, ty: usize, opened: Places, i: usize) -> Piece
+    requires ty_in_bounds { ty < length (accepted_tables file.now).types }
+    requires opened { Opened file.now.tables.bytes.now (accepted_tables file.now) node ty opened }
     requires i_lt_count { i < opened.count }
-    ensures { Pieced (tables_of file.now) node ty i result }
+    ensures { Pieced (accepted_tables file.now) node ty i result }
 {
-    let f = field_ty_at(file, opened.from, i);
-    let pattern = field_pattern(file, opened.at, opened.pairs, f.name);
+    let f = field_ty_at(file.tables.bytes, opened.from, i);
+    let pattern = field_pattern(file.tables.bytes, opened.at, opened.pairs, f.name);
     Piece { pattern, ty: f.ty }
 }
 
-// Whether a node is a Record without pairs, and the type a Record with a field.
-fn is_empty_at(file: &[u8], index: &[u16], node: usize, ty: usize) -> bool
-    requires indexed { Indexed file.now index.now }
-    requires ty_in_bounds { ty < length (tables_of file.now).types }
-    ensures { result ≡ empty_at (tables_of file.now) node ty }
+// Whether a node is a Record without pairs, and the type a Record with a field: the type is read only of a Record without pairs.
+fn is_empty_at(file: &IndexedFile, node: usize, ty: usize) -> bool
+    requires { ty < length (tables_in file.now).types }
+    ensures { result ≡ empty_at (tables_in file.now) node ty }
 {
-    let Some((pairs, _)) = pairs_of(file, index, node) else {
+    let Some((pairs, _)) = pairs_of(file, node) else {
         return false;
     };
     if pairs > 0 {
         return false;
     }
-    let Some((count, _)) = record_ty(file, index, ty) else {
+    let Some((count, _)) = record_ty(file, ty) else {
         return false;
     };
     count > 0
@@ -164,44 +155,34 @@ fn is_empty_at(file: &[u8], index: &[u16], node: usize, ty: usize) -> bool
 
 // Whether a field's pattern is known to give nothing but a skip before it is walked: a constant that is remembered to, or a Record that
 // is opened for no piece.
-pub fn is_silent(file: &[u8], index: &[u16], node: usize, ty: usize) -> bool
-    requires accepted_file { AcceptedFile file.now index.now }
-    requires ty_in_bounds { ty < length (tables_of file.now).types }
-    ensures { let T = tables_of file.now in
-        result ≡ either (quiet_in T index.now node ty) (empty_at T node ty) }
+pub fn is_silent(file: &AcceptedFile, node: usize, ty: usize) -> bool
+    requires { ty < length (accepted_tables file.now).types }
+    ensures { let T = accepted_tables file.now in
+        result ≡ either (quiet_in T file.now.tables.index.now node ty) (empty_at T node ty) }
 {
-    is_quiet(file, index, node, ty) || is_empty_at(file, index, node, ty)
+    is_quiet(file, node, ty) || is_empty_at(&file.tables, node, ty)
 }
 
 // The kinds that another phase reports.
-fn is_deferred(file: &[u8], index: &[u16], node: usize) -> bool
-    requires { Indexed file.now index.now }
-    ensures { result ≡ WalkRules.deferred (node_at (tables_of file.now) node) }
+fn is_deferred(file: &IndexedFile, node: usize) -> bool
+    ensures { result ≡ WalkRules.deferred (node_at (tables_in file.now) node) }
 {
     matches!(
-        node_of(file, index, node),
+        file.node_of(node),
         NodeView::Never | NodeView::Disjunction | NodeView::Subquery | NodeView::Error
     )
 }
 
 // A read that gave no slot is reported where nothing else told why: `mark` is where the diagnostics ended before it.
-pub fn unresolved(
-    file: &[u8],
-    index: &[u16],
-    work: &mut [u8],
-    node: usize,
-    mark: u32,
-    w: Walk,
-) -> Walk
-    requires { Indexed file.now index.now }
+pub fn unresolved(file: &IndexedFile, work: &mut [u8], node: usize, mark: u32, w: Walk) -> Walk
     ensures { (plan : List ℕ) (earlier : State) → earlier.ends.diagnostics ≡ mark →
-        let T = tables_of file.now in
+        let T = tables_in file.now in
         let before = walk_state T w work.old plan in
         let after = walk_state T result work.new plan in
         after ≡ WalkRules.unresolved (ops T) T node earlier before }
 {
     let ends = w.ends;
-    if !is_deferred(file, index, node) && ends.diagnostics == mark {
+    if !is_deferred(file, node) && ends.diagnostics == mark {
         return w.diagnose(work, node, Code::RejectUnresolvedAccess, true);
     }
     w.skip()
@@ -209,8 +190,7 @@ pub fn unresolved(
 
 // A new variable: bound to the field, then constrained.
 pub fn captured(
-    file: &[u8],
-    index: &[u16],
+    file: &AcceptedFile,
     work: &mut [u8],
     plan: &mut [u8],
     name: usize,
@@ -219,9 +199,8 @@ pub fn captured(
     path: FieldPath,
     w: Walk,
 ) -> Walk
-    requires accepted_file { AcceptedFile file.now index.now }
-    requires ty_in_bounds { ty < length (tables_of file.now).types }
-    ensures { let T = tables_of file.now in
+    requires { ty < length (accepted_tables file.now).types }
+    ensures { let T = accepted_tables file.now in
         let before = walk_state T w work.old plan.old in
         let after = walk_state T result work.new plan.new in
         let slot = File.Slot.Field address.0 (path_of path) ty in
@@ -229,28 +208,26 @@ pub fn captured(
 {
     let slot = Slot::field(address, path, ty);
     let b = w.bind(work, name, slot);
-    constrain(file, index, work, plan, name, ty, path, b)
+    constrain(file, work, plan, name, ty, path, b)
 }
 
 // Whether a pattern is a union value: a Record where the field is a union.
-fn is_injection(file: &[u8], index: &[u16], node: usize, ty: usize) -> bool
-    requires indexed { Indexed file.now index.now }
-    requires ty_in_bounds { ty < length (tables_of file.now).types }
-    ensures { let T = tables_of file.now in
+fn is_injection(file: &IndexedFile, node: usize, ty: usize) -> bool
+    requires { ty < length (tables_in file.now).types }
+    ensures { let T = tables_in file.now in
         result ≡ is_injection (record_fields (node_at T node)) (union_ty (type_at T ty)) }
 {
-    let Some((_, _)) = pairs_of(file, index, node) else {
+    let Some((_, _)) = pairs_of(file, node) else {
         return false;
     };
-    matches!(union_ty(file, index, ty), Some((_, _)))
+    matches!(union_ty(file, ty), Some((_, _)))
 }
 
 // A constant is its own location; anything else is read.
-fn literal_way(file: &[u8], index: &[u16], node: usize) -> Way
-    requires { AcceptedFile file.now index.now }
-    ensures { result ≡ literal_way (is_constant (tables_of file.now) node) }
+fn literal_way(file: &AcceptedFile, node: usize) -> Way
+    ensures { result ≡ literal_way (is_constant (accepted_tables file.now) node) }
 {
-    if constant_node(file, index, node) {
+    if constant_node(file, node) {
         Way::Constant
     } else {
         Way::Read
@@ -258,22 +235,21 @@ fn literal_way(file: &[u8], index: &[u16], node: usize) -> Way
 }
 
 // How `field` goes on with a pattern at a type.
-pub fn way_of(file: &[u8], index: &[u16], node: usize, ty: usize) -> Way
-    requires accepted_file { AcceptedFile file.now index.now }
-    requires ty_in_bounds { ty < length (tables_of file.now).types }
-    ensures { result ≡ way_at (tables_of file.now) node ty }
+pub fn way_of(file: &AcceptedFile, node: usize, ty: usize) -> Way
+    requires { ty < length (accepted_tables file.now).types }
+    ensures { result ≡ way_at (accepted_tables file.now) node ty }
 {
-    if is_injection(file, index, node, ty) {
+    if is_injection(&file.tables, node, ty) {
         return Way::Union;
     }
-    match node_of(file, index, node) {
+    match file.tables.node_of(node) {
         NodeView::Var(x) => Way::Variable(x),
         NodeView::Wildcard => Way::Skip,
         NodeView::Never => Way::Report(Code::NyiNever),
         NodeView::Prefix(_) => Way::Range,
         NodeView::Fuzzy(_, _, _) => Way::Range,
         NodeView::Disjunction => Way::Report(Code::NyiDisjunction),
-        _ => literal_way(file, index, node),
+        _ => literal_way(file, node),
     }
 }
 
@@ -284,20 +260,14 @@ fn is_skip(way: Way) -> bool
 }
 
 // The pattern of a field that a record key walks into: a Wildcard closes the seek, as a field does that no pattern names.
-pub fn walked_pattern(
-    file: &[u8],
-    index: &[u16],
-    pattern: Option<usize>,
-    ty: usize,
-) -> Option<usize>
-    requires accepted_file { AcceptedFile file.now index.now }
-    requires ty_in_bounds { ty < length (tables_of file.now).types }
-    ensures { result ≡ walked_pattern (tables_of file.now) ty (pattern) }
+pub fn walked_pattern(file: &AcceptedFile, pattern: Option<usize>, ty: usize) -> Option<usize>
+    requires { ty < length (accepted_tables file.now).types }
+    ensures { result ≡ walked_pattern (accepted_tables file.now) ty (pattern) }
 {
     let Some(n) = pattern else {
         return None;
     };
-    if is_skip(way_of(file, index, n, ty)) {
+    if is_skip(way_of(file, n, ty)) {
         None
     } else {
         Some(n)
@@ -309,7 +279,7 @@ fn refers_to(p: Option<PredicateId>, referenced: Option<PredicateId>) -> bool
     ensures { result ≡ WalkRules.refers_to (predicate_option p) (predicate_option referenced) }
 {
     match (p, referenced) {
-        (Some(a), Some(b)) => a.0 == b.0,
+        (Some(a), Some(b)) => a == b,
         _ => false,
     }
 }
@@ -318,8 +288,7 @@ fn refers_to(p: Option<PredicateId>, referenced: Option<PredicateId>) -> bool
 // join through a reference. Of the level's own register, the row at hand, two fields are asked to be equal. Each arm hands the walk to one
 // call only.
 pub fn meet(
-    file: &[u8],
-    index: &[u16],
+    file: &AcceptedFile,
     work: &mut [u8],
     plan: &mut [u8],
     node: usize,
@@ -329,9 +298,8 @@ pub fn meet(
     path: FieldPath,
     w: Walk,
 ) -> Walk
-    requires accepted_file { AcceptedFile file.now index.now }
-    requires ty_in_bounds { ty < length (tables_of file.now).types }
-    ensures { let T = tables_of file.now in
+    requires { ty < length (accepted_tables file.now).types }
+    ensures { let T = accepted_tables file.now in
         let before = walk_state T w work.old plan.old in
         let after = walk_state T result work.new plan.new in
         after ≡ meeting T address.0 node (slot_of slot) ty (path_of path) before }
@@ -340,7 +308,7 @@ pub fn meet(
     let at = slot.path;
     match kind {
         SlotKind::Row(a, p) => {
-            if refers_to(p, fact_ty(file, index, ty)) {
+            if refers_to(p, fact_ty(&file.tables, ty)) {
                 return w.fact_id(path, a, node, plan);
             }
             w.diagnose(work, node, Code::RejectTypeMismatch, false)
@@ -348,7 +316,7 @@ pub fn meet(
         SlotKind::Key(_, _) => w.diagnose(work, node, Code::NyiWholeKey, true),
         SlotKind::Derived(_) => w.diagnose(work, node, Code::NyiValueMatch, true),
         SlotKind::Field(a, _) => {
-            if a.0 == address.0 {
+            if a == address {
                 return w.own_field(path, at, node, plan);
             }
             w.register_field(path, a, at, node, plan)
@@ -369,32 +337,30 @@ fn unchosen(w: Walk) -> Chosen
 
 // The alternative that the one pair of a union value names.
 fn choose_alternative(
-    file: &[u8],
-    index: &[u16],
+    file: &AcceptedFile,
     work: &mut [u8],
     node: usize,
     ty: usize,
     w: Walk,
 ) -> Chosen
-    requires accepted_file { AcceptedFile file.now index.now }
-    requires ty_in_bounds { ty < length (tables_of file.now).types }
+    requires { ty < length (accepted_tables file.now).types }
     ensures { (plan : List ℕ) →
-        let T = tables_of file.now in
+        let T = accepted_tables file.now in
         let before = walk_state T w work.old plan in
         let after = walk_state T result.walk work.new plan in
         choosing_of result after ≡ alternative_choice (record_fields (node_at T node)) (union_ty (type_at T ty)) node before }
 {
-    let Some((k, at)) = pairs_of(file, index, node) else {
+    let Some((k, at)) = pairs_of(&file.tables, node) else {
         return unchosen(w);
     };
-    let Some((m, from)) = union_ty(file, index, ty) else {
+    let Some((m, from)) = union_ty(&file.tables, ty) else {
         return unchosen(w);
     };
     if k != 1 {
         return unchosen(w.diagnose(work, node, Code::RejectUnionArity, true));
     }
-    let p = field_pattern_at(file, at, 0);
-    let Some(a) = alternative_of(file, from, m, p.name) else {
+    let p = field_pattern_at(file.tables.bytes, at, 0);
+    let Some(a) = alternative_of(file.tables.bytes, from, m, p.name) else {
         return unchosen(w.diagnose(work, node, Code::RejectUnknownAlternative, true));
     };
     let choice = Choice {
@@ -410,8 +376,7 @@ fn choose_alternative(
 
 // `inject`: the whole union's constant, or else the alternative that is walked.
 pub fn choose(
-    file: &[u8],
-    index: &[u16],
+    file: &AcceptedFile,
     work: &mut [u8],
     plan: &mut [u8],
     node: usize,
@@ -419,16 +384,15 @@ pub fn choose(
     path: FieldPath,
     w: Walk,
 ) -> Chosen
-    requires accepted_file { AcceptedFile file.now index.now }
-    requires ty_in_bounds { ty < length (tables_of file.now).types }
-    ensures { let T = tables_of file.now in
+    requires { ty < length (accepted_tables file.now).types }
+    ensures { let T = accepted_tables file.now in
         let before = walk_state T w work.old plan.old in
         let after = walk_state T result.walk work.new plan.new in
         choosing_of result after ≡ choosing T node ty (path_of path) before }
 {
-    let c = known(file, index, node, ty);
-    if is_nothing(c) {
-        return choose_alternative(file, index, work, node, ty, w);
+    let c = known(file, node, ty);
+    if c.is_none() {
+        return choose_alternative(file, work, node, ty, w);
     }
-    unchosen(narrow(file, index, plan, node, c, path, w))
+    unchosen(narrow(file, plan, node, c, path, w))
 }

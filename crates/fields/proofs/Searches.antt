@@ -1,5 +1,5 @@
 -- A search from its start is the search from where it has come to: a law for each turn, for what is found, and for the end.
-use Prim.Native.Nat.{ℕ, suc, ◌+◌, ◌*◌, ◌-◌, ◌≤◌, ◌<◌}
+use Prim.Native.Nat.{ℕ, suc, ◌+◌, ◌*◌, ◌≤◌, ◌<◌}
 use mathlib.Core.Path.{◌≡◌, refl, sym, ap, subst, ◌∙◌}
 use mathlib.Core.Bool.{Bool, true, false}
 use mathlib.Core.List.{List, ◌∷◌}
@@ -12,11 +12,11 @@ use lib.ListN.{length, get_or, drop, drop_of_length-le}
 use lib.Seq.{drop-cons}
 use Rattle.rules.specs.Base.{first, ◌when_some◌}
 use Rattle.rules.specs.File.{Tables, Ty, record_ty, FieldTy, FieldPath, Hoisted, Fetched}
-use Rattle.rules.specs.Lookup.{field_from, field_of, fetched_register}
+use Rattle.rules.specs.Lookup.{FieldAt, field_from, field_of, fetched_register}
 use Rattle.views.specs.Views.{run, type_of, TypeInside, SeenType, hoisted_at, fetched_at}
 use Rattle.views.specs.declared.TypeView.{TypeView}
 use Rattle.views.specs.declared.TypeView.TheVariants as Tv
-use Rattle.views.proofs.Runs.{run_none, run_more}
+use Rattle.tables.proofs.Firsts.{first_given, where-passes, first-record}
 use Rattle.fields.specs.Found.{hoisted_name, fetches}
 
 module _ {A : Type 0} (xs : List A) (d : A) (i : ℕ) where
@@ -35,35 +35,18 @@ module _ {A : Type 0} (xs : List A) (d : A) (i : ℕ) where
   unfolding first
   first-end p h = rw (drop_of_length-le xs h)
 
--- a record type's fields, of which i were passed
-module _ (g : ℕ → FieldTy) (n at i x : ℕ) where
-  abbrev rest : ℕ → List FieldTy
-  rest j = run g 4 (n - j) (at + 4 * j)
+-- a record type's fields
+abbrev pub called : ℕ → FieldTy → Bool
+called x f = eqb f.name x
 
-  at_field : i < n → rest i ≡ g (at + 4 * i) ∷ rest (i + 1)
-  at_field h =
-      let e : at + 4 * i + 4 ≡ at + 4 * (i + 1) = omega arith in
-      run_more g 4 (n - i) (n - (i + 1)) (at + 4 * i) (omega arith) ∙ ap (λ (p : ℕ). g (at + 4 * i) ∷ run g 4 (n - (i + 1)) p) e
+abbrev pub placed : ℕ → FieldTy → FieldAt
+placed i f = record { index = i; type = f.type }
 
-  pub field-more : (f : FieldTy) → f ≡ g (at + 4 * i) → i < n → (f.name ≡ x → ⊥) → field_from i (rest i) x ≡ field_from (i + 1) (rest (i + 1)) x
-  unfolding field_from
-  field-more f v h e =
-      let z : i + 1 ≡ suc i = omega arith in
-      ap (λ (l : List FieldTy). field_from i l x) (at_field h ∙ ap (λ (y : FieldTy). y ∷ rest (i + 1)) (sym v)) ∙ simp (field_from, ne_eqb _ _ e) (ap (λ (j : ℕ). field_from j (rest (i + 1)) x) (sym z))
-
-  pub field-here : (f : FieldTy) → f ≡ g (at + 4 * i) → i < n → f.name ≡ x → field_from i (rest i) x ≡ Some (record { index = i; type = f.type })
-  unfolding field_from
-  field-here f v h e = ap (λ (l : List FieldTy). field_from i l x) (at_field h ∙ ap (λ (y : FieldTy). y ∷ rest (i + 1)) (sym v)) ∙ simp (field_from, eq-eqb _ _ e)
-
-  pub field-start : field_from 0 (run g 4 n at) x ≡ field_from 0 (run g 4 (n - 0) (at + 4 * 0)) x
-  field-start =
-      let e : n ≡ n - 0 = omega arith in
-      let z : at ≡ at + 4 * 0 = omega arith in
-      ap (λ (k : ℕ). field_from 0 (run g 4 k at) x) e ∙ ap (λ (p : ℕ). field_from 0 (run g 4 (n - 0) p) x) z
-
-  pub field_end : n ≤ i → field_from i (rest i) x ≡ None
-  unfolding field_from
-  field_end h = ap (λ (l : List FieldTy). field_from i l x) (run_none g 4 (n - i) (at + 4 * i) (omega arith))
+pub first-field : (g : ℕ → FieldTy) (at n x : ℕ) → first_given (where-passes (called x) placed g 4 at) n 0 ≡ field_from 0 (run g 4 n at) x
+unfolding field_from
+first-field g at n x =
+    first-record (called x) placed g 4 at (λ i fs. field_from i fs x) (λ _. refl)
+    (λ i f fs. let s : i + 1 ≡ suc i = omega arith in ap (λ (j : ℕ). elim (called x f) as (λ _. Option FieldAt) [ true ↦ Some (placed i f) | false ↦ field_from j fs x ]) s) n
 
 -- a type that was seen as a view
 pub field-seen : {f : List ℕ} {ty : Ty} {v : TypeView} (w : TypeView) (x : ℕ) → SeenType f ty v → v ≡ w → field_of (type_of f w) x ≡ field_of ty x

@@ -16,6 +16,8 @@ use Rattle.rules.specs.File.{Ty, Node, Slot, Anchor, CompareOp, compare_ops, op_
 use Rattle.rules.specs.Read.{Reader, ◌>>=◌, pure, refuse, u8, u16, many, several, kind, well_formed, name, field_ty, alternative, fact_ty, record_ty, union_ty, type, predicate, anchor, field_pattern, one, two, int_node, bytes_node, fuzzy_node, record_node, node, path, row_slot, key_slot, derived_slot, field_slot, value_slot, const_slot, slot, binding, hoisted, fetched, constraint, op, comparison, level}
 use Rattle.rules.specs.Read.Read.{got}
 use Rattle.file.specs.Steps.{read_at, step_at, skim, record_of}
+use Rattle.file.specs.Sections.{number_of}
+use Rattle.file.specs.declared.Section.{Section}
 use Rattle.file.proofs.Readers.{then-got, then-refused, kind-in, kind-out, several-in, several-out, step-got, step-refused, step_same, step-skim, Fixed, fixed-pure, fixed-bind, fixed-many, fixed-u8, fixed-u16, fixed-u32, fixed-optional, fixed-bytes, fixed_in, fixed_then, needs-fixed, needs-bind, needs-first, needs-kind, cut_short, SameSteps, alike_refl, alike-step, alike-value, alike-pure, alike-several, alike-map, alike-fixed}
 use Rattle.file.proofs.Suffix.{ended, faulted, suffix-path}
 use Rattle.std.specs.Prelude.{Ok, Err}
@@ -150,10 +152,6 @@ small_all (x ∷ l) b h k = go (leb x b) refl h k (λ g. small_all l b g)
     go true e g zero rec = leb-true x b e
     go true e g (suc k) rec = rec g k
     go false e g k rec = let z : ◌≡◌ {A = ℕ} 0 1 = cc in absurd (omega arith)
-
-pub record-small : (k : ℕ) → get_or record_sizes k 0 ≤ 8
-unfolding all
-record-small = small_all record_sizes 8 refl
 
 pub type-small : (k : ℕ) → get_or type_sizes k 0 ≤ 8
 unfolding all
@@ -426,16 +424,18 @@ module _ (f : List ℕ) (p : ℕ) where
     unfolding record_of
     record-comparison e = section-is s 8 comparison refl e
 
-  pub record-fixed : (s : ℕ) → s < 10 → (s ≡ 0 → ⊥) → (s ≡ 1 → ⊥) → (s ≡ 3 → ⊥) → (s ≡ 4 → ⊥) → (s ≡ 6 → ⊥) → (s ≡ 8 → ⊥) → step_at f (record_of s) p ≡ step_at f (many (get_or record_sizes s 0) u8) p
+  pub record-fixed : (s : Section)
+      → (s ≡ Section.Names → ⊥) → (s ≡ Section.Types → ⊥) → (s ≡ Section.Nodes → ⊥)
+      → (s ≡ Section.Bindings → ⊥) → (s ≡ Section.Fetched → ⊥) → (s ≡ Section.Comparisons → ⊥)
+      → step_at f (record_of (number_of s)) p ≡ step_at f (many (get_or record_sizes (number_of s) 0) u8) p
   unfolding record_of
-  record-fixed zero h n0 n1 n3 n4 n6 n8 = absurd (n0 refl)
-  record-fixed (suc zero) h n0 n1 n3 n4 n6 n8 = absurd (n1 refl)
-  record-fixed (suc (suc zero)) h n0 n1 n3 n4 n6 n8 = section-is 2 2 predicate refl refl ∙ bytes-alike f 4 fixed-predicate p
-  record-fixed (suc (suc (suc zero))) h n0 n1 n3 n4 n6 n8 = absurd (n3 refl)
-  record-fixed (suc (suc (suc (suc zero)))) h n0 n1 n3 n4 n6 n8 = absurd (n4 refl)
-  record-fixed (suc (suc (suc (suc (suc zero))))) h n0 n1 n3 n4 n6 n8 = section-is 5 5 hoisted refl refl ∙ bytes-alike f 4 fixed-hoisted p
-  record-fixed (suc (suc (suc (suc (suc (suc zero)))))) h n0 n1 n3 n4 n6 n8 = absurd (n6 refl)
-  record-fixed (suc (suc (suc (suc (suc (suc (suc zero))))))) h n0 n1 n3 n4 n6 n8 = section-is 7 7 constraint refl refl ∙ bytes-alike f 4 fixed-constraint p
-  record-fixed (suc (suc (suc (suc (suc (suc (suc (suc zero)))))))) h n0 n1 n3 n4 n6 n8 = absurd (n8 refl)
-  record-fixed (suc (suc (suc (suc (suc (suc (suc (suc (suc zero))))))))) h n0 n1 n3 n4 n6 n8 = section-is 9 9 level refl refl ∙ bytes-alike f 6 fixed-level p
-  record-fixed (suc (suc (suc (suc (suc (suc (suc (suc (suc (suc s)))))))))) h n0 n1 n3 n4 n6 n8 = absurd (omega arith)
+  record-fixed Section.Names n t m b g c = absurd (n refl)
+  record-fixed Section.Types n t m b g c = absurd (t refl)
+  record-fixed Section.Predicates n t m b g c = section-is 2 2 predicate refl refl ∙ bytes-alike f 4 fixed-predicate p
+  record-fixed Section.Nodes n t m b g c = absurd (m refl)
+  record-fixed Section.Bindings n t m b g c = absurd (b refl)
+  record-fixed Section.Hoisted n t m b g c = section-is 5 5 hoisted refl refl ∙ bytes-alike f 4 fixed-hoisted p
+  record-fixed Section.Fetched n t m b g c = absurd (g refl)
+  record-fixed Section.Constraints n t m b g c = section-is 7 7 constraint refl refl ∙ bytes-alike f 4 fixed-constraint p
+  record-fixed Section.Comparisons n t m b g c = absurd (c refl)
+  record-fixed Section.Levels n t m b g c = section-is 9 9 level refl refl ∙ bytes-alike f 6 fixed-level p

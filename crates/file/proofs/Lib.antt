@@ -1,7 +1,9 @@
 pub mod Raised
 pub mod Readers
 pub mod Suffix
+pub mod Numbers
 pub mod Leaves
 pub mod Sections
 pub mod Empty
 pub mod Accepted
+pub mod Props

@@ -1,5 +1,6 @@
 -- The sections by number, in the file's order.
 use Rattle.std.specs.Prelude.{ℕ}
+use Rattle.file.specs.declared.Section.{Section}
 
 abbrev pub names : ℕ
 names = 0
@@ -30,3 +31,16 @@ comparisons = 8
 
 abbrev pub levels : ℕ
 levels = 9
+
+-- the number of a section
+abbrev pub number_of : Section → ℕ
+number_of Section.Names = names
+number_of Section.Types = types
+number_of Section.Predicates = predicates
+number_of Section.Nodes = nodes
+number_of Section.Bindings = bindings
+number_of Section.Hoisted = hoisted
+number_of Section.Fetched = fetched
+number_of Section.Constraints = constraints
+number_of Section.Comparisons = comparisons
+number_of Section.Levels = levels

@@ -1,18 +1,21 @@
-// Reading a rule file front to back: refusals 3 to 7, and the index of where each record starts.
+// Reading a rule file front to back: refusals 3 to 7, and the index of where each record starts. Bytes and position stay two parameters:
+// the position moves at each step, and a struct of both would be made, and its fact proved, anew for each call. What fills the index takes
+// bytes and index as two slices.
 #![tactic(auto)]
 
-ghost use Rattle.std.specs.Prelude.{◌≡◌, ◌+◌, ◌*◌, ◌-◌, ◌≤◌, ◌<◌, min, length, take, drop, OnOk};
+ghost use Rattle.std.specs.Prelude.{◌≡◌, ◌+◌, ◌*◌, ◌-◌, ◌≤◌, ◌<◌, length, take, drop, OnOk};
 ghost use Rattle.std.proofs.lemmas.List.Edits.{sets};
 ghost use Rattle.rules.specs.Limits.{file_limit};
 ghost use Rattle.rules.specs.Read.{u8, many, several, well_formed, name, type, node, slot, binding, fetched, comparison, fuzzy_node, path};
 ghost use Rattle.rules.specs.Read as Read;
 ghost use Rattle.file.specs.Steps.{word_limit, word, step_at, record_of, section_count, limit_of, base_of, count_at, starts, section_of, entries, filled, emptied, index_length, index_of};
 ghost use Rattle.file.specs.Refusals.{number, numbered};
+ghost use Rattle.file.specs.Sections.{number_of};
 ghost use Rattle.file.specs.Tables.{Indexed};
 
 use utf8::well_formed;
 
-// Why a call gives no plan, by its number; the Rust crate has the same names.
+// Why a call gives no plan, by its number; the crate engine has the same names.
 #[derive(Clone, Copy, PartialEq, Eq)]
 pub enum Refusal {
     // The file or the work area, as they were lent.
@@ -53,28 +56,42 @@ impl Refusal {
     }
 }
 
-// The sections by number, in the file's order.
-pub const NAMES: usize = 0;
+// The sections, in the file's order.
+#[derive(Clone, Copy, PartialEq, Eq)]
+pub enum Section {
+    Names,
+    Types,
+    Predicates,
+    Nodes,
+    Bindings,
+    Hoisted,
+    Fetched,
+    Constraints,
+    Comparisons,
+    Levels,
+}
 
-pub const TYPES: usize = 1;
+impl Section {
+    // How many sections a file has before this one.
+    pub fn number(self) -> usize
+        ensures { result ≡ number_of self }
+    {
+        self as usize
+    }
+}
 
-pub const PREDICATES: usize = 2;
-
-pub const NODES: usize = 3;
-
-pub const BINDINGS: usize = 4;
-
-pub const HOISTED: usize = 5;
-
-pub const FETCHED: usize = 6;
-
-pub const CONSTRAINTS: usize = 7;
-
-pub const COMPARISONS: usize = 8;
-
-pub const LEVELS: usize = 9;
-
-pub const SECTIONS: usize = 10;
+const SECTIONS: [Section; 10] = [
+    Section::Names,
+    Section::Types,
+    Section::Predicates,
+    Section::Nodes,
+    Section::Bindings,
+    Section::Hoisted,
+    Section::Fetched,
+    Section::Constraints,
+    Section::Comparisons,
+    Section::Levels,
+];
 
 // Limits that the checks need too; the written rules have them in Limits.antt.
 pub const NAME_LIMIT: usize = 512;
@@ -94,8 +111,9 @@ pub const CONSTANTS: usize = 5194;
 
 pub const LAST_BINDINGS: usize = 7242;
 
-// How many records each section may have.
-const LIMITS: [usize; SECTIONS] = [
+// How many records each section may have. This, BASES and RECORD_SIZES are three tables over the sections: a match of ten cases for each
+// would be no plainer.
+const LIMITS: [usize; 10] = [
     NAME_LIMIT, 512, 256, NODE_LIMIT, 256, 256, 256, 256, 256, 64,
 ];
 
@@ -105,7 +123,7 @@ const BASES: [usize; 11] = [
 ];
 
 // The bytes of a section's record, where their number is fixed, and those that follow a kind.
-const RECORD_SIZES: [usize; SECTIONS] = [0, 0, 4, 0, 0, 4, 0, 4, 0, 6];
+const RECORD_SIZES: [usize; 10] = [0, 0, 4, 0, 0, 4, 0, 4, 0, 6];
 
 const TYPE_SIZES: [usize; 4] = [0, 0, 0, 2];
 
@@ -113,35 +131,13 @@ const NODE_SIZES: [usize; 17] = [8, 2, 0, 2, 0, 0, 2, 0, 0, 4, 2, 4, 0, 0, 4, 0,
 
 const SLOT_SIZES: [usize; 6] = [4, 4, 2, 0, 4, 2];
 
-// A byte as a position or a count has it.
-pub fn wide(x: u8) -> usize
-    ensures same { result ≡ x }
-    ensures bounded { result < 256 }
-{
-    x as usize
-}
-
-// An entry of the index as a position or a count has it.
-pub fn wide16(x: u16) -> usize
-    ensures { result ≡ x }
-{
-    x as usize
-}
-
-// The lesser of two bytes.
-pub fn least(a: u8, b: u8) -> u8
-    ensures { result ≡ min a b }
-{
-    if a < b { a } else { b }
-}
-
 // The two bytes at p, the lower first.
 pub fn word_at(file: &[u8], p: usize) -> usize
     requires { p + 2 ≤ length file.now }
     ensures reads { result ≡ word file.now p }
     ensures bounded { result < word_limit }
 {
-    wide(file[p]) + 256 * wide(file[p + 1])
+    usize::from(u16::from_le_bytes([file[p], file[p + 1]]))
 }
 
 // Where n bytes from p on end, whatever they hold.
@@ -164,7 +160,7 @@ pub fn repeated(file: &[u8], w: usize, p: usize) -> Result<usize, Refusal>
     if p >= file.len() {
         return Err(Refusal::Ends);
     }
-    let n = wide(file[p]);
+    let n = usize::from(file[p]);
     fixed(file, n * w, p + 1)
 }
 
@@ -189,7 +185,7 @@ pub fn name_end(file: &[u8], at: usize) -> Result<usize, Refusal>
     if at >= file.len() {
         return Err(Refusal::Ends);
     }
-    let n = wide(file[at]);
+    let n = usize::from(file[at]);
     let p = at + 1;
     if n > file.len() - p {
         Err(Refusal::Ends)
@@ -206,7 +202,7 @@ pub fn type_end(file: &[u8], at: usize) -> Result<usize, Refusal>
     if at >= file.len() {
         return Err(Refusal::Ends);
     }
-    let k = wide(file[at]);
+    let k = usize::from(file[at]);
     if k < 4 {
         return fixed(file, TYPE_SIZES[k], at + 1);
     }
@@ -241,7 +237,7 @@ pub fn node_end(file: &[u8], at: usize) -> Result<usize, Refusal>
     if at >= file.len() {
         return Err(Refusal::Ends);
     }
-    let k = wide(file[at]);
+    let k = usize::from(file[at]);
     if k > 16 {
         return Err(Refusal::Kind);
     }
@@ -257,7 +253,8 @@ pub fn node_end(file: &[u8], at: usize) -> Result<usize, Refusal>
     fixed(file, NODE_SIZES[k], at + 1)
 }
 
-// Where the path at p ends: its field, a count, and as many steps.
+// Where the path at p ends: its field, a count, and as many steps. A plan has a path_end of its own (plan_form), since its grammar
+// differs: 31 steps at most.
 fn path_end(file: &[u8], p: usize) -> Result<usize, Refusal>
     requires { p ≤ length file.now }
     ensures { numbered result ≡ step_at file.now path p }
@@ -288,7 +285,7 @@ pub fn slot_end(file: &[u8], at: usize) -> Result<usize, Refusal>
     if at >= file.len() {
         return Err(Refusal::Ends);
     }
-    let k = wide(file[at]);
+    let k = usize::from(file[at]);
     if k > 5 {
         return Err(Refusal::Kind);
     }
@@ -324,18 +321,18 @@ pub fn comparison_end(file: &[u8], at: usize) -> Result<usize, Refusal>
 }
 
 // Where the record of section s at `at` ends.
-pub fn record_end(file: &[u8], s: usize, at: usize) -> Result<usize, Refusal>
-    requires { (at ≤ length file.now) × (s < section_count) }
-    ensures { numbered result ≡ step_at file.now (record_of s) at }
+pub fn record_end(file: &[u8], s: Section, at: usize) -> Result<usize, Refusal>
+    requires { at ≤ length file.now }
+    ensures { numbered result ≡ step_at file.now (record_of (number_of s)) at }
 {
     match s {
-        NAMES => name_end(file, at),
-        TYPES => type_end(file, at),
-        NODES => node_end(file, at),
-        BINDINGS => binding_end(file, at),
-        FETCHED => fetched_end(file, at),
-        COMPARISONS => comparison_end(file, at),
-        _ => fixed(file, RECORD_SIZES[s], at),
+        Section::Names => name_end(file, at),
+        Section::Types => type_end(file, at),
+        Section::Nodes => node_end(file, at),
+        Section::Bindings => binding_end(file, at),
+        Section::Fetched => fetched_end(file, at),
+        Section::Comparisons => comparison_end(file, at),
+        _ => fixed(file, RECORD_SIZES[s.number()], at),
     }
 }
 
@@ -343,17 +340,16 @@ pub fn record_end(file: &[u8], s: usize, at: usize) -> Result<usize, Refusal>
 pub fn records(
     file: &[u8],
     index: &mut [u16],
-    s: usize,
+    s: Section,
     base: usize,
     n: usize,
     at: usize,
 ) -> Result<usize, Refusal>
     requires { (at ≤ length file.now) ×
         (length file.now ≤ file_limit) ×
-        (s < section_count) ×
         (base + n ≤ length index.old) }
-    ensures reads { numbered result ≡ step_at file.now (many n (record_of s)) at }
-    ensures indexes { index.new ≡ sets index.old base (starts file.now s n at) }
+    ensures reads { numbered result ≡ step_at file.now (many n (record_of (number_of s))) at }
+    ensures indexes { index.new ≡ sets index.old base (starts file.now (number_of s) n at) }
 {
     let mut p = at;
     for k in 0..n {
@@ -365,25 +361,23 @@ pub fn records(
 }
 
 // How many records section s may have.
-fn limit(s: usize) -> usize
-    requires { s < section_count }
-    ensures { result ≡ limit_of s }
+fn limit(s: Section) -> usize
+    ensures { result ≡ limit_of (number_of s) }
 {
-    LIMITS[s]
+    LIMITS[s.number()]
 }
 
 // Where the area of section s begins in the index.
-pub fn base(s: usize) -> usize
-    requires { s < section_count }
-    ensures { result ≡ base_of s }
+pub fn base(s: Section) -> usize
+    ensures { result ≡ base_of (number_of s) }
 {
-    BASES[s]
+    BASES[s.number()]
 }
 
 // The count of section s, which stands at p, or the refusal of a count above the section's limit.
-pub fn count(file: &[u8], s: usize, p: usize) -> Result<usize, Refusal>
-    requires { (p ≤ length file.now) × (s < section_count) }
-    ensures { numbered result ≡ count_at file.now s p }
+pub fn count(file: &[u8], s: Section, p: usize) -> Result<usize, Refusal>
+    requires { p ≤ length file.now }
+    ensures { numbered result ≡ count_at file.now (number_of s) p }
 {
     if file.len() - p < 2 {
         return Err(Refusal::Ends);
@@ -396,13 +390,12 @@ pub fn count(file: &[u8], s: usize, p: usize) -> Result<usize, Refusal>
 }
 
 // Where section s at p ends: its count and its records. The count and each record's start go into the section's area of the index.
-pub fn section(file: &[u8], index: &mut [u16], s: usize, p: usize) -> Result<usize, Refusal>
+pub fn section_end(file: &[u8], index: &mut [u16], s: Section, p: usize) -> Result<usize, Refusal>
     requires { (p ≤ length file.now) ×
         (length file.now ≤ file_limit) ×
-        (s < section_count) ×
         (index_length ≤ length index.old) }
-    ensures reads { numbered result ≡ step_at file.now (section_of s) p }
-    ensures indexes { index.new ≡ sets index.old (base_of s) (entries file.now s p) }
+    ensures reads { numbered result ≡ step_at file.now (section_of (number_of s)) p }
+    ensures indexes { index.new ≡ sets index.old (base_of (number_of s)) (entries file.now (number_of s) p) }
 {
     let n = count(file, s, p)?;
     let b = base(s);
@@ -417,8 +410,8 @@ fn ten_sections(file: &[u8], index: &mut [u16]) -> Result<usize, Refusal>
     ensures indexes { index.new ≡ filled file.now section_count 0 0 index.old }
 {
     let mut p = 0;
-    for s in 0..SECTIONS {
-        p = section(file, index, s, p)?;
+    for s in SECTIONS {
+        p = section_end(file, index, s, p)?;
     }
     if p < file.len() {
         return Err(Refusal::Follows);
@@ -431,7 +424,7 @@ fn no_records(index: &mut [u16])
     requires { index_length ≤ length index.old }
     ensures { index.new ≡ emptied section_count 0 index.old }
 {
-    for s in 0..SECTIONS {
+    for s in SECTIONS {
         index[base(s)] = 0;
     }
 }

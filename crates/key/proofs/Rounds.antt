@@ -5,7 +5,7 @@ use mathlib.Core.Bool.{true, false}
 use mathlib.Core.List.{List, [], ◌∷◌}
 use types.Run.{OneOf, miss}
 use denote.Enum.Declared.{tag_of}
-use Rattle.std.specs.Prelude.{Option, None, Some}
+use Rattle.std.specs.Prelude.{Option, None, Some, is_some}
 use native.Mathlib.Omega.{arith}
 use lib.ListN.{length}
 use Rattle.rules.specs.File as File
@@ -40,7 +40,7 @@ use Rattle.field_cases.specs.Pieces.{Lower, patterns_of, fields_for}
 use Rattle.rules.proofs.Sound.{Sound}
 use Rattle.rules.proofs.Idle.{idle-field_below}
 use Rattle.state.proofs.Stopped.{stopped}
-use Rattle.constrain.specs.Constrain.{is_nothing, Known}
+use Rattle.constrain.specs.Constrain.{Known}
 use Rattle.constrain.proofs.Narrowings.{after-constant, after_none}
 use Rattle.field_cases.specs.FieldCases.{way_at, meeting, inject_at, Choosing, payload_of, choosing_of, choosing}
 use Rattle.field_cases.proofs.Reading.{answer-is, diagnostics-at}
@@ -66,11 +66,11 @@ field-over T a n t path w work plan e =
 
 -- `matched` of a constant: its bytes, or else its pieces
 module _ (T : Tables) (a n k t : ℕ) (path : File.FieldPath) (s₀ : State) (c : Option Const) (v : Known T k t c) (s : State) where
-  const-bytes : (g : FieldWalk State) → is_nothing c ≡ false → s ≡ narrowed_by T n (const_of T c) path s₀ → s ≡ matched (ops T) T a g n (File.Slot.Const k) t path s₀
+  const-bytes : (g : FieldWalk State) → is_some c ≡ true → s ≡ narrowed_by T n (const_of T c) path s₀ → s ≡ matched (ops T) T a g n (File.Slot.Const k) t path s₀
   unfolding matched
   const-bytes g e q = after-constant T n k t path s₀ c v (λ x. x) (partial (ops T) T a g k t path) e s q
 
-  const-pieces : (g : FieldWalk State) → is_nothing c ≡ true → s ≡ partial (ops T) T a g k t path s₀ → s ≡ matched (ops T) T a g n (File.Slot.Const k) t path s₀
+  const-pieces : (g : FieldWalk State) → is_some c ≡ false → s ≡ partial (ops T) T a g k t path s₀ → s ≡ matched (ops T) T a g n (File.Slot.Const k) t path s₀
   unfolding matched
   const-pieces g e q = q ∙ after_none T n k t path s₀ c v (λ x. x) (partial (ops T) T a g k t path) e
 
@@ -78,10 +78,10 @@ module _ (T : Tables) (a n k t : ℕ) (path : File.FieldPath) (s₀ : State) (c 
     abbrev by_kind : ℕ → SlotKind → State
     by_kind m x = matched (ops T) T a (below T a m) n (slot_with x slot.path) t path s₀
 
-    pub matched-bytes : is_nothing c ≡ false → s ≡ narrowed_by T n (const_of T c) path s₀ → Gives T a t (λ g. matched (ops T) T a g n (slot_of slot) t path s₀) s
+    pub matched-bytes : is_some c ≡ true → s ≡ narrowed_by T n (const_of T c) path s₀ → Gives T a t (λ g. matched (ops T) T a g n (slot_of slot) t path s₀) s
     matched-bytes e q = record { is = λ m h. const-bytes (below T a m) e q ∙ ap (by_kind m) (sym es) }
 
-    pub matched-pieces : is_nothing c ≡ true → Gives T a t (λ g. partial (ops T) T a g k t path s₀) s → Gives T a t (λ g. matched (ops T) T a g n (slot_of slot) t path s₀) s
+    pub matched-pieces : is_some c ≡ false → Gives T a t (λ g. partial (ops T) T a g k t path s₀) s → Gives T a t (λ g. matched (ops T) T a g n (slot_of slot) t path s₀) s
     matched-pieces e p = record { is = λ m h. const-pieces (below T a m) e (p.is m h) ∙ ap (by_kind m) (sym es) }
 
 -- `matched` of any other slot
@@ -123,11 +123,11 @@ module _ (T : Tables) (a n t : ℕ) (path : File.FieldPath) (s₀ : State) (way 
   field-range e s q = goes Wy.Range e s (λ m h. q a (below T a m))
 
   module _ (e : way ≡ Wy.Constant) (c : Option Const) (v : Known T n t c) (s : State) where
-    pub field-bytes : is_nothing c ≡ false → s ≡ narrowed_by T n (const_of T c) path s₀ → Walks T a n t path s₀ s
+    pub field-bytes : is_some c ≡ true → s ≡ narrowed_by T n (const_of T c) path s₀ → Walks T a n t path s₀ s
     unfolding by_way
     field-bytes b q = goes Wy.Constant e s (λ m h. const-bytes T a n n t path s₀ c v s (below T a m) b q)
 
-    pub field-pieces : is_nothing c ≡ true → Gives T a t (λ g. partial (ops T) T a g n t path s₀) s → Walks T a n t path s₀ s
+    pub field-pieces : is_some c ≡ false → Gives T a t (λ g. partial (ops T) T a g n t path s₀) s → Walks T a n t path s₀ s
     unfolding by_way
     field-pieces b p = goes Wy.Constant e s (λ m h. const-pieces T a n n t path s₀ c v s (below T a m) b (p.is m h))
 

@@ -1,20 +1,21 @@
 // The walk of a pattern against a type. Each round of the four descends one type, whose number falls.
+// Node, type and path of a step stay parameters: they are the arguments of the written walk, in its order.
 #![tactic(auto)]
 
 ghost use Rattle.std.specs.Prelude.{◌≡◌, ◌<◌, length};
 ghost use Rattle.rules.specs.File.{node_at, field_path};
 ghost use Rattle.rules.specs.Walk as WalkRules;
 ghost use Rattle.state.specs.Ops.{ops, skip};
-ghost use Rattle.file.specs.Tables.{tables_of};
 ghost use Rattle.paths.specs.Paths.{path_of};
 ghost use Rattle.slots.specs.Slots.{slot_of, TidyRoom};
-ghost use Rattle.accepted_file.specs.AcceptedFile.{AcceptedFile};
+ghost use Rattle.accepted_file.specs.Tables.{accepted_tables};
 ghost use Rattle.walk.specs.Walk.{walk_state};
 ghost use Rattle.field_cases.specs.Pieces.{Fits, patterns_of, fields_for};
 ghost use Rattle.field_cases.specs.FieldCases.{inject_at};
 ghost use Rattle.key.specs.Cycle.{Walks, Gives, fields_of, whole_field};
 
-use constrain::{is_nothing, known, narrow, ranged};
+use accepted_file::AcceptedFile;
+use constrain::{known, narrow, ranged};
 use field_cases::{
     Way, captured, choose, meet, pairs_of, piece_at, pieces, unresolved, walked_pattern, way_of,
 };
@@ -23,15 +24,14 @@ use paths::{Address, FieldPath};
 use resolve::{field_slot, resolve};
 use slots::{Slot, SlotKind};
 use tables::{is_quiet, record_ty};
-use views::{FieldTy, NodeView, field_ty_at, node_of};
+use views::{FieldTy, NodeView, field_ty_at};
 use walk::Walk;
 
 // One key field: seek, splice, residual, or capture. Once the plan is too long nothing changes any more, and the walk ends at once. What
 // ends here hands the walk back as it is; only what goes on has a slot.
 #[cycle(field_inject_matched_partial)]
 pub fn field(
-    file: &[u8],
-    index: &[u16],
+    file: &AcceptedFile,
     work: &mut [u8],
     plan: &mut [u8],
     node: usize,
@@ -40,9 +40,8 @@ pub fn field(
     path: FieldPath,
     w: Walk,
 ) -> Walk
-    requires accepted_file { AcceptedFile file.now index.now }
-    requires fits { Fits (tables_of file.now) path ty }
-    ensures { let T = tables_of file.now in
+    requires { Fits (accepted_tables file.now) path ty }
+    ensures { let T = accepted_tables file.now in
         let before = walk_state T w work.old plan.old in
         let after = walk_state T result work.new plan.new in
         Walks T address.0 node ty (path_of path) before after }
@@ -51,35 +50,35 @@ pub fn field(
     if level.over {
         return w;
     }
-    match way_of(file, index, node, ty) {
-        Way::Union => inject(file, index, work, plan, node, ty, address, path, w),
+    match way_of(file, node, ty) {
+        Way::Union => inject(file, work, plan, node, ty, address, path, w),
         Way::Skip => w.skip(),
         Way::Report(code) => w.diagnose(work, node, code, true),
-        Way::Range => ranged(file, index, work, plan, node, ty, path, w),
+        Way::Range => ranged(file, work, plan, node, ty, path, w),
         Way::Constant => {
-            let c = known(file, index, node, ty);
-            if is_nothing(c) {
-                return partial(file, index, work, plan, node, ty, address, path, w);
+            let c = known(file, node, ty);
+            if c.is_none() {
+                return partial(file, work, plan, node, ty, address, path, w);
             }
-            narrow(file, index, plan, node, c, path, w)
+            narrow(file, plan, node, c, path, w)
         }
         Way::Variable(x) => {
-            if let Some(slot) = lookup(file, index, work, w.lists(), x) {
-                return matched(file, index, work, plan, node, slot, ty, address, path, w);
+            if let Some(slot) = lookup(file, work, w.lists(), x) {
+                return matched(file, work, plan, node, slot, ty, address, path, w);
             }
-            captured(file, index, work, plan, x, ty, address, path, w)
+            captured(file, work, plan, x, ty, address, path, w)
         }
         Way::Read => {
-            let a = resolve(file, index, work, node, w.lists());
+            let a = resolve(file, work, node, w.lists());
             let l = w.listed(a.lists);
             if let Some(slot) = a.slot {
-                return matched(file, index, work, plan, node, slot, ty, address, path, l);
+                return matched(file, work, plan, node, slot, ty, address, path, l);
             }
-            if let Some((_, _)) = pairs_of(file, index, node) {
-                return partial(file, index, work, plan, node, ty, address, path, l);
+            if let Some((_, _)) = pairs_of(&file.tables, node) {
+                return partial(file, work, plan, node, ty, address, path, l);
             }
             let ends = w.ends;
-            unresolved(file, index, work, node, ends.diagnostics, l)
+            unresolved(&file.tables, work, node, ends.diagnostics, l)
         }
     }
 }
@@ -87,8 +86,7 @@ pub fn field(
 // A field matched against a slot. A constant that does not determine the field's bytes is matched piece by piece.
 #[cycle(field_inject_matched_partial)]
 pub fn matched(
-    file: &[u8],
-    index: &[u16],
+    file: &AcceptedFile,
     work: &mut [u8],
     plan: &mut [u8],
     node: usize,
@@ -98,9 +96,8 @@ pub fn matched(
     path: FieldPath,
     w: Walk,
 ) -> Walk
-    requires accepted_file { AcceptedFile file.now index.now }
-    requires fits { Fits (tables_of file.now) path ty }
-    ensures { let T = tables_of file.now in
+    requires { Fits (accepted_tables file.now) path ty }
+    ensures { let T = accepted_tables file.now in
         let before = walk_state T w work.old plan.old in
         let after = walk_state T result work.new plan.new in
         Gives T address.0 ty
@@ -109,21 +106,20 @@ pub fn matched(
 {
     let kind = slot.kind;
     let SlotKind::Const(n) = kind else {
-        return meet(file, index, work, plan, node, slot, ty, address, path, w);
+        return meet(file, work, plan, node, slot, ty, address, path, w);
     };
-    let c = known(file, index, n, ty);
-    if is_nothing(c) {
-        return partial(file, index, work, plan, n, ty, address, path, w);
+    let c = known(file, n, ty);
+    if c.is_none() {
+        return partial(file, work, plan, n, ty, address, path, w);
     }
-    narrow(file, index, plan, node, c, path, w)
+    narrow(file, plan, node, c, path, w)
 }
 
 // A record pattern that gives some of its fields: building falls, and each piece is matched one step deeper. Of a constant that is
 // remembered to give nothing else the pieces are left out.
 #[cycle(field_inject_matched_partial)]
 pub fn partial(
-    file: &[u8],
-    index: &[u16],
+    file: &AcceptedFile,
     work: &mut [u8],
     plan: &mut [u8],
     node: usize,
@@ -132,27 +128,26 @@ pub fn partial(
     path: FieldPath,
     w: Walk,
 ) -> Walk
-    requires accepted_file { AcceptedFile file.now index.now }
-    requires fits { Fits (tables_of file.now) path ty }
-    ensures { let T = tables_of file.now in
+    requires { Fits (accepted_tables file.now) path ty }
+    ensures { let T = accepted_tables file.now in
         let before = walk_state T w work.old plan.old in
         let after = walk_state T result work.new plan.new in
         Gives T address.0 ty
         (λ below. WalkRules.partial (ops T) T address.0 below node ty (path_of path) before)
         after }
 {
-    let opened = pieces(file, index, node, ty);
+    let opened = pieces(file, node, ty);
     let mut l = w.skip();
-    if is_quiet(file, index, node, ty) {
+    if is_quiet(file, node, ty) {
         return l;
     }
     for i in 0..opened.count {
-        let p = piece_at(file, index, node, ty, opened, i);
+        let p = piece_at(file, node, ty, opened, i);
         let Some(n) = p.pattern else {
             continue;
         };
         let q = path.then(i as u32);
-        l = field(file, index, work, plan, n, p.ty, address, q, l);
+        l = field(file, work, plan, n, p.ty, address, q, l);
     }
     l
 }
@@ -160,8 +155,7 @@ pub fn partial(
 // A union value: tag, payload, closer, unless all of it is constant.
 #[cycle(field_inject_matched_partial)]
 pub fn inject(
-    file: &[u8],
-    index: &[u16],
+    file: &AcceptedFile,
     work: &mut [u8],
     plan: &mut [u8],
     node: usize,
@@ -170,40 +164,28 @@ pub fn inject(
     path: FieldPath,
     w: Walk,
 ) -> Walk
-    requires accepted_file { AcceptedFile file.now index.now }
-    requires fits { Fits (tables_of file.now) path ty }
-    ensures { let T = tables_of file.now in
+    requires { Fits (accepted_tables file.now) path ty }
+    ensures { let T = accepted_tables file.now in
         let before = walk_state T w work.old plan.old in
         let after = walk_state T result work.new plan.new in
         Gives T address.0 ty
         (λ below. inject_at T address.0 below node ty (path_of path) before)
         after }
 {
-    let c = choose(file, index, work, plan, node, ty, path, w);
+    let c = choose(file, work, plan, node, ty, path, w);
     let open = c.walk;
     let Some(chosen) = c.choice else {
         return open;
     };
     let q = path.payload(chosen.disc);
     let tagged = open.tag(path, chosen.disc, node, plan);
-    let walked = field(
-        file,
-        index,
-        work,
-        plan,
-        chosen.node,
-        chosen.ty,
-        address,
-        q,
-        tagged,
-    );
+    let walked = field(file, work, plan, chosen.node, chosen.ty, address, q, tagged);
     walked.closer(node, plan)
 }
 
 // A Record against a Record type: a field that no pattern names closes the seek.
 fn record_key(
-    file: &[u8],
-    index: &[u16],
+    file: &AcceptedFile,
     work: &mut [u8],
     plan: &mut [u8],
     node: usize,
@@ -211,24 +193,23 @@ fn record_key(
     address: Address,
     w: Walk,
 ) -> Walk
-    requires accepted_file { AcceptedFile file.now index.now }
-    requires ty_in_bounds { ty < length (tables_of file.now).types }
-    ensures { let T = tables_of file.now in
+    requires { ty < length (accepted_tables file.now).types }
+    ensures { let T = accepted_tables file.now in
         let before = walk_state T w work.old plan.old in
         let after = walk_state T result work.new plan.new in
         let field = WalkRules.field (ops T) T address.0 in
         after ≡ WalkRules.each_field field skip field_path (patterns_of T node) 0 (fields_for T node ty) before }
 {
-    let opened = pieces(file, index, node, ty);
+    let opened = pieces(file, node, ty);
     let mut l = w;
     for i in 0..opened.count {
-        let p = piece_at(file, index, node, ty, opened, i);
-        let Some(n) = walked_pattern(file, index, p.pattern, p.ty) else {
+        let p = piece_at(file, node, ty, opened, i);
+        let Some(n) = walked_pattern(file, p.pattern, p.ty) else {
             l = l.skip();
             continue;
         };
         let path = FieldPath::field(i as u16);
-        l = field(file, index, work, plan, n, p.ty, address, path, l);
+        l = field(file, work, plan, n, p.ty, address, path, l);
     }
     l
 }
@@ -247,8 +228,7 @@ fn whole_node(node: usize, slot: Slot) -> usize
 
 // One field of a slot, matched against the key's field of its name.
 fn whole_field(
-    file: &[u8],
-    index: &[u16],
+    file: &AcceptedFile,
     work: &mut [u8],
     plan: &mut [u8],
     node: usize,
@@ -258,28 +238,24 @@ fn whole_field(
     path: FieldPath,
     w: Walk,
 ) -> Walk
-    requires accepted_file { AcceptedFile file.now index.now }
-    requires tidy_room { TidyRoom (tables_of file.now) slot }
-    requires fits { Fits (tables_of file.now) path field.ty }
-    ensures { let T = tables_of file.now in
+    requires tidy_room { TidyRoom (accepted_tables file.now) slot }
+    requires fits { Fits (accepted_tables file.now) path field.ty }
+    ensures { let T = accepted_tables file.now in
         let before = walk_state T w work.old plan.old in
         let after = walk_state T result work.new plan.new in
         after ≡ whole_field T address.0 node (slot_of slot) field.name field.ty (path_of path) before }
 {
-    let a = field_slot(file, index, work, node, slot, field.name, w.lists());
+    let a = field_slot(file, work, node, slot, field.name, w.lists());
     let l = w.listed(a.lists);
     if let Some(found) = a.slot {
         let n = whole_node(node, found);
-        return matched(
-            file, index, work, plan, n, found, field.ty, address, path, l,
-        );
+        return matched(file, work, plan, n, found, field.ty, address, path, l);
     }
     l.skip()
 }
 
 fn whole_fields(
-    file: &[u8],
-    index: &[u16],
+    file: &AcceptedFile,
     work: &mut [u8],
     plan: &mut [u8],
     node: usize,
@@ -288,30 +264,28 @@ fn whole_fields(
     address: Address,
     w: Walk,
 ) -> Walk
-    requires accepted_file { AcceptedFile file.now index.now }
-    requires ty_in_bounds { ty < length (tables_of file.now).types }
-    requires tidy_room { TidyRoom (tables_of file.now) slot }
-    ensures { let T = tables_of file.now in
+    requires ty_in_bounds { ty < length (accepted_tables file.now).types }
+    requires tidy_room { TidyRoom (accepted_tables file.now) slot }
+    ensures { let T = accepted_tables file.now in
         let before = walk_state T w work.old plan.old in
         let after = walk_state T result work.new plan.new in
         after ≡ WalkRules.whole_fields (ops T) T address.0 node (slot_of slot) 0 (fields_of T ty) before }
 {
-    let Some((n, at)) = record_ty(file, index, ty) else {
+    let Some((n, at)) = record_ty(&file.tables, ty) else {
         return w;
     };
     let mut l = w;
     for i in 0..n {
-        let f = field_ty_at(file, at, i);
+        let f = field_ty_at(file.tables.bytes, at, i);
         let path = FieldPath::field(i as u16);
-        l = whole_field(file, index, work, plan, node, slot, f, address, path, l);
+        l = whole_field(file, work, plan, node, slot, f, address, path, l);
     }
     l
 }
 
 // A read: resolved once, then each of its fields in turn.
 fn whole_read(
-    file: &[u8],
-    index: &[u16],
+    file: &AcceptedFile,
     work: &mut [u8],
     plan: &mut [u8],
     node: usize,
@@ -319,25 +293,23 @@ fn whole_read(
     address: Address,
     w: Walk,
 ) -> Walk
-    requires accepted_file { AcceptedFile file.now index.now }
-    requires ty_in_bounds { ty < length (tables_of file.now).types }
-    ensures { let T = tables_of file.now in
+    requires { ty < length (accepted_tables file.now).types }
+    ensures { let T = accepted_tables file.now in
         let before = walk_state T w work.old plan.old in
         let after = walk_state T result work.new plan.new in
         after ≡ WalkRules.whole_read (ops T) T address.0 node (fields_of T ty) before }
 {
-    let a = resolve(file, index, work, node, w.lists());
+    let a = resolve(file, work, node, w.lists());
     let l = w.listed(a.lists);
     if let Some(slot) = a.slot {
-        return whole_fields(file, index, work, plan, node, slot, ty, address, l);
+        return whole_fields(file, work, plan, node, slot, ty, address, l);
     }
     l.skip()
 }
 
 // A new variable binds the whole key, which closes the seek as a bound field does.
 fn whole_variable(
-    file: &[u8],
-    index: &[u16],
+    file: &AcceptedFile,
     work: &mut [u8],
     plan: &mut [u8],
     name: usize,
@@ -346,15 +318,14 @@ fn whole_variable(
     address: Address,
     w: Walk,
 ) -> Walk
-    requires accepted_file { AcceptedFile file.now index.now }
-    requires ty_in_bounds { ty < length (tables_of file.now).types }
-    ensures { let T = tables_of file.now in
+    requires { ty < length (accepted_tables file.now).types }
+    ensures { let T = accepted_tables file.now in
         let before = walk_state T w work.old plan.old in
         let after = walk_state T result work.new plan.new in
         after ≡ WalkRules.whole_variable (ops T) T address.0 name node ty (fields_of T ty) before }
 {
-    if let Some(_) = lookup(file, index, work, w.lists(), name) {
-        return whole_read(file, index, work, plan, node, ty, address, w);
+    if let Some(_) = lookup(file, work, w.lists(), name) {
+        return whole_read(file, work, plan, node, ty, address, w);
     }
     let slot = Slot::plain(SlotKind::Key(address, ty));
     w.skip().bind(work, name, slot)
@@ -362,8 +333,7 @@ fn whole_variable(
 
 // A whole record key in one pattern.
 fn whole_key(
-    file: &[u8],
-    index: &[u16],
+    file: &AcceptedFile,
     work: &mut [u8],
     plan: &mut [u8],
     node: usize,
@@ -371,24 +341,22 @@ fn whole_key(
     address: Address,
     w: Walk,
 ) -> Walk
-    requires accepted_file { AcceptedFile file.now index.now }
-    requires ty_in_bounds { ty < length (tables_of file.now).types }
-    ensures { let T = tables_of file.now in
+    requires { ty < length (accepted_tables file.now).types }
+    ensures { let T = accepted_tables file.now in
         let before = walk_state T w work.old plan.old in
         let after = walk_state T result work.new plan.new in
         after ≡ WalkRules.whole_key (ops T) T address.0 (node_at T node) node ty (fields_of T ty) before }
 {
-    match node_of(file, index, node) {
-        NodeView::Var(x) => whole_variable(file, index, work, plan, x, node, ty, address, w),
+    match file.tables.node_of(node) {
+        NodeView::Var(x) => whole_variable(file, work, plan, x, node, ty, address, w),
         NodeView::Wildcard => w.skip(),
-        _ => whole_read(file, index, work, plan, node, ty, address, w),
+        _ => whole_read(file, work, plan, node, ty, address, w),
     }
 }
 
 // A level's key pattern, in the order of the type's fields, which is that of its bytes.
 pub fn key(
-    file: &[u8],
-    index: &[u16],
+    file: &AcceptedFile,
     work: &mut [u8],
     plan: &mut [u8],
     node: usize,
@@ -396,19 +364,18 @@ pub fn key(
     address: Address,
     w: Walk,
 ) -> Walk
-    requires accepted_file { AcceptedFile file.now index.now }
-    requires ty_in_bounds { ty < length (tables_of file.now).types }
-    ensures { let T = tables_of file.now in
+    requires { ty < length (accepted_tables file.now).types }
+    ensures { let T = accepted_tables file.now in
         let before = walk_state T w work.old plan.old in
         let after = walk_state T result work.new plan.new in
         after ≡ WalkRules.key (ops T) T address.0 node ty before }
 {
-    let Some((_, _)) = record_ty(file, index, ty) else {
+    let Some((_, _)) = record_ty(&file.tables, ty) else {
         let path = FieldPath::field(0);
-        return field(file, index, work, plan, node, ty, address, path, w);
+        return field(file, work, plan, node, ty, address, path, w);
     };
-    if let Some((_, _)) = pairs_of(file, index, node) {
-        return record_key(file, index, work, plan, node, ty, address, w);
+    if let Some((_, _)) = pairs_of(&file.tables, node) {
+        return record_key(file, work, plan, node, ty, address, w);
     }
-    whole_key(file, index, work, plan, node, ty, address, w)
+    whole_key(file, work, plan, node, ty, address, w)
 }

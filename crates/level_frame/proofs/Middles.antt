@@ -1,16 +1,15 @@
 -- What a seek holds past its parts, and the places of a level.
-use mathlib.Core.Bool.{true, false}
+use mathlib.Core.Bool.{Bool, true, false}
 use mathlib.Core.List.{List, [], ◌++◌}
 use mathlib.Core.Path.{◌≡◌, refl, sym, ap, ◌∙◌}
 use Prim.Native.Nat.{ℕ, ◌+◌, ◌≤◌, min}
 use native.Mathlib.Omega.{arith}
 use lib.ListN.{length, length-append}
-use Rattle.std.specs.Prelude as Std
-use Rattle.std.specs.Prelude.{None, Some, is_some, ◌||◌, Option}
+use Rattle.std.specs.Prelude.{None, ◌||◌, Option}
 use Rattle.rules.specs.Limits.{plan_limit}
 use Rattle.rules.specs.File.{Tables, name_at}
 use Rattle.rules.specs.Constant.{encode_prefix}
-use Rattle.rules.specs.Placement.{Range}
+use Rattle.rules.specs.Placement.{Range, RangeEdge}
 use Rattle.rules.specs.Plan as Plan
 use Rattle.rules.specs.Plan.{u16}
 use Rattle.rules.proofs.Cases.{by-test, true≢false}
@@ -23,35 +22,33 @@ use Rattle.encode.specs.Written.{Wrote}
 use Rattle.encode.proofs.Puts.{wrote_then, wrote_as}
 use Rattle.records.specs.Records.{put}
 use Rattle.records.proofs.Stores.{put-none}
-use Rattle.seek.specs.Seek.{sums_of, counts_of, in_rules, kept, guide_of, range_as, range_of, edge_of, edges_of, level_of}
-use Rattle.seek.specs.declared.Edge.{Edge}
-use Rattle.seek.specs.declared.Range as Code
+use Rattle.seek.specs.Seek.{sums_of, counts_of, kept, guide_of, range_of, edge_of, edges_of, level_of}
 use Rattle.seek.specs.declared.SeekBuilder.{SeekBuilder}
 use Rattle.level_frame.specs.LevelFrame.{between_of, parts_len, frame_of}
 use Rattle.level_frame.specs.declared.Frame.{Frame}
+use Rattle.level_frame.proofs.Seeks.{held, set-held, range_in}
 use Rattle.level_frame.proofs.Places as Places
 use Rattle.level_frame.proofs.Places.{tail-is}
 
+module _ (r : Option Range) (e f : RangeEdge) where
+  edged : (lo hi : Bool) → (lo || hi) ≡ true
+      → Plan.edge (held lo e) ++ Plan.edge (held hi f) ≡ range_or_edges r (held lo e) (held hi f)
+  unfolding range_or_edges
+  edged true hi h = refl
+  edged false true h = refl
+  edged false false h = absurd (true≢false (sym h))
+
+  edgeless : (lo hi : Bool) → (lo || hi) ≡ false → range_or_edges r None None ≡ range_or_edges r (held lo e) (held hi f)
+  edgeless true hi h = absurd (true≢false h)
+  edgeless false true h = absurd (true≢false h)
+  edgeless false false h = refl
+
 module _ (T : Tables) (l : SeekBuilder) where
-  edged : (r : Option Range) (lo hi : Std.Option Edge) → (is_some lo || is_some hi) ≡ true
-      → Plan.edge (edge_of T lo) ++ Plan.edge (edge_of T hi) ≡ range_or_edges r (edge_of T lo) (edge_of T hi)
-  unfolding edge_of range_or_edges
-  edged r (Some x) hi h = refl
-  edged r None (Some y) h = refl
-  edged r None None h = absurd (true≢false (sym h))
-
-  edgeless : (r : Option Range) (lo hi : Std.Option Edge) → (is_some lo || is_some hi) ≡ false
-      → range_or_edges r None None ≡ range_or_edges r (edge_of T lo) (edge_of T hi)
-  unfolding edge_of
-  edgeless r (Some x) hi h = absurd (true≢false h)
-  edgeless r None (Some y) h = absurd (true≢false h)
-  edgeless r None None h = refl
-
   -- the two edges
-  module _ (h : (is_some l.lo || is_some l.hi) ≡ true) where
+  module _ (h : (l.lo.set || l.hi.set) ≡ true) where
     with-edges : Plan.edge (edge_of T l.lo) ++ Plan.edge (edge_of T l.hi) ≡ between_of (level_of T l)
-    unfolding level_of edges_of
-    with-edges = edged (range_of T l) l.lo l.hi h
+    unfolding level_of edges_of edge_of
+    with-edges = edged (range_of T l) _ _ l.lo.set l.hi.set h
 
     pub edges-size : (a b r : ℕ) → a ≡ min cap (length (Plan.edge (edge_of T l.lo))) → b ≡ min cap (length (Plan.edge (edge_of T l.hi)))
         → r ≡ min cap (a + b) → r ≡ min cap (length (between_of (level_of T l)))
@@ -65,64 +62,73 @@ module _ (T : Tables) (l : SeekBuilder) where
     put-edges at p r w w1 w2 a b =
         wrote_as (Plan.edge (edge_of T l.lo) ++ Plan.edge (edge_of T l.hi)) (between_of (level_of T l)) at r w w2 (wrote_then a b) with-edges
 
-  module _ (h : (is_some l.lo || is_some l.hi) ≡ false) where
+  module _ (h : (l.lo.set || l.hi.set) ≡ false) where
     without-edges : range_or_edges (range_of T l) None None ≡ between_of (level_of T l)
-    unfolding level_of edges_of
-    without-edges = edgeless (range_of T l) l.lo l.hi h
+    unfolding level_of edges_of edge_of
+    without-edges = edgeless (range_of T l) _ _ l.lo.set l.hi.set h
 
-    -- the range
-    module _ (r : Code.Range) (range-kept : kept l.building l.range ≡ Some r) where
-      prefix : List ℕ
-      prefix = encode_prefix (name_at T r.name)
+    module _ (k : Bool) (ek : k ≡ kept l.building l.range.set) where
+      abbrev ranged : Bool → List ℕ
+      ranged b = range_or_edges (held b (range_in T l)) None None
 
-      with-range : Plan.text prefix ++ Plan.path (path_of l.path) ++ u16 r.node ≡ between_of (level_of T l)
-      unfolding range_of range_or_edges prefix
-      with-range = ap (λ (o : Std.Option Code.Range). range_or_edges (in_rules (range_as T l.path) o) None None) (sym range-kept) ∙ without-edges
+      by-range : ranged k ≡ between_of (level_of T l)
+      unfolding range_of
+      by-range =
+          ap ranged ek ∙ sym (ap (λ (o : Option Range). range_or_edges o None None) (set-held l.building l.range.set (range_in T l))) ∙ without-edges
 
-      pub range_size : (a b n : ℕ) → a ≡ length (Plan.text (encode_prefix (name_at T r.name))) → b ≡ length (Plan.path (path_of l.path))
-          → n ≡ min cap (a + (b + 2)) → n ≡ min cap (length (between_of (level_of T l)))
-      unfolding prefix u16
-      range_size a b n ea eb en =
-          omega (
-            arith,
-            ea,
-            eb,
-            en,
-            ap length with-range,
-            length-append (Plan.text prefix) (Plan.path (path_of l.path)),
-            length-append (Plan.text prefix ++ Plan.path (path_of l.path)) (u16 r.node),
-          )
+      -- the range
+      module _ (on : k ≡ true) where
+        prefix : List ℕ
+        prefix = encode_prefix (name_at T l.range.name)
 
-      pub range_small : length (between_of (level_of T l)) ≤ cap → length (Plan.text (encode_prefix (name_at T r.name))) ≤ cap
-      unfolding prefix
-      range_small b =
-          omega (
-            arith,
-            b,
-            ap length with-range,
-            length-append (Plan.text prefix) (Plan.path (path_of l.path)),
-            length-append (Plan.text prefix ++ Plan.path (path_of l.path)) (u16 r.node),
-          )
+        with-range : Plan.text prefix ++ Plan.path (path_of l.path) ++ u16 l.range.node ≡ between_of (level_of T l)
+        unfolding range_or_edges prefix
+        with-range = ap ranged (sym on) ∙ by-range
 
-      pub put-range : (at p q : ℕ) (w w1 w2 w3 : List ℕ) → Wrote (Plan.text (encode_prefix (name_at T r.name))) at w p w1
-          → q ≡ p + length (Plan.path (path_of l.path)) → w2 ≡ put w1 p (Plan.path (path_of l.path))
-          → w3 ≡ put w2 q (u16 r.node) → Wrote (between_of (level_of T l)) at w (q + 2) w3
-      unfolding prefix u16
-      put-range at p q w w1 w2 w3 a eq e f =
-          wrote_as (Plan.text prefix ++ Plan.path (path_of l.path) ++ u16 r.node) (between_of (level_of T l)) at (q + 2) w w3
-          (wrote_then (wrote_then a (record { place = eq; is = e })) (record { place = refl; is = f })) with-range
+        pub range_size : (a b n : ℕ) → a ≡ length (Plan.text (encode_prefix (name_at T l.range.name))) → b ≡ length (Plan.path (path_of l.path))
+            → n ≡ min cap (a + (b + 2)) → n ≡ min cap (length (between_of (level_of T l)))
+        unfolding prefix u16
+        range_size a b n ea eb en =
+            omega (
+              arith,
+              ea,
+              eb,
+              en,
+              ap length with-range,
+              length-append (Plan.text prefix) (Plan.path (path_of l.path)),
+              length-append (Plan.text prefix ++ Plan.path (path_of l.path)) (u16 l.range.node),
+            )
 
-    -- neither
-    module _ (none-kept : kept l.building l.range ≡ None) where
-      with_none : [] ≡ between_of (level_of T l)
-      unfolding range_of range_or_edges
-      with_none = ap (λ (o : Std.Option Code.Range). range_or_edges (in_rules (range_as T l.path) o) None None) (sym none-kept) ∙ without-edges
+        pub range_small : length (between_of (level_of T l)) ≤ cap → length (Plan.text (encode_prefix (name_at T l.range.name))) ≤ cap
+        unfolding prefix
+        range_small b =
+            omega (
+              arith,
+              b,
+              ap length with-range,
+              length-append (Plan.text prefix) (Plan.path (path_of l.path)),
+              length-append (Plan.text prefix ++ Plan.path (path_of l.path)) (u16 l.range.node),
+            )
 
-      pub none-size : 0 ≡ min cap (length (between_of (level_of T l)))
-      none-size = let e : 0 ≡ length (between_of (level_of T l)) = ap length with_none in omega arith
+        pub put-range : (at p q : ℕ) (w w1 w2 w3 : List ℕ) → Wrote (Plan.text (encode_prefix (name_at T l.range.name))) at w p w1
+            → q ≡ p + length (Plan.path (path_of l.path)) → w2 ≡ put w1 p (Plan.path (path_of l.path))
+            → w3 ≡ put w2 q (u16 l.range.node) → Wrote (between_of (level_of T l)) at w (q + 2) w3
+        unfolding prefix u16
+        put-range at p q w w1 w2 w3 a eq e f =
+            wrote_as (Plan.text prefix ++ Plan.path (path_of l.path) ++ u16 l.range.node) (between_of (level_of T l)) at (q + 2) w w3
+            (wrote_then (wrote_then a (record { place = eq; is = e })) (record { place = refl; is = f })) with-range
 
-      pub put-bare : (at : ℕ) (w : List ℕ) → Wrote (between_of (level_of T l)) at w at w
-      put-bare at w = wrote_as [] (between_of (level_of T l)) at at w w (record { place = omega arith; is = sym (put-none w at) }) with_none
+      -- neither
+      module _ (off : k ≡ false) where
+        with_none : [] ≡ between_of (level_of T l)
+        unfolding range_or_edges
+        with_none = ap ranged (sym off) ∙ by-range
+
+        pub none-size : 0 ≡ min cap (length (between_of (level_of T l)))
+        none-size = let e : 0 ≡ length (between_of (level_of T l)) = ap length with_none in omega arith
+
+        pub put-bare : (at : ℕ) (w : List ℕ) → Wrote (between_of (level_of T l)) at w at w
+        put-bare at w = wrote_as [] (between_of (level_of T l)) at at w w (record { place = omega arith; is = sym (put-none w at) }) with_none
 
 -- the middle
 module _ (T : Tables) (l : SeekBuilder) where

@@ -6,8 +6,6 @@ use Prim.Native.Nat.{ℕ, ◌+◌, ◌*◌, ◌≤◌}
 use mir.Val.{bool_byte}
 use native.Mathlib.Omega.{arith}
 use lib.ListN.{length, take, length-append}
-use Rattle.std.specs.Prelude as Std
-use Rattle.std.specs.Prelude.{None, Some, is_some}
 use Rattle.rules.specs.Base.{concat_map}
 use Rattle.rules.specs.File.{Tables}
 use Rattle.rules.specs.Plan as Plan
@@ -20,10 +18,10 @@ use Rattle.encode.specs.Written.{Wrote}
 use Rattle.views.specs.Views.{anchor_of}
 use Rattle.records.specs.Records.{put}
 use Rattle.records.proofs.Stores.{next}
-use Rattle.seek.specs.Seek.{sums_of, counts_of, in_rules, kept, guide_as, guide_of, folded_of, edges_of, level_of}
-use Rattle.seek.specs.declared.Guide as Code
+use Rattle.seek.specs.Seek.{sums_of, counts_of, kept, guide_of, folded_of, edges_of, level_of}
 use Rattle.seek.specs.declared.SeekBuilder.{SeekBuilder}
 use Rattle.level_frame.specs.LevelFrame.{parts_len}
+use Rattle.level_frame.proofs.Seeks.{held, set-held}
 
 module _ (l : SeekBuilder) (T : Tables) where
   -- the head's counts and seek
@@ -79,56 +77,65 @@ module _ (l : SeekBuilder) (T : Tables) where
   unfolding level_of counts_of sums_of joined_bytes
   parts-other j q ej = ej ∙ ap parts-by (sym q)
 
--- no guide
-module _ (l : SeekBuilder) (none-kept : kept l.building l.guide ≡ None) where
-  no-guide : 0 ∷ [] ≡ Plan.guide (guide_of l)
-  unfolding guide_of Plan.guide
-  no-guide = ap (λ (o : Std.Option Code.Guide). Plan.guide (in_rules (guide_as l.path) o)) (sym none-kept)
+-- the guide, by whether it is kept
+module _ (l : SeekBuilder) (k : Bool) (ek : k ≡ kept l.building l.guide.set) where
+  abbrev guided : Bool → List ℕ
+  guided b =
+      Plan.guide
+      (held b (record { path = path_of l.path; term = l.guide.term; distance = l.guide.distance; anchor = anchor_of l.guide.anchor; node = l.guide.node }))
 
-  pub none-size : 1 ≡ length (Plan.guide (guide_of l))
-  none-size = ap length no-guide
+  by-guide : guided k ≡ Plan.guide (guide_of l)
+  unfolding guide_of
+  by-guide = ap guided ek ∙ sym (ap Plan.guide (set-held l.building l.guide.set _))
 
-  pub put-unset : (at : ℕ) (w w1 : List ℕ) → w1 ≡ put w at (0 ∷ []) → Wrote (Plan.guide (guide_of l)) at w (at + 1) w1
-  put-unset at w w1 e = record { place = ap (λ (x : List ℕ). at + length x) no-guide; is = e ∙ ap (put w at) no-guide }
+  module _ (off : k ≡ false) where
+    no-guide : 0 ∷ [] ≡ Plan.guide (guide_of l)
+    unfolding Plan.guide
+    no-guide = ap guided (sym off) ∙ by-guide
 
--- the guide
-module _ (l : SeekBuilder) (g : Code.Guide) (guide-kept : kept l.building l.guide ≡ Some g) where
-  guide-front : List ℕ
-  guide-front = 1 ∷ Plan.path (path_of l.path) ++ Plan.fuzzy g.term g.distance (anchor_of g.anchor)
+    pub none-size : 1 ≡ length (Plan.guide (guide_of l))
+    none-size = ap length no-guide
 
-  some-guide : guide-front ++ u16 g.node ≡ Plan.guide (guide_of l)
-  unfolding guide_of Plan.guide guide-front
-  some-guide = ap (λ (o : Std.Option Code.Guide). Plan.guide (in_rules (guide_as l.path) o)) (sym guide-kept)
+    pub put-unset : (at : ℕ) (w w1 : List ℕ) → w1 ≡ put w at (0 ∷ []) → Wrote (Plan.guide (guide_of l)) at w (at + 1) w1
+    put-unset at w w1 e = record { place = ap (λ (x : List ℕ). at + length x) no-guide; is = e ∙ ap (put w at) no-guide }
 
-  pub guide-size : (n : ℕ) → n ≡ length (Plan.path (path_of l.path)) → n + 7 ≡ length (Plan.guide (guide_of l))
-  unfolding Plan.fuzzy u16 guide-front
-  guide-size n h =
-      omega (
-        arith,
-        ap length some-guide,
-        length-append guide-front (u16 g.node),
-        length-append (1 ∷ Plan.path (path_of l.path)) (Plan.fuzzy g.term g.distance (anchor_of g.anchor)),
-      )
+  module _ (on : k ≡ true) where
+    guide-front : List ℕ
+    guide-front = 1 ∷ Plan.path (path_of l.path) ++ Plan.fuzzy l.guide.term l.guide.distance (anchor_of l.guide.anchor)
 
-  pub put-set : (at p a : ℕ) (w w1 w2 w3 w4 w5 w6 : List ℕ) → w1 ≡ put w at (1 ∷ []) → p ≡ at + 1 + length (Plan.path (path_of l.path))
-      → w2 ≡ put w1 (at + 1) (Plan.path (path_of l.path)) → w3 ≡ put w2 p (u16 g.term) → w4 ≡ put w3 (p + 2) (g.distance ∷ [])
-      → a ≡ Plan.anchor (anchor_of g.anchor)
-      → w5 ≡ put w4 (p + 3) (a ∷ []) → w6 ≡ put w5 (p + 4) (u16 g.node) → Wrote (Plan.guide (guide_of l)) at w (p + 6) w6
-  unfolding Plan.fuzzy u16 guide-front
-  put-set at p a w w1 w2 w3 w4 w5 w6 e1 ep e2 e3 e4 ea e5 e6 =
-      let path = Plan.path (path_of l.path) in
-      let term = u16 g.term in
-      let two : w2 ≡ put w at (1 ∷ path) = next w w1 w2 at (at + 1) (1 ∷ []) path e1 e2 refl in
-      let four : w4 ≡ put w2 p (term ++ (g.distance ∷ [])) = next w2 w3 w4 p (p + 2) term (g.distance ∷ []) e3 e4 refl in
-      let five : w5 ≡ put w2 p (term ++ (g.distance ∷ a ∷ [])) = next w2 w4 w5 p (p + 3) (term ++ (g.distance ∷ [])) (a ∷ []) four e5 refl in
-      let all : w5 ≡ put w at ((1 ∷ path) ++ (term ++ (g.distance ∷ a ∷ []))) =
-      next w w2 w5 at p (1 ∷ path) (term ++ (g.distance ∷ a ∷ [])) two five (omega arith) in
-      let front : w5 ≡ put w at guide-front = all ∙ ap (λ (x : ℕ). put w at ((1 ∷ path) ++ (term ++ (g.distance ∷ x ∷ [])))) ea in
-      let size = length-append (1 ∷ path) (term ++ (g.distance ∷ Plan.anchor (anchor_of g.anchor) ∷ [])) in
-      record {
-        place = omega (arith, ap length some-guide, size, length-append guide-front (u16 g.node));
-        is = next w w5 w6 at (p + 4) guide-front (u16 g.node) front e6 (omega (arith, size)) ∙ ap (put w at) some-guide;
-      }
+    some-guide : guide-front ++ u16 l.guide.node ≡ Plan.guide (guide_of l)
+    unfolding Plan.guide guide-front
+    some-guide = ap guided (sym on) ∙ by-guide
+
+    pub guide-size : (n : ℕ) → n ≡ length (Plan.path (path_of l.path)) → n + 7 ≡ length (Plan.guide (guide_of l))
+    unfolding Plan.fuzzy u16 guide-front
+    guide-size n h =
+        omega (
+          arith,
+          ap length some-guide,
+          length-append guide-front (u16 l.guide.node),
+          length-append (1 ∷ Plan.path (path_of l.path)) (Plan.fuzzy l.guide.term l.guide.distance (anchor_of l.guide.anchor)),
+        )
+
+    pub put-set : (at p a : ℕ) (w w1 w2 w3 w4 w5 w6 : List ℕ) → w1 ≡ put w at (1 ∷ []) → p ≡ at + 1 + length (Plan.path (path_of l.path))
+        → w2 ≡ put w1 (at + 1) (Plan.path (path_of l.path)) → w3 ≡ put w2 p (u16 l.guide.term) → w4 ≡ put w3 (p + 2) (l.guide.distance ∷ [])
+        → a ≡ Plan.anchor (anchor_of l.guide.anchor)
+        → w5 ≡ put w4 (p + 3) (a ∷ []) → w6 ≡ put w5 (p + 4) (u16 l.guide.node) → Wrote (Plan.guide (guide_of l)) at w (p + 6) w6
+    unfolding Plan.fuzzy u16 guide-front
+    put-set at p a w w1 w2 w3 w4 w5 w6 e1 ep e2 e3 e4 ea e5 e6 =
+        let path = Plan.path (path_of l.path) in
+        let term = u16 l.guide.term in
+        let two : w2 ≡ put w at (1 ∷ path) = next w w1 w2 at (at + 1) (1 ∷ []) path e1 e2 refl in
+        let four : w4 ≡ put w2 p (term ++ (l.guide.distance ∷ [])) = next w2 w3 w4 p (p + 2) term (l.guide.distance ∷ []) e3 e4 refl in
+        let five : w5 ≡ put w2 p (term ++ (l.guide.distance ∷ a ∷ [])) = next w2 w4 w5 p (p + 3) (term ++ (l.guide.distance ∷ [])) (a ∷ []) four e5 refl in
+        let all : w5 ≡ put w at ((1 ∷ path) ++ (term ++ (l.guide.distance ∷ a ∷ []))) =
+        next w w2 w5 at p (1 ∷ path) (term ++ (l.guide.distance ∷ a ∷ [])) two five (omega arith) in
+        let front : w5 ≡ put w at guide-front = all ∙ ap (λ (x : ℕ). put w at ((1 ∷ path) ++ (term ++ (l.guide.distance ∷ x ∷ [])))) ea in
+        let size = length-append (1 ∷ path) (term ++ (l.guide.distance ∷ Plan.anchor (anchor_of l.guide.anchor) ∷ [])) in
+        record {
+          place = omega (arith, ap length some-guide, size, length-append guide-front (u16 l.guide.node));
+          is = next w w5 w6 at (p + 4) guide-front (u16 l.guide.node) front e6 (omega (arith, size)) ∙ ap (put w at) some-guide;
+        }
 
 -- the folded comparisons
 taken : (a b : Bool) (i j n : ℕ) → n ≡ length (folded_of a b i j) → folded_of a b i j ≡ take n (i ∷ j ∷ [])
@@ -146,7 +153,7 @@ module _ (l : SeekBuilder) where
   folded-count false true = (refl, omega arith)
   folded-count false false = (refl, omega arith)
 
-  pub folds : (a b : Bool) → a ≡ is_some l.lo → b ≡ is_some l.hi
+  pub folds : (a b : Bool) → a ≡ l.lo.set → b ≡ l.hi.set
       → ((T : Tables) → bool_byte a + bool_byte b ≡ length (level_of T l).edges.folded) × (bool_byte a + bool_byte b ≤ 2)
   unfolding level_of edges_of
   folds a b ea eb = (
@@ -165,7 +172,7 @@ module _ (l : SeekBuilder) where
   tail-is T n e =
       let xs = (level_of T l).edges.folded in
       ap (λ (k : ℕ). u16 k ++ concat_map u16 xs) (sym e)
-      ∙ ap (λ (k : List ℕ). u16 n ++ concat_map u16 k) (taken (is_some l.lo) (is_some l.hi) l.folded.first l.folded.second n e)
+      ∙ ap (λ (k : List ℕ). u16 n ++ concat_map u16 k) (taken l.lo.set l.hi.set l.folded.first l.folded.second n e)
 
   module _ (T : Tables) (at n : ℕ) (w w1 : List ℕ) (e : n ≡ length (level_of T l).edges.folded) (e1 : w1 ≡ put w at (u16 n)) where
     tailed : (m : ℕ) → n ≡ m → tail (level_of T l) ≡ u16 n ++ concat_map u16 (firsts m)

@@ -1,18 +1,18 @@
 -- Which seek a level is, by what is set in it.
 use mathlib.Core.Bool.{Bool, true, false}
 use mathlib.Core.Path.{◌≡◌, refl, sym, ap, ◌∙◌}
+use Prim.Native.Nat.{ℕ}
 use lib.Dec.{eqb}
 use denote.Enum.Declared.{tag_of}
 use denote.Enum.Bare.{sameb}
-use Rattle.std.specs.Prelude as Std
-use Rattle.std.specs.Prelude.{None, Some, is_some, ◌||◌, Option}
-use Rattle.rules.specs.File.{Tables}
+use Rattle.std.specs.Prelude.{None, Some, ◌||◌, Option}
+use Rattle.rules.specs.File.{Tables, name_at}
+use Rattle.rules.specs.Constant.{encode_prefix}
 use Rattle.rules.specs.Placement.{Range, RangeEdge}
 use Rattle.rules.proofs.Cases.{true≢false}
 use Rattle.state.specs.Levels.{seek_number, seek_of, joins, joining}
-use Rattle.seek.specs.Seek.{in_rules, kept, range_as, range_of, edge_of, edges_of, level_of}
-use Rattle.seek.specs.declared.Edge.{Edge}
-use Rattle.seek.specs.declared.Range as Code
+use Rattle.paths.specs.Paths.{path_of}
+use Rattle.seek.specs.Seek.{set_in, kept, range_of, edge_of, edges_of, level_of}
 use Rattle.seek.specs.declared.SeekBuilder.{SeekBuilder}
 use Rattle.level_frame.specs.LevelFrame.{number_of}
 use Rattle.level_frame.specs.contracts.SeekKind as Kinds
@@ -32,28 +32,31 @@ prefix_is Kind.Composite = refl
 prefix_is Kind.PrefixRange = refl
 prefix_is Kind.Bounded = refl
 
-module _ (T : Tables) (p : Bool) (r : Option Range) where
-  edge-bounds : (lo hi : Std.Option Edge) → (is_some lo || is_some hi) ≡ true → 3 ≡ seek_number p r (edge_of T lo) (edge_of T hi)
-  unfolding seek_number edge_of
-  edge-bounds (Some x) hi h = refl
-  edge-bounds None (Some y) h = refl
-  edge-bounds None None h = absurd (true≢false (sym h))
+module _ {A : Type 0} where
+  -- what is set, by whether it is
+  abbrev pub held : Bool → A → Option A
+  held b x = elim b [ true ↦ Some x | false ↦ None ]
 
-  edgeless : (lo hi : Std.Option Edge) → (is_some lo || is_some hi) ≡ false → seek_number p r (edge_of T lo) (edge_of T hi) ≡ seek_number p r None None
-  unfolding edge_of
-  edgeless (Some x) hi h = absurd (true≢false h)
-  edgeless None (Some y) h = absurd (true≢false h)
-  edgeless None None h = refl
+  pub set-held : (b s : Bool) (x : A) → set_in b s x ≡ held (kept b s) x
+  unfolding set_in kept
+  set-held true s x = refl
+  set-held false s x = refl
 
-module _ (f : Code.Range → Range) where
-  ranged : (p : Bool) (r : Std.Option Code.Range) → is_some r ≡ true → seek_number p (in_rules f r) None None ≡ 2
+-- a level's range, whether it is kept or not
+abbrev pub range_in : Tables → SeekBuilder → Range
+range_in T l = record { path = path_of l.path; prefix = encode_prefix (name_at T l.range.name); node = l.range.node }
+
+module _ (p : Bool) (r : Option Range) (e f : RangeEdge) where
+  edge-bounds : (lo hi : Bool) → (lo || hi) ≡ true → 3 ≡ seek_number p r (held lo e) (held hi f)
   unfolding seek_number
-  ranged p (Some x) h = refl
-  ranged p None h = absurd (true≢false (sym h))
+  edge-bounds true hi h = refl
+  edge-bounds false true h = refl
+  edge-bounds false false h = absurd (true≢false (sym h))
 
-  unranged : (p : Bool) (r : Std.Option Code.Range) → is_some r ≡ false → seek_number p (in_rules f r) None None ≡ seek_number p None None None
-  unranged p (Some x) h = absurd (true≢false h)
-  unranged p None h = refl
+  edgeless : (lo hi : Bool) → (lo || hi) ≡ false → seek_number p r (held lo e) (held hi f) ≡ seek_number p r None None
+  edgeless true hi h = absurd (true≢false h)
+  edgeless false true h = absurd (true≢false h)
+  edgeless false false h = refl
 
 joins-is : (p : Bool) (r : Option Range) (lo hi : Option RangeEdge) → joins p r lo hi ≡ eqb (seek_number p r lo hi) 0
 unfolding joins seek_number
@@ -69,24 +72,28 @@ module _ (l : SeekBuilder) (T : Tables) where
   unfolding joining seek_of
   joining-is = joins-is _ _ _ _
 
-  pub bounded : (is_some l.lo || is_some l.hi) ≡ true → 3 ≡ seek_of (level_of T l)
-  unfolding seek_of level_of edges_of
-  bounded h = edge-bounds T l.plain (range_of T l) l.lo l.hi h
+  pub bounded : (l.lo.set || l.hi.set) ≡ true → 3 ≡ seek_of (level_of T l)
+  unfolding seek_of level_of edges_of edge_of
+  bounded h = edge-bounds l.plain (range_of T l) _ _ l.lo.set l.hi.set h
 
-  module _ (h : (is_some l.lo || is_some l.hi) ≡ false) (r : Std.Option Code.Range) (er : r ≡ kept l.building l.range) where
-    bare : seek_of (level_of T l) ≡ seek_number l.plain (in_rules (range_as T l.path) r) None None
-    unfolding seek_of level_of edges_of range_of
+  module _ (h : (l.lo.set || l.hi.set) ≡ false) (r : Bool) (er : r ≡ kept l.building l.range.set) where
+    abbrev ranged : Bool → ℕ
+    ranged b = seek_number l.plain (held b (range_in T l)) None None
+
+    bare : seek_of (level_of T l) ≡ ranged r
+    unfolding seek_of level_of edges_of edge_of range_of
     bare =
-        edgeless T l.plain (range_of T l) l.lo l.hi h
-        ∙ ap (λ (x : Std.Option Code.Range). seek_number l.plain (in_rules (range_as T l.path) x) None None) (sym er)
+        edgeless l.plain (range_of T l) _ _ l.lo.set l.hi.set h
+        ∙ ap (λ (o : Option Range). seek_number l.plain o None None) (set-held l.building l.range.set (range_in T l)) ∙ ap ranged (sym er)
 
-    pub with-range : is_some r ≡ true → 2 ≡ seek_of (level_of T l)
-    with-range e = sym (bare ∙ ranged (range_as T l.path) l.plain r e)
-
-    pub plain-parts : is_some r ≡ false → l.plain ≡ true → 0 ≡ seek_of (level_of T l)
+    pub with-range : r ≡ true → 2 ≡ seek_of (level_of T l)
     unfolding seek_number
-    plain-parts e f = sym (bare ∙ unranged (range_as T l.path) l.plain r e ∙ ap (λ (x : Bool). seek_number x None None None) f)
+    with-range e = sym (bare ∙ ap ranged e)
 
-    pub other-parts : is_some r ≡ false → l.plain ≡ false → 1 ≡ seek_of (level_of T l)
+    pub plain-parts : r ≡ false → l.plain ≡ true → 0 ≡ seek_of (level_of T l)
     unfolding seek_number
-    other-parts e f = sym (bare ∙ unranged (range_as T l.path) l.plain r e ∙ ap (λ (x : Bool). seek_number x None None None) f)
+    plain-parts e f = sym (bare ∙ ap ranged e ∙ ap (λ (x : Bool). seek_number x None None None) f)
+
+    pub other-parts : r ≡ false → l.plain ≡ false → 1 ≡ seek_of (level_of T l)
+    unfolding seek_number
+    other-parts e f = sym (bare ∙ ap ranged e ∙ ap (λ (x : Bool). seek_number x None None None) f)

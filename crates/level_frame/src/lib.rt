@@ -1,22 +1,22 @@
 // What stands in the plan around a level's parts and residuals: its sizes, and its bytes, from the level as it was measured.
 #![tactic(auto)]
 
-ghost use Rattle.std.specs.Prelude.{◌≡◌, ◌+◌, ◌≤◌, ◌<◌, ◌||◌, is_some, min, length};
+ghost use Rattle.std.specs.Prelude.{◌≡◌, ◌+◌, ◌≤◌, ◌<◌, ◌||◌, min, length};
 ghost use Rattle.rules.specs.Limits.{plan_limit};
 ghost use Rattle.rules.specs.File.{Tables};
 ghost use Rattle.rules.specs.Plan as Plan;
 ghost use Rattle.state.specs.Levels.{seek_of, joining, head, middle, tail};
 ghost use Rattle.state.specs.Levels as StateLevels;
-ghost use Rattle.file.specs.Tables.{tables_of};
-ghost use Rattle.accepted_file.specs.AcceptedFile.{AcceptedFile};
+ghost use Rattle.accepted_file.specs.Tables.{accepted_tables};
 ghost use Rattle.constant.specs.Sizes.{cap};
 ghost use Rattle.encode.specs.Written.{Wrote};
 ghost use Rattle.records.specs.Records.{put, longest_path};
 ghost use Rattle.seek.specs.Seek.{guide_of, level_of};
 ghost use Rattle.level_frame.specs.LevelFrame.{number_of, between_of, parts_len, frame_of};
 
+use accepted_file::AcceptedFile;
 use constant::capped;
-use records::{anchor_byte, path_size, put_path, put8, put16, wide32};
+use records::{anchor_byte, path_size, put_path, put8, put16};
 use seek::{SeekBuilder, kept};
 use texts::{edge_len, prefix_text_len, put_edge, put_prefix_text};
 
@@ -42,9 +42,9 @@ pub enum SeekKind {
 
 // Whether a level has an edge.
 fn is_bounded(l: SeekBuilder) -> bool
-    ensures { result ≡ (is_some l.lo || is_some l.hi) }
+    ensures { result ≡ (l.lo.set || l.hi.set) }
 {
-    l.lo.is_some() || l.hi.is_some()
+    l.lo.set || l.hi.set
 }
 
 // The kind of a level's seek.
@@ -54,7 +54,7 @@ pub fn seek_kind(l: SeekBuilder) -> SeekKind
     if is_bounded(l) {
         return SeekKind::Bounded;
     }
-    if kept(l.building, l.range).is_some() {
+    if kept(l.building, l.range.set) {
         return SeekKind::PrefixRange;
     }
     if l.plain {
@@ -83,13 +83,13 @@ fn put_head(plan: &mut [u8], at: usize, l: SeekBuilder)
     ensures { (T : Tables) → plan.new ≡ put plan.old at (head (level_of T l)) }
 {
     let c = l.counts;
-    let closers = wide32(c.closers);
-    put16(plan, at, wide32(c.narrowings));
+    let closers = c.closers as usize;
+    put16(plan, at, c.narrowings as usize);
     put16(plan, at + 2, closers);
-    put16(plan, at + 4, closers + wide32(c.others));
+    put16(plan, at + 4, closers + c.others as usize);
     put8(plan, at + 6, seek_kind(l) as u8);
     if is_joining(l) {
-        put16(plan, at + 7, wide32(c.joined));
+        put16(plan, at + 7, c.joined as usize);
     }
 }
 
@@ -98,11 +98,11 @@ fn parts_len(l: SeekBuilder) -> usize
     ensures { ((T : Tables) → result ≡ parts_len (level_of T l)) × (result < 34359738368) }
 {
     let c = l.counts;
-    let joined = wide32(c.joined);
+    let joined = c.joined as usize;
     if is_joining(l) {
-        joined + 2 * (wide32(c.closers) + wide32(c.others))
+        joined + 2 * (c.closers as usize + c.others as usize)
     } else {
-        joined + wide32(c.framed)
+        joined + c.framed as usize
     }
 }
 
@@ -110,9 +110,10 @@ fn parts_len(l: SeekBuilder) -> usize
 fn guide_len(l: SeekBuilder) -> usize
     ensures { (result ≡ length (Plan.guide (guide_of l))) × (result ≤ longest_path + 7) }
 {
-    match kept(l.building, l.guide) {
-        Some(_) => path_size(l.path) + 7,
-        None => 1,
+    if kept(l.building, l.guide.set) {
+        path_size(l.path) + 7
+    } else {
+        1
     }
 }
 
@@ -120,20 +121,18 @@ fn put_guide(plan: &mut [u8], at: usize, l: SeekBuilder) -> usize
     requires { at ≤ 1048576 }
     ensures { Wrote (Plan.guide (guide_of l)) at plan.old result plan.new }
 {
-    match kept(l.building, l.guide) {
-        Some(g) => {
-            put8(plan, at, 1);
-            let p = put_path(plan, at + 1, l.path);
-            put16(plan, p, g.term);
-            put8(plan, p + 2, g.distance);
-            put8(plan, p + 3, anchor_byte(g.anchor));
-            put16(plan, p + 4, g.node);
-            p + 6
-        }
-        None => {
-            put8(plan, at, 0);
-            at + 1
-        }
+    let g = l.guide;
+    if kept(l.building, g.set) {
+        put8(plan, at, 1);
+        let p = put_path(plan, at + 1, l.path);
+        put16(plan, p, g.term);
+        put8(plan, p + 2, g.distance);
+        put8(plan, p + 3, anchor_byte(g.anchor));
+        put16(plan, p + 4, g.node);
+        p + 6
+    } else {
+        put8(plan, at, 0);
+        at + 1
     }
 }
 
@@ -141,7 +140,7 @@ fn put_guide(plan: &mut [u8], at: usize, l: SeekBuilder) -> usize
 fn folded_count(l: SeekBuilder) -> usize
     ensures { ((T : Tables) → result ≡ length (level_of T l).edges.folded) × (result ≤ 2) }
 {
-    l.lo.is_some() as usize + l.hi.is_some() as usize
+    l.lo.set as usize + l.hi.set as usize
 }
 
 fn tail_len(l: SeekBuilder) -> usize
@@ -169,73 +168,68 @@ fn put_tail(plan: &mut [u8], at: usize, l: SeekBuilder)
 }
 
 // A range's text, path and node, or the two edges, up to the cap.
-fn between_len(file: &[u8], index: &[u16], l: SeekBuilder) -> usize
-    requires { AcceptedFile file.now index.now }
-    ensures { result ≡ min cap (length (between_of (level_of (tables_of file.now) l))) }
+fn between_len(file: &AcceptedFile, l: SeekBuilder) -> usize
+    ensures { result ≡ min cap (length (between_of (level_of (accepted_tables file.now) l))) }
 {
     if is_bounded(l) {
-        return capped(edge_len(file, index, l.lo), edge_len(file, index, l.hi));
+        return capped(edge_len(file, l.lo), edge_len(file, l.hi));
     }
-    match kept(l.building, l.range) {
-        Some(r) => capped(
-            prefix_text_len(file, index, r.name as usize),
+    let r = l.range;
+    if kept(l.building, r.set) {
+        return capped(
+            prefix_text_len(file, r.name as usize),
             path_size(l.path) + 2,
-        ),
-        None => 0,
+        );
     }
+    0
 }
 
-fn put_between(file: &[u8], index: &[u16], plan: &mut [u8], at: usize, l: SeekBuilder) -> usize
-    requires accepted_file { AcceptedFile file.now index.now }
-    requires at_le_plan_limit { (at ≤ plan_limit) × (length (between_of (level_of (tables_of file.now) l)) ≤ cap) }
-    ensures { Wrote (between_of (level_of (tables_of file.now) l)) at plan.old result plan.new }
+fn put_between(file: &AcceptedFile, plan: &mut [u8], at: usize, l: SeekBuilder) -> usize
+    requires { (at ≤ plan_limit) × (length (between_of (level_of (accepted_tables file.now) l)) ≤ cap) }
+    ensures { Wrote (between_of (level_of (accepted_tables file.now) l)) at plan.old result plan.new }
 {
     if is_bounded(l) {
-        let p = put_edge(file, index, plan, at, l.lo);
-        return put_edge(file, index, plan, p, l.hi);
+        let p = put_edge(file, plan, at, l.lo);
+        return put_edge(file, plan, p, l.hi);
     }
-    match kept(l.building, l.range) {
-        Some(r) => {
-            let p = put_prefix_text(file, index, plan, at, r.name as usize);
-            let q = put_path(plan, p, l.path);
-            put16(plan, q, r.node);
-            q + 2
-        }
-        None => at,
+    let r = l.range;
+    if kept(l.building, r.set) {
+        let p = put_prefix_text(file, plan, at, r.name as usize);
+        let q = put_path(plan, p, l.path);
+        put16(plan, q, r.node);
+        return q + 2;
     }
+    at
 }
 
 // The bytes between parts and residuals, up to the cap.
-fn middle_len(file: &[u8], index: &[u16], l: SeekBuilder) -> usize
-    requires { AcceptedFile file.now index.now }
-    ensures { result ≡ min cap (length (middle (level_of (tables_of file.now) l))) }
+fn middle_len(file: &AcceptedFile, l: SeekBuilder) -> usize
+    ensures { result ≡ min cap (length (middle (level_of (accepted_tables file.now) l))) }
 {
-    capped(between_len(file, index, l), guide_len(l) + 2)
+    capped(between_len(file, l), guide_len(l) + 2)
 }
 
-fn put_middle(file: &[u8], index: &[u16], plan: &mut [u8], at: usize, l: SeekBuilder)
-    requires accepted_file { AcceptedFile file.now index.now }
-    requires at_le_plan_limit { (at ≤ plan_limit) × (length (middle (level_of (tables_of file.now) l)) ≤ cap) }
-    ensures { plan.new ≡ put plan.old at (middle (level_of (tables_of file.now) l)) }
+fn put_middle(file: &AcceptedFile, plan: &mut [u8], at: usize, l: SeekBuilder)
+    requires { (at ≤ plan_limit) × (length (middle (level_of (accepted_tables file.now) l)) ≤ cap) }
+    ensures { plan.new ≡ put plan.old at (middle (level_of (accepted_tables file.now) l)) }
 {
     let c = l.counts;
-    let p = put_between(file, index, plan, at, l);
+    let p = put_between(file, plan, at, l);
     let q = put_guide(plan, p, l);
-    put16(plan, q, wide32(c.residuals));
+    put16(plan, q, c.residuals as usize);
 }
 
 // Where a level that begins at a place has its parts, their nodes, middle, residuals and tail, and where it ends.
-pub fn measure(file: &[u8], index: &[u16], at: usize, l: SeekBuilder) -> Frame
-    requires accepted_file { AcceptedFile file.now index.now }
-    requires at_le_plan_limit { at ≤ plan_limit }
-    ensures { result ≡ frame_of at (level_of (tables_of file.now) l) }
+pub fn measure(file: &AcceptedFile, at: usize, l: SeekBuilder) -> Frame
+    requires { at ≤ plan_limit }
+    ensures { result ≡ frame_of at (level_of (accepted_tables file.now) l) }
 {
     let c = l.counts;
     let parts = at + head_len(l);
-    let nodes = parts + wide32(c.joined);
+    let nodes = parts + c.joined as usize;
     let middle = parts + parts_len(l);
-    let rest = middle + middle_len(file, index, l);
-    let tail = rest + wide32(c.rest);
+    let rest = middle + middle_len(file, l);
+    let tail = rest + c.rest as usize;
     let end = tail + tail_len(l);
     Frame {
         parts,
@@ -248,12 +242,11 @@ pub fn measure(file: &[u8], index: &[u16], at: usize, l: SeekBuilder) -> Frame
 }
 
 // Writes a level's bytes but for its parts and residuals, where it fits a plan.
-pub fn put_frame(file: &[u8], index: &[u16], plan: &mut [u8], at: usize, f: Frame, l: SeekBuilder)
-    requires accepted_file { AcceptedFile file.now index.now }
-    requires f_value { (f ≡ frame_of at (level_of (tables_of file.now) l)) × (f.end ≤ plan_limit) }
-    ensures { plan.new ≡ StateLevels.frame at (level_of (tables_of file.now) l) plan.old }
+pub fn put_frame(file: &AcceptedFile, plan: &mut [u8], at: usize, f: Frame, l: SeekBuilder)
+    requires { (f ≡ frame_of at (level_of (accepted_tables file.now) l)) × (f.end ≤ plan_limit) }
+    ensures { plan.new ≡ StateLevels.frame at (level_of (accepted_tables file.now) l) plan.old }
 {
     put_head(plan, at, l);
-    put_middle(file, index, plan, f.middle, l);
+    put_middle(file, plan, f.middle, l);
     put_tail(plan, f.tail, l);
 }

@@ -7,23 +7,23 @@ ghost use Rattle.rules.specs.Limits.{plan_limit};
 ghost use Rattle.rules.specs.File.{Tables};
 ghost use Rattle.state.specs.State.{new_level, no_target, state};
 ghost use Rattle.state.specs.Levels as StateLevels;
-ghost use Rattle.file.specs.Tables.{tables_of};
 ghost use Rattle.views.specs.Views.{level_entry_at};
-ghost use Rattle.accepted_file.specs.AcceptedFile.{AcceptedFile};
+ghost use Rattle.accepted_file.specs.Tables.{accepted_tables};
 ghost use Rattle.seek.specs.Seek.{level_of, target_of, new_builder};
 ghost use Rattle.lists.specs.Lists.{ends_of, state_with, overrun};
 ghost use Rattle.level_frame.specs.LevelFrame.{frame_of};
 ghost use Rattle.walk.specs.Walk.{walk_state, with_lists};
 ghost use Rattle.levels.specs.Written.{unleveled, between_levels, written_of};
 
+use accepted_file::AcceptedFile;
+use file::Section;
 use key::key;
 use level_frame::{Frame, is_joining, measure, put_frame};
 use lists::{Ends, Lists};
 use page::{PAGE, is_paged, paging, put_page};
 use plan_lists::{lists_len, put_lists};
-use records::{put16, wide32};
+use records::put16;
 use seek::{SeekBuilder, Target};
-use views::{count_of, level_at, predicate_of};
 use walk::Walk;
 
 const PLAN_LIMIT: usize = 16384;
@@ -46,18 +46,17 @@ fn begun(over: bool, ends: Ends, target: Target) -> Walk
 }
 
 // The walk of level k.
-fn walked(file: &[u8], index: &[u16], work: &mut [u8], plan: &mut [u8], k: usize, w: Walk) -> Walk
-    requires accepted_file { AcceptedFile file.now index.now }
-    requires k_in_bounds { k < length (tables_of file.now).levels }
-    ensures { let T = tables_of file.now in
+fn walked(file: &AcceptedFile, work: &mut [u8], plan: &mut [u8], k: usize, w: Walk) -> Walk
+    requires { k < length (accepted_tables file.now).levels }
+    ensures { let T = accepted_tables file.now in
         let before = walk_state T w work.old plan.old in
         let after = walk_state T result work.new plan.new in
         after ≡ StateLevels.walked T (level_entry_at T k) before }
 {
-    let e = level_at(file, index, k);
-    let p = predicate_of(file, index, e.predicate);
+    let e = file.tables.level_at(k);
+    let p = file.tables.predicate_of(e.predicate);
     let address = e.address;
-    key(file, index, work, plan, e.node, p.key, address, w)
+    key(file, work, plan, e.node, p.key, address, w)
 }
 
 // A level's place in the plan, as it was measured.
@@ -78,8 +77,7 @@ fn writing(f: Frame, l: SeekBuilder) -> Target
 // The level's frame and what its walk wrote to the page, in the plan. A level that is too long for the page is walked once more, from the
 // lists as they were, and written at its place.
 fn placed(
-    file: &[u8],
-    index: &[u16],
+    file: &AcceptedFile,
     work: &mut [u8],
     plan: &mut [u8],
     page: &[u8],
@@ -89,10 +87,9 @@ fn placed(
     m: Walk,
     ends: Ends,
 ) -> Lists
-    requires accepted_file { AcceptedFile file.now index.now }
-    requires k_in_bounds { k < length (tables_of file.now).levels }
-    requires f_value { (f ≡ frame_of at (level_of (tables_of file.now) m.level)) × (f.end ≤ plan_limit) }
-    ensures { let T = tables_of file.now in
+    requires k_in_bounds { k < length (accepted_tables file.now).levels }
+    requires f_value { (f ≡ frame_of at (level_of (accepted_tables file.now) m.level)) × (f.end ≤ plan_limit) }
+    ensures { let T = accepted_tables file.now in
         let walked = walk_state T m work.old page.now in
         let after = state_with result new_level no_target work.new plan.new in
         after ≡ unleveled (StateLevels.placed T (level_entry_at T k) (ends_of ends) at plan.old walked) }
@@ -100,12 +97,12 @@ fn placed(
     let l = m.level;
     let c = l.counts;
     let t = writing(f, l);
-    put_frame(file, index, plan, at, f, l);
+    put_frame(file, plan, at, f, l);
     if is_paged(c) {
         put_page(page, plan, t, c);
         return m.lists();
     }
-    let r = walked(file, index, work, plan, k, begun(l.over, ends, t));
+    let r = walked(file, work, plan, k, begun(l.over, ends, t));
     r.lists()
 }
 
@@ -120,8 +117,7 @@ fn stopped(at: usize, l: Lists) -> Written
 
 // A level that was walked onto the page: in the plan, if it fits.
 fn ended(
-    file: &[u8],
-    index: &[u16],
+    file: &AcceptedFile,
     work: &mut [u8],
     plan: &mut [u8],
     page: &[u8],
@@ -130,9 +126,8 @@ fn ended(
     ends: Ends,
     m: Walk,
 ) -> Written
-    requires accepted_file { AcceptedFile file.now index.now }
-    requires k_in_bounds { (k < length (tables_of file.now).levels) × (at ≤ plan_limit) }
-    ensures writes { let T = tables_of file.now in
+    requires { (k < length (accepted_tables file.now).levels) × (at ≤ plan_limit) }
+    ensures writes { let T = accepted_tables file.now in
         let walked = walk_state T m work.old page.now in
         let after = written_of result work.new plan.new page.now in
         after ≡ between_levels (StateLevels.ended T (level_entry_at T k) (ends_of ends) at plan.old walked) }
@@ -143,7 +138,7 @@ fn ended(
         return Written { at, lists };
     }
     let l = m.level;
-    let f = measure(file, index, at, l);
+    let f = measure(file, at, l);
     let end = f.end;
     if end > PLAN_LIMIT {
         return stopped(at, lists);
@@ -151,7 +146,7 @@ fn ended(
     if end > plan.len() {
         return stopped(at, lists);
     }
-    let left = placed(file, index, work, plan, page, k, at, f, m, ends);
+    let left = placed(file, work, plan, page, k, at, f, m, ends);
     Written {
         at: end,
         lists: left,
@@ -160,17 +155,15 @@ fn ended(
 
 // Level k: walked onto the page, then written.
 fn level(
-    file: &[u8],
-    index: &[u16],
+    file: &AcceptedFile,
     work: &mut [u8],
     plan: &mut [u8],
     page: &mut [u8],
     k: usize,
     w: Written,
 ) -> Written
-    requires accepted_file { AcceptedFile file.now index.now }
-    requires k_in_bounds { (k < length (tables_of file.now).levels) × (w.at ≤ plan_limit) }
-    ensures writes { let T = tables_of file.now in
+    requires { (k < length (accepted_tables file.now).levels) × (w.at ≤ plan_limit) }
+    ensures writes { let T = accepted_tables file.now in
         let before = written_of w work.old plan.old page.old in
         let after = written_of result work.new plan.new page.new in
         after ≡ between_levels (StateLevels.level T (level_entry_at T k) before) }
@@ -178,41 +171,32 @@ fn level(
 {
     let lists = w.lists;
     let ends = lists.ends;
-    let m = walked(
-        file,
-        index,
-        work,
-        page,
-        k,
-        begun(lists.over, ends, paging()),
-    );
-    ended(file, index, work, plan, &page[..], k, w.at, ends, m)
+    let m = walked(file, work, page, k, begun(lists.over, ends, paging()));
+    ended(file, work, plan, &page[..], k, w.at, ends, m)
 }
 
 // The levels in order; once the plan is too long no level is walked.
 fn levels(
-    file: &[u8],
-    index: &[u16],
+    file: &AcceptedFile,
     work: &mut [u8],
     plan: &mut [u8],
     page: &mut [u8],
     start: Written,
 ) -> Written
-    requires accepted_file { AcceptedFile file.now index.now }
-    requires at_le_plan_limit { start.at ≤ plan_limit }
-    ensures writes { let T = tables_of file.now in
+    requires { start.at ≤ plan_limit }
+    ensures writes { let T = accepted_tables file.now in
         let before = written_of start work.old plan.old page.old in
         let after = written_of result work.new plan.new page.new in
         after ≡ between_levels (StateLevels.levels T T.levels before) }
     ensures bounded { result.at ≤ plan_limit }
 {
     let mut w = start;
-    for k in 0..count_of(file, index, file::LEVELS) {
+    for k in 0..file.tables.count_of(Section::Levels) {
         let lists = w.lists;
         if lists.over {
             return w;
         }
-        w = level(file, index, work, plan, page, k, w);
+        w = level(file, work, plan, page, k, w);
     }
     w
 }
@@ -243,13 +227,12 @@ fn finished(work: &[u8], plan: &mut [u8], w: Written) -> Written
 }
 
 // Writes the whole plan: the levels, then the four lists.
-pub fn write(file: &[u8], index: &[u16], work: &mut [u8], plan: &mut [u8]) -> Written
-    requires { AcceptedFile file.now index.now }
-    ensures { let T = tables_of file.now in
+pub fn write(file: &AcceptedFile, work: &mut [u8], plan: &mut [u8]) -> Written
+    ensures { let T = accepted_tables file.now in
         let after = written_of result work.new plan.new [] in
         after ≡ between_levels (StateLevels.compiled T work.old plan.old) }
 {
-    put16(plan, 0, count_of(file, index, file::LEVELS));
+    put16(plan, 0, file.tables.count_of(Section::Levels));
     let ends = Ends {
         bindings: 0,
         binding_count: 0,
@@ -260,7 +243,8 @@ pub fn write(file: &[u8], index: &[u16], work: &mut [u8], plan: &mut [u8]) -> Wr
     };
     let lists = Lists { over: false, ends };
     let start = Written { at: 2, lists };
+    // No heap: on the stack.
     let mut page = [0u8; PAGE];
-    let w = levels(file, index, work, plan, &mut page, start);
+    let w = levels(file, work, plan, &mut page, start);
     finished(&work[..], plan, w)
 }

@@ -1,4 +1,5 @@
-// The line that program `plan` prints, and hex read back.
+// The line that program `plan` prints, and hex read back. Digit by digit and by no Display: the line stands in a lent buffer, and clauses
+// give its bytes.
 #![tactic(auto)]
 
 ghost use Rattle.std.specs.Prelude.{◌≡◌, ◌*◌, ◌≤◌, ◌<◌, length};

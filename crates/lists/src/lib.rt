@@ -16,22 +16,23 @@ ghost use Rattle.state.specs.Ops as Ops;
 ghost use Rattle.state.specs.Ops.{checked_slot, ops};
 ghost use Rattle.rules.specs.Read.{binding};
 ghost use Rattle.file.specs.Steps.{word, step_at};
-ghost use Rattle.file.specs.Tables.{tables_of};
+ghost use Rattle.file.specs.Sections.{number_of};
 ghost use Rattle.paths.specs.Paths.{path_of};
 ghost use Rattle.views.specs.Views as Views;
 ghost use Rattle.views.specs.Views.{size_of, predicate_maybe, predicate_option, path_at, slot_view, PathInside, SlotInside};
-ghost use Rattle.accepted_file.specs.AcceptedFile.{AcceptedFile};
+ghost use Rattle.accepted_file.specs.Tables.{accepted_tables};
 ghost use Rattle.tables.specs.Tables.{SeenSlot};
 ghost use Rattle.slots.specs.Slots.{slot_of, Stands, IsSlot};
 ghost use Rattle.records.specs.Records.{put, reach, longest_path};
 ghost use Rattle.lists.specs.Lists.{state_with, overrun, code_of, fits_tables, plain_sizes, end_of, named_at};
 ghost use Rattle.lists.specs.Lists.{slot_from, made_place, view_at, Readable, SeenAt, SeenView, ShortSlot};
 
-use file::{DEPTH_LIMIT, DEPTHS, wide, wide16, word_at};
+use accepted_file::AcceptedFile;
+use file::{DEPTH_LIMIT, DEPTHS, Section, word_at};
 use paths::{Address, FieldPath, PredicateId};
-use records::{path_size, put_path, put8, put16, put32, wide32, word_in};
+use records::{path_size, put_path, put8, put16, put32, word_in};
 use slots::{Slot, SlotKind};
-use views::{SlotView, count_of, path_at};
+use views::{SlotView, path_at};
 
 // How far each list has come in the work area: where one that grows up ends, where the newest record of one that grows down begins; and how
 // many records the two have whose records differ in length.
@@ -47,13 +48,14 @@ pub struct Ends {
 
 #[derive(Clone, Copy)]
 pub struct Lists {
+    // A flag, as in the written walk: where it is set, lists and level stay as they are, and an Err would lose them.
     pub over: bool,
     pub ends: Ends,
 }
 
 #[derive(Clone, Copy)]
 pub enum Code {
-    NyiDisjunction,
+    NyiDisjunction = 1,
     NyiFactField,
     NyiNever,
     NyiRepeatedVariable,
@@ -87,19 +89,7 @@ fn stopped(l: Lists) -> Lists
 fn code_number(code: Code) -> u8
     ensures { result ≡ code_number (code_of code) }
 {
-    match code {
-        Code::NyiDisjunction => 1,
-        Code::NyiFactField => 2,
-        Code::NyiNever => 3,
-        Code::NyiRepeatedVariable => 4,
-        Code::NyiValueField => 5,
-        Code::NyiValueMatch => 6,
-        Code::NyiWholeKey => 7,
-        Code::RejectTypeMismatch => 8,
-        Code::RejectUnionArity => 9,
-        Code::RejectUnknownAlternative => 10,
-        Code::RejectUnresolvedAccess => 11,
-    }
+    code as u8
 }
 
 // Appends a diagnostic, below the others.
@@ -114,8 +104,8 @@ pub fn report(work: &mut [u8], l: Lists, node: usize, code: Code) -> Lists
         return l;
     }
     let mut ends = l.ends;
-    let top = wide32(ends.diagnostics);
-    if wide32(ends.selects) + 3 > top {
+    let top = ends.diagnostics as usize;
+    if ends.selects as usize + 3 > top {
         return stopped(l);
     }
     let at = top - 3;
@@ -139,8 +129,8 @@ pub fn constrained(work: &mut [u8], l: Lists, name: usize) -> Lists
         return l;
     }
     let mut ends = l.ends;
-    let top = wide32(ends.constrained);
-    if wide32(ends.bindings) + 2 > top {
+    let top = ends.constrained as usize;
+    if ends.bindings as usize + 2 > top {
         return stopped(l);
     }
     let at = top - 2;
@@ -167,12 +157,12 @@ pub fn select(work: &mut [u8], l: Lists, address: Address, path: FieldPath, disc
     if count >= COUNT_LIMIT {
         return stopped(l);
     }
-    let at = wide32(ends.selects);
+    let at = ends.selects as usize;
     let end = at + path_size(path) + 6;
-    if end > wide32(ends.diagnostics) {
+    if end > ends.diagnostics as usize {
         return stopped(l);
     }
-    put16(work, at, wide16(address.0));
+    put16(work, at, usize::from(address.0));
     let q = put_path(work, at + 2, path);
     put32(work, q, disc);
     ends.selects = end as u32;
@@ -186,10 +176,7 @@ pub fn select(work: &mut [u8], l: Lists, address: Address, path: FieldPath, disc
 fn predicate_number(p: Option<PredicateId>) -> usize
     ensures { result ≡ unwrap_or (predicate_option p) 65535 }
 {
-    match p {
-        None => 65535,
-        Some(id) => wide16(id.0),
-    }
+    p.map_or(65535, |id| usize::from(id.0))
 }
 
 fn slot_size(slot: Slot) -> usize
@@ -203,7 +190,7 @@ fn slot_size(slot: Slot) -> usize
     }
 }
 
-// A kind, and one number or two.
+// A kind, and one number or two. The kind is the plan's own byte and is written as it is.
 fn put_one(work: &mut [u8], at: usize, kind: u8, a: usize)
     requires { at ≤ 2 * reach }
     ensures { work.new ≡ put work.old at (kind ∷ Plan.u16 a) }
@@ -224,7 +211,7 @@ fn put_field(work: &mut [u8], at: usize, address: Address, path: FieldPath, ty: 
     requires { at ≤ reach }
     ensures { work.new ≡ put work.old at (3 ∷ Plan.u16 address.0 ++ Plan.path (path_of path) ++ Plan.u16 ty) }
 {
-    put_one(work, at, 3, wide16(address.0));
+    put_one(work, at, 3, usize::from(address.0));
     let q = put_path(work, at + 3, path);
     put16(work, q, ty);
 }
@@ -235,11 +222,11 @@ fn put_slot(work: &mut [u8], at: usize, slot: Slot)
 {
     let kind = slot.kind;
     match kind {
-        SlotKind::Row(a, p) => put_two(work, at, 0, wide16(a.0), predicate_number(p)),
-        SlotKind::Key(a, t) => put_two(work, at, 1, wide16(a.0), t),
-        SlotKind::Derived(a) => put_one(work, at, 2, wide16(a.0)),
+        SlotKind::Row(a, p) => put_two(work, at, 0, usize::from(a.0), predicate_number(p)),
+        SlotKind::Key(a, t) => put_two(work, at, 1, usize::from(a.0), t),
+        SlotKind::Derived(a) => put_one(work, at, 2, usize::from(a.0)),
         SlotKind::Field(a, t) => put_field(work, at, a, slot.path, t),
-        SlotKind::Value(a, t) => put_two(work, at, 4, wide16(a.0), t),
+        SlotKind::Value(a, t) => put_two(work, at, 4, usize::from(a.0), t),
         SlotKind::Const(n) => put_one(work, at, 5, n),
     }
 }
@@ -269,14 +256,14 @@ pub fn bind(work: &mut [u8], l: Lists, name: usize, slot: Slot) -> Lists
     if count >= COUNT_LIMIT {
         return stopped(l);
     }
-    let at = wide32(ends.bindings);
+    let at = ends.bindings as usize;
     let end = at + 2 + slot_size(slot);
-    if end > wide32(ends.constrained) {
+    if end > ends.constrained as usize {
         return stopped(l);
     }
     put16(work, at, name);
     put_slot(work, at + 2, slot);
-    note(work, name, wide32(count), at);
+    note(work, name, count as usize, at);
     ends.bindings = end as u32;
     ends.binding_count = count + 1;
     let mut r = l;
@@ -302,7 +289,7 @@ fn field_end(bytes: &[u8], p: usize) -> usize
     if left < 8 {
         return 0;
     }
-    let n = 10 + 4 * wide(bytes[p + 7]);
+    let n = 10 + 4 * usize::from(bytes[p + 7]);
     if n > left {
         return 0;
     }
@@ -318,7 +305,7 @@ fn end_at(bytes: &[u8], p: usize) -> usize
     if left < 3 {
         return 0;
     }
-    let k = wide(bytes[p + 2]);
+    let k = usize::from(bytes[p + 2]);
     if k == 3 {
         return field_end(bytes, p);
     }
@@ -332,7 +319,7 @@ fn end_at(bytes: &[u8], p: usize) -> usize
     p + n
 }
 
-// Whether a binding of the name stands at p.
+// Whether a binding of the name stands at p: a whole one, not its name alone, since the tables are never cleared and can lead anywhere.
 fn named_at(bytes: &[u8], p: usize, name: usize) -> bool
     ensures { result ≡ named_at bytes.now p name }
 {
@@ -383,7 +370,7 @@ fn past_path(bytes: &[u8], at: usize) -> usize
     requires { at + 3 + 4 * get_or bytes.now (at + 2) 0 + 2 ≤ length bytes.now }
     ensures { result ≡ word bytes.now (at + 3 + 4 * get_or bytes.now (at + 2) 0) }
 {
-    word_at(bytes, at + 3 + 4 * wide(bytes[at + 2]))
+    word_at(bytes, at + 3 + 4 * usize::from(bytes[at + 2]))
 }
 
 // The slot of the binding that stands at at.
@@ -418,45 +405,41 @@ fn made_slot(work: &[u8], count: usize, name: usize) -> Option<SlotView>
 }
 
 // Whether n is a number of section s.
-fn numbered(file: &[u8], index: &[u16], s: usize, n: usize) -> bool
-    requires accepted_file { AcceptedFile file.now index.now }
-    requires s_bound { s < 10 }
-    ensures { result ≡ ltb n (size_of (tables_of file.now) s) }
+fn numbered(file: &AcceptedFile, s: Section, n: usize) -> bool
+    ensures { result ≡ ltb n (size_of (accepted_tables file.now) (number_of s)) }
 {
-    n < count_of(file, index, s)
+    n < file.tables.count_of(s)
 }
 
-fn predicate_in(file: &[u8], index: &[u16], p: Option<PredicateId>) -> bool
-    requires { AcceptedFile file.now index.now }
-    ensures { result ≡ none_or (is_predicate (tables_of file.now)) (predicate_option p) }
+fn predicate_in(file: &AcceptedFile, p: Option<PredicateId>) -> bool
+    ensures { result ≡ none_or (is_predicate (accepted_tables file.now)) (predicate_option p) }
 {
     match p {
         None => true,
-        Some(id) => numbered(file, index, 2, wide16(id.0)),
+        Some(id) => numbered(file, Section::Predicates, usize::from(id.0)),
     }
 }
 
 // Whether the path at at has room for the steps below a type.
-fn path_fits(file: &[u8], index: &[u16], bytes: &[u8], at: usize, t: usize) -> bool
-    requires accepted_file { AcceptedFile file.now index.now }
-    requires path_inside { PathInside bytes.now at }
-    ensures { let T = tables_of file.now in
+fn path_fits(file: &AcceptedFile, bytes: &[u8], at: usize, t: usize) -> bool
+    requires { PathInside bytes.now at }
+    ensures { let T = accepted_tables file.now in
         let steps = (path_at bytes.now at).steps in
         result ≡ both (is_type T t) (leb (length steps + depth T t) depth_limit) }
 {
-    numbered(file, index, 1, t) && wide(bytes[at + 2]) + wide16(index[DEPTHS + t]) <= DEPTH_LIMIT
+    numbered(file, Section::Types, t)
+        && usize::from(bytes[at + 2]) + usize::from(file.tables.index[DEPTHS + t]) <= DEPTH_LIMIT
 }
 
 // Whether a slot's numbers are the file's, and its path has room.
-fn slot_fits(file: &[u8], index: &[u16], bytes: &[u8], v: SlotView) -> bool
-    requires accepted_file { AcceptedFile file.now index.now }
-    requires slot_inside { SlotInside bytes.now v }
-    ensures { result ≡ fits_tables (tables_of file.now) (Views.slot_viewed bytes.now v) }
+fn slot_fits(file: &AcceptedFile, bytes: &[u8], v: SlotView) -> bool
+    requires { SlotInside bytes.now v }
+    ensures { result ≡ fits_tables (accepted_tables file.now) (Views.slot_viewed bytes.now v) }
 {
     match v {
-        SlotView::Row(_, p) => predicate_in(file, index, p),
-        SlotView::Key(_, t) => numbered(file, index, 1, t),
-        SlotView::Field(_, at, t) => path_fits(file, index, bytes, at, t),
+        SlotView::Row(_, p) => predicate_in(file, p),
+        SlotView::Key(_, t) => numbered(file, Section::Types, t),
+        SlotView::Field(_, at, t) => path_fits(file, bytes, at, t),
         SlotView::Derived(_) | SlotView::Value(_, _) | SlotView::Const(_) => true,
     }
 }
@@ -478,46 +461,39 @@ fn slot_of(bytes: &[u8], v: SlotView) -> Slot
 }
 
 // The slot of a view, if it fits.
-fn fitted(file: &[u8], index: &[u16], bytes: &[u8], v: SlotView) -> Option<Slot>
-    requires accepted_file { AcceptedFile file.now index.now }
-    requires slot_inside { SlotInside bytes.now v }
-    ensures { let T = tables_of file.now in
+fn fitted(file: &AcceptedFile, bytes: &[u8], v: SlotView) -> Option<Slot>
+    requires { SlotInside bytes.now v }
+    ensures { let T = accepted_tables file.now in
         IsSlot (checked_slot T (Some (Views.slot_viewed bytes.now v))) result }
 {
-    if slot_fits(file, index, bytes, v) {
-        Some(slot_of(bytes, v))
-    } else {
-        None
+    if !slot_fits(file, bytes, v) {
+        return None;
     }
+    Some(slot_of(bytes, v))
 }
 
 // The file's own slot of a name.
-fn own_slot(file: &[u8], index: &[u16], name: usize) -> Option<Slot>
-    requires { AcceptedFile file.now index.now }
-    ensures { let T = tables_of file.now in
+fn own_slot(file: &AcceptedFile, name: usize) -> Option<Slot>
+    ensures { let T = accepted_tables file.now in
         IsSlot (checked_slot T (Constant.lookup T.bindings name)) result }
 {
-    if let Some(v) = tables::lookup(file, index, name) {
-        fitted(file, index, file, v)
-    } else {
-        None
-    }
+    let v = tables::lookup(file, name)?;
+    fitted(file, file.tables.bytes, v)
 }
 
 // The slot of a name: the one that the walks have bound it to, else the file's own.
-pub fn lookup(file: &[u8], index: &[u16], work: &[u8], l: Lists, name: usize) -> Option<Slot>
-    requires { AcceptedFile file.now index.now }
+pub fn lookup(file: &AcceptedFile, work: &[u8], l: Lists, name: usize) -> Option<Slot>
     ensures { (lv : Level) (tg : Target) (p : List ℕ) → (
-        let T = tables_of file.now in
+        let T = accepted_tables file.now in
         let before = state_with l lv tg work.now p in
         IsSlot ((ops T).lookup before name) result
         ) }
 {
     let ends = l.ends;
-    let count = wide32(ends.binding_count);
+    let count = ends.binding_count as usize;
     if let Some(v) = made_slot(work, count, name) {
-        fitted(file, index, work, v)
+        fitted(file, work, v)
     } else {
-        own_slot(file, index, name)
+        own_slot(file, name)
     }
 }

@@ -8,34 +8,33 @@ ghost use Rattle.rules.specs.Events.{Narrowing};
 ghost use Rattle.state.specs.State.{Ends};
 ghost use Rattle.state.specs.Ops as Ops;
 ghost use Rattle.paths.specs.Paths.{path_of};
-ghost use Rattle.file.specs.Tables.{tables_of};
-ghost use Rattle.accepted_file.specs.AcceptedFile.{AcceptedFile};
+ghost use Rattle.accepted_file.specs.Tables.{accepted_tables};
 ghost use Rattle.seek.specs.Seek.{state_of};
 ghost use Rattle.seek.specs.Narrow.{IsConstant, const_of, narrowed_by};
 
+use accepted_file::AcceptedFile;
 use constant::Const;
 use paths::FieldPath;
 use seek::SeekBuilder;
 
 // A lent level narrowed by a constant.
 pub fn narrow_by(
-    file: &[u8],
-    index: &[u16],
+    file: &AcceptedFile,
     constant: Option<Const>,
     path: FieldPath,
     node: usize,
     level: &mut SeekBuilder,
     plan: &mut [u8],
 )
-    requires { AcceptedFile file.now index.now × IsConstant (tables_of file.now) constant }
+    requires { IsConstant (accepted_tables file.now) constant }
     ensures { (e : Ends) (w : List ℕ) →
-        let T = tables_of file.now in
+        let T = accepted_tables file.now in
         let before = state_of T level.old e w plan.old in
         let after = state_of T level.new e w plan.new in
         after ≡ narrowed_by T node (const_of T constant) (path_of path) before }
 {
     let l = *level;
-    *level = l.with_constant(file, index, constant, path, node, plan);
+    *level = l.with_constant(file, constant, path, node, plan);
 }
 
 // A lent level narrowed by the tag of a union's alternative.
@@ -57,22 +56,21 @@ pub fn narrow_by_tag(
 
 // Lends a level to `narrow_by` and hands it back.
 pub fn narrowed(
-    file: &[u8],
-    index: &[u16],
+    file: &AcceptedFile,
     constant: Option<Const>,
     path: FieldPath,
     node: usize,
     level: SeekBuilder,
     plan: &mut [u8],
 ) -> SeekBuilder
-    requires { AcceptedFile file.now index.now × IsConstant (tables_of file.now) constant }
+    requires { IsConstant (accepted_tables file.now) constant }
     ensures { (e : Ends) (w : List ℕ) →
-        let T = tables_of file.now in
+        let T = accepted_tables file.now in
         let before = state_of T level e w plan.old in
         state_of T result e w plan.new ≡ narrowed_by T node (const_of T constant) (path_of path) before }
 {
     let mut l = level;
-    narrow_by(file, index, constant, path, node, &mut l, plan);
+    narrow_by(file, constant, path, node, &mut l, plan);
     l
 }
 

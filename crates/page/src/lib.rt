@@ -8,7 +8,7 @@ ghost use Rattle.state.specs.Levels.{paged, join_parts, parts_from, from_page};
 ghost use Rattle.seek.specs.Seek.{counts_of, target_of};
 
 use plan_lists::copy_run;
-use records::{wide32, word_in};
+use records::word_in;
 use seek::{Counts, Target};
 
 // Where the residuals begin, and how long the page is.
@@ -32,8 +32,8 @@ pub fn paging() -> Target
 pub fn is_paged(c: Counts) -> bool
     ensures { result ≡ paged (counts_of c) }
 {
-    let parts = wide32(c.joined) + wide32(c.framed);
-    parts <= PAGE_REST && wide32(c.rest) <= PAGE - PAGE_REST
+    let parts = c.joined as usize + c.framed as usize;
+    parts <= PAGE_REST && c.rest as usize <= PAGE - PAGE_REST
 }
 
 // The first n parts of the page, all of them bytes, joined in the plan: their texts from `text` on, their nodes from `node` on.
@@ -57,13 +57,13 @@ fn join_parts(page: &[u8], n: usize, plan: &mut [u8], text: usize, node: usize)
 fn put_parts(page: &[u8], plan: &mut [u8], t: Target, c: Counts)
     ensures { plan.new ≡ parts_from (target_of t) (counts_of c) page.now plan.old }
 {
-    let parts = wide32(t.parts);
+    let parts = t.parts as usize;
     if t.joining {
-        let n = wide32(c.closers) + wide32(c.others);
-        join_parts(page, n, plan, parts, wide32(t.nodes));
+        let n = c.closers as usize + c.others as usize;
+        join_parts(page, n, plan, parts, t.nodes as usize);
         return;
     }
-    copy_run(page, 0, wide32(c.joined) + wide32(c.framed), plan, parts);
+    copy_run(page, 0, c.joined as usize + c.framed as usize, plan, parts);
 }
 
 // A level's parts, then its residuals.
@@ -74,8 +74,8 @@ pub fn put_page(page: &[u8], plan: &mut [u8], t: Target, c: Counts)
     copy_run(
         page,
         PAGE_REST,
-        PAGE_REST + wide32(c.rest),
+        PAGE_REST + c.rest as usize,
         plan,
-        wide32(t.rest),
+        t.rest as usize,
     );
 }

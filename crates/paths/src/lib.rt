@@ -13,7 +13,7 @@ pub struct Address(pub u16);
 #[derive(Clone, Copy, PartialEq, Eq)]
 pub struct PredicateId(pub u16);
 
-// The steps past `count` are of no meaning.
+// The steps past `count` are of no meaning. No heap: they stand in place, as many as a path may have.
 #[derive(Clone, Copy)]
 pub struct FieldPath {
     pub steps: [u32; FieldPath::STEP_LIMIT],

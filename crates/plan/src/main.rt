@@ -6,8 +6,10 @@ use plan_line::{FILE_ROOM, LINE_ROOM, answer};
 use std::io::{self, Write};
 
 fn main(rt: HostRuntime) -> io::Result<()> {
+    // No heap: on the stack.
     let mut file = [0u8; FILE_ROOM];
     let n = read_full(&mut rt.reader(), &mut file)?;
+    // No heap: on the stack.
     let mut out = [0u8; LINE_ROOM];
     let m = answer(&file[..n], &mut out);
     let mut output = io::writer(&rt);

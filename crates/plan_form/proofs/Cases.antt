@@ -85,23 +85,22 @@ bytes-alike f n x p = alike-step f (alike-fixed n x (fixed-bytes n)) p
 
 -- a count, then as many
 module _ {A : Type 0} (f : List ℕ) (r : Reader A) (p : ℕ) where
-  pub counted-cut : p ≤ length f → length f < p + 2 → step_at f (Reader.counted r) p ≡ Err 3
+  counted-cut : p ≤ length f → length f < p + 2 → step_at f (Reader.counted r) p ≡ Err 3
   unfolding Reader.counted
   counted-cut h g = cut_short f 2 p (needs-first 2 _ (needs-fixed 2 fixed-u16)) h g
 
-  pub counted-in : (n : ℕ) → p + 2 ≤ length f → n ≡ word f p → step_at f (Reader.counted r) p ≡ step_at f (many n r) (p + 2)
+  counted-in : (n : ℕ) → p + 2 ≤ length f → n ≡ word f p → step_at f (Reader.counted r) p ≡ step_at f (many n r) (p + 2)
   unfolding Reader.counted
   counted-in n h e = step_same f _ _ _ _ (word-then f p _ h) ∙ ap (λ (j : ℕ). step_at f (many j r) (p + 2)) (sym e)
 
+  -- both cases at once, as `counted_end` has them
+  pub counted-ends : (z : Result ℕ ℕ) → p ≤ length f → (length f < p + 2 → z ≡ Err 3) → (p + 2 ≤ length f → z ≡ step_at f (many (word f p) r) (p + 2))
+      → z ≡ step_at f (Reader.counted r) p
+  counted-ends z h x y =
+      ⊎_elim (λ (g : length f < p + 2). x g ∙ sym (counted-cut h g))
+      (λ (g : p + 2 ≤ length f). y g ∙ sym (counted-in (word f p) g refl)) (lt-or-le (length f) (p + 2))
+
 module _ (f : List ℕ) (p : ℕ) where
-  pub text-cut : p ≤ length f → length f < p + 2 → step_at f Reader.text p ≡ Err 3
-  unfolding Reader.text
-  text-cut h g = counted-cut f u8 p h g
-
-  pub text_in : (n : ℕ) → p + 2 ≤ length f → n ≡ word f p → step_at f Reader.text p ≡ step_at f (many n u8) (p + 2)
-  unfolding Reader.text
-  text_in n h e = counted-in f u8 p n h e
-
   words-fixed : (n : ℕ) → Fixed (2 * n) (many n u16)
   words-fixed n = fixed-as (n * 2) (2 * n) (omega arith) (fixed-many 2 fixed-u16 n)
 

@@ -1,5 +1,5 @@
 -- Lists of items, levels and the whole plan by cases: the laws that the loops over them go by.
-use Prim.Native.Nat.{ℕ, ◌+◌, ◌≤◌, ◌<◌}
+use Prim.Native.Nat.{ℕ, zero, suc, ◌+◌, ◌-◌, ◌≤◌, ◌<◌}
 use mathlib.Core.Path.{◌≡◌, refl, sym, ap, ◌∙◌}
 use mathlib.Core.List.{List, [], ◌∷◌}
 use native.Mathlib.Omega.{arith}
@@ -10,26 +10,55 @@ use Rattle.rules.specs.Read.{Reader, follow, ◌>>=◌, pure, u8, u16, many, end
 use Rattle.rules.specs.Read.Read.{got}
 use Rattle.rules.specs.Reader as Reader
 use Rattle.file.specs.Steps.{word, read_at, step_at, skim}
-use Rattle.file.proofs.Readers.{step-got, step-refused, step_same, step-skim, many_more, many-fault, fixed-u16, needs-fixed, needs-first, needs-bind, cut_short, SameSteps, alike_refl, alike-step, alike-skim, alike-bind, alike-value, alike-pure, alike-many, alike-map}
+use Rattle.file.proofs.Readers.{step-got, step-refused, step_same, step-skim, many-none, many_more, many-fault, fixed-u16, needs-fixed, needs-first, needs-bind, cut_short, SameSteps, alike_refl, alike-step, alike-skim, alike-bind, alike-value, alike-pure, alike-many, alike-map}
 use Rattle.file.proofs.Suffix.{Suffix, suffix-many, suffix-skim, suffix-u16, ended, faulted}
 use Rattle.file.proofs.Leaves.{kinded, kind-cut, kind-bad}
 use Rattle.file.proofs.Sections.{word-then}
-use Rattle.plan_form.specs.Pieces.{then_at, item_of, range, edges, after_guide, after_seek}
+use Rattle.plan_form.specs.Pieces.{then_at, run, item_of, range, edges, after_guide, after_seek}
 use Rattle.plan_form.specs.declared.Kind.{Kind}
 use Rattle.plan_form.specs.declared.Kind.TheVariants as Kinds
 use Rattle.plan_form.proofs.Forward.{suffix-counted, suffix-text, suffix-path, suffix-edge, suffix-guide, suffix-seek, suffix-item, suffix-level, suffix-binding, suffix-select, suffix-diagnostic}
 use Rattle.plan_form.proofs.Cases.{seq-next, seq-fault, seq-step, within, alike-number}
-use Rattle.std.specs.Prelude.{Ok, Err}
+use Rattle.std.specs.Prelude.{Result, Ok, Err}
 
 -- n times the same reading, by where each ends
 module _ {A : Type 0} (f : List ℕ) {r : Reader A} (x : Suffix r) (n p : ℕ) (h : p ≤ length f) where
-  pub each_more : (m q : ℕ) → n ≡ m + 1 → step_at f r p ≡ Ok q → step_at f (many n r) p ≡ step_at f (many m r) q
+  each_more : (m q : ℕ) → n ≡ m + 1 → step_at f r p ≡ Ok q → step_at f (many n r) p ≡ step_at f (many m r) q
   each_more m q k e =
       let w = ended f r p q x h e in
       many_more f r n p w.value q (omega arith) w.is ∙ ap (λ (j : ℕ). step_at f (many j r) q) (omega arith)
 
-  pub each-fault : (y : ℕ) → 0 < n → step_at f r p ≡ Err y → step_at f (many n r) p ≡ Err y
+  each-fault : (y : ℕ) → 0 < n → step_at f r p ≡ Err y → step_at f (many n r) p ≡ Err y
   each-fault y k e = many-fault f r n p y k (faulted f r p y e)
+
+-- a run by its first step
+module _ (s : ℕ → Result ℕ ℕ) (n p : ℕ) where
+  pub run-none : n ≡ 0 → run s n p ≡ Ok p
+  unfolding run
+  run-none e = rw e refl
+
+  pub run-next : (m q : ℕ) → n ≡ m + 1 → s p ≡ Ok q → run s n p ≡ run s m q
+  unfolding run
+  run-next m q e h =
+      let k : n ≡ suc m = omega arith in
+      ap (λ (j : ℕ). run s j p) k ∙ ap (λ (z : Result ℕ ℕ). elim z as (λ _. Result ℕ ℕ) [ Ok q ↦ run s m q | Err x ↦ Err x ]) h
+
+  pub run-fault : (x : ℕ) → 0 < n → s p ≡ Err x → run s n p ≡ Err x
+  unfolding run
+  run-fault x g h =
+      let k : n ≡ suc (n - 1) = omega arith in
+      ap (λ (j : ℕ). run s j p) k ∙ ap (λ (z : Result ℕ ℕ). elim z as (λ _. Result ℕ ℕ) [ Ok q ↦ run s (n - 1) q | Err x ↦ Err x ]) h
+
+-- a run of steps that are what r finds is what r finds so many times
+module _ {A : Type 0} (f : List ℕ) {r : Reader A} (x : Suffix r) where
+  pub run-many : (n p : ℕ) → p ≤ length f → run (λ k. step_at f r k) n p ≡ step_at f (many n r) p
+  run-many zero p h = run-none _ 0 p refl ∙ sym (many-none f r 0 p refl h)
+  run-many (suc n) p h = go (λ q k. run-many n q k) (step_at f r p) refl
+    where
+      go : ((q : ℕ) → q ≤ length f → run (λ k. step_at f r k) n q ≡ step_at f (many n r) q)
+          → (z : Result ℕ ℕ) → step_at f r p ≡ z → run (λ k. step_at f r k) (suc n) p ≡ step_at f (many (suc n) r) p
+      go y (Ok q) e = run-next _ (suc n) p n q (omega arith) e ∙ y q (within f x p q h e) ∙ sym (each_more f x (suc n) p h n q (omega arith) e)
+      go y (Err z) e = run-fault _ (suc n) p z (omega arith) e ∙ sym (each-fault f x (suc n) p h z (omega arith) e)
 
 -- an item by its kind
 pub alike-part : SameSteps Reader.part (item_of Kinds.Part)

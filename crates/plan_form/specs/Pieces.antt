@@ -1,5 +1,5 @@
 -- Request [1]: the readers that the walk over a plan goes by, where the written rules have no name for them.
-use Rattle.std.specs.Prelude.{ℕ, List, Result, Ok, Err}
+use Rattle.std.specs.Prelude.{ℕ, zero, suc, List, Result, Ok, Err}
 use Rattle.rules.specs.Read.{Reader, ◌>>=◌, pure, u16}
 use Rattle.rules.specs.Reader.{counted, text, path, binding, select, diagnostic, part, edge, guide, residual}
 use Rattle.file.specs.Steps.{step_at, skim}
@@ -10,6 +10,11 @@ use Rattle.plan_form.specs.declared.Kind.TheVariants as Kinds
 unfoldable pub then_at : {A : Type 0} → List ℕ → Reader A → Result ℕ ℕ → Result ℕ ℕ
 then_at f r (Ok q) = step_at f r q
 then_at f r (Err x) = Err x
+
+-- where n steps end, each from where the one before it ended; the first fault stays one
+unfoldable pub run : (ℕ → Result ℕ ℕ) → ℕ → ℕ → Result ℕ ℕ
+run step zero p = Ok p
+run step (suc n) p = elim (step p) [ Ok q ↦ run step n q | Err x ↦ Err x ]
 
 -- what is read of an item that holds no list of its own
 unfoldable pub item_of : Kind → Reader (Unit {0})

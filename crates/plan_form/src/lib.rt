@@ -2,14 +2,14 @@
 // Which items of the plan stand where: proofs/Places.antt, `item-at` of any number of items and `opened` of the five lists.
 #![tactic(auto)]
 
-ghost use Rattle.std.specs.Prelude.{◌≡◌, ◌≤◌, length};
+ghost use Rattle.std.specs.Prelude.{◌≡◌, ◌≤◌, ◌<◌, ◌+◌, length, ℕ, Result, Ok, Err};
 ghost use Rattle.rules.specs.Read.{u8, u16, many};
 ghost use Rattle.rules.specs.Reader as Reader;
 ghost use Rattle.file.specs.Refusals.{numbered};
-ghost use Rattle.file.specs.Steps.{step_at};
-ghost use Rattle.plan_form.specs.Pieces.{item_of, range, edges, after_guide, after_seek};
+ghost use Rattle.file.specs.Steps.{step_at, word, word_limit};
+ghost use Rattle.plan_form.specs.Pieces.{run, item_of, range, edges, after_guide, after_seek};
 
-use file::{Refusal, fixed, fuzzy_end, wide, word_at};
+use file::{Refusal, fixed, fuzzy_end, word_at};
 use paths::FieldPath;
 
 // The items of a plan that hold no list of their own: those of a seek and of a level, and those of the lists after all levels.
@@ -24,6 +24,45 @@ pub enum Kind {
 
 // The last code that a diagnostic may have; the first is 1.
 const LAST_CODE: u8 = 11;
+
+// Where a count at p and what it counts end, by where so many end from a place on.
+fn counted_end<F: FnOnce(usize, usize) -> Result<usize, Refusal>>(
+    plan: &[u8],
+    p: usize,
+    end: F,
+) -> Result<usize, Refusal>
+    requires in_plan { p ≤ length plan.now }
+    requires callable { p + 2 ≤ length plan.now → word plan.now p < word_limit → F.pre end (word plan.now p) (p + 2) }
+    ensures cut { length plan.now < p + 2 → numbered result ≡ Err 3 }
+    ensures counts { p + 2 ≤ length plan.now → F.post end (word plan.now p) (p + 2) result }
+{
+    if plan.len() - p < 2 {
+        return Err(Refusal::Ends);
+    }
+    let n = word_at(plan, p);
+    end(n, p + 2)
+}
+
+// Where n items end, from `at` on, by where an item ends: if `end` answers as g does, wherever it is asked, n steps of g end there.
+// Items and levels are not one `Kind`: a level's end is made of items' ends, so a case for it would close a cycle of calls.
+fn run_end<F: Fn(usize) -> Result<usize, Refusal>>(
+    plan: &[u8],
+    n: usize,
+    at: usize,
+    end: F,
+) -> Result<usize, Refusal>
+    requires in_plan { at ≤ length plan.now }
+    requires callable { (p : ℕ) → p ≤ length plan.now → F.pre end p }
+    requires within { (p q : ℕ) → p ≤ length plan.now → F.post end p (Ok q) → q ≤ length plan.now }
+    ensures { (g : ℕ → Result ℕ ℕ) → ((p : ℕ) (x : _) → p ≤ length plan.now → F.post end p x → numbered x ≡ g p) →
+        numbered result ≡ run g n at }
+{
+    let mut p = at;
+    for _ in 0..n {
+        p = end(p)?;
+    }
+    Ok(p)
+}
 
 // Where n numbers of two bytes from p on end.
 fn numbers_end(plan: &[u8], n: usize, p: usize) -> Result<usize, Refusal>
@@ -42,11 +81,7 @@ pub fn text_end(plan: &[u8], p: usize) -> Result<usize, Refusal>
     requires { p ≤ length plan.now }
     ensures { numbered result ≡ step_at plan.now Reader.text p }
 {
-    if plan.len() - p < 2 {
-        return Err(Refusal::Ends);
-    }
-    let n = word_at(plan, p);
-    fixed(plan, n, p + 2)
+    counted_end(plan, p, |n, q| fixed(plan, n, q))
 }
 
 // Where the folded or constrained numbers at p end: a count, then two bytes for each.
@@ -54,14 +89,11 @@ pub fn words_end(plan: &[u8], p: usize) -> Result<usize, Refusal>
     requires { p ≤ length plan.now }
     ensures { numbered result ≡ step_at plan.now (Reader.counted u16) p }
 {
-    if plan.len() - p < 2 {
-        return Err(Refusal::Ends);
-    }
-    let n = word_at(plan, p);
-    numbers_end(plan, n, p + 2)
+    counted_end(plan, p, |n, q| numbers_end(plan, n, q))
 }
 
 // Where the path at p ends: its field, a count, and as many steps. More steps than a path holds are a fault of the count.
+// Not one function with `path_end` of crate file: while a file is read its paths have no limit, which refusal 14 asks for later.
 pub fn path_end(plan: &[u8], p: usize) -> Result<usize, Refusal>
     requires { p ≤ length plan.now }
     ensures { numbered result ≡ step_at plan.now Reader.path p }
@@ -69,7 +101,7 @@ pub fn path_end(plan: &[u8], p: usize) -> Result<usize, Refusal>
     if plan.len() - p < 3 {
         return Err(Refusal::Ends);
     }
-    let n = wide(plan[p + 2]);
+    let n = usize::from(plan[p + 2]);
     if n > FieldPath::STEP_LIMIT {
         return Err(Refusal::Kind);
     }
@@ -88,6 +120,7 @@ pub fn register_end(plan: &[u8], p: usize) -> Result<usize, Refusal>
 }
 
 // Where a Field slot ends that has its address at p: address, path, type.
+// Not one function with `fetched_end` of crate file, whose path has no limit: two grammars, so two readers.
 pub fn field_slot_end(plan: &[u8], p: usize) -> Result<usize, Refusal>
     requires { p ≤ length plan.now }
     ensures { numbered result ≡ step_at plan.now Reader.field_slot p }
@@ -109,7 +142,7 @@ pub fn slot_end(plan: &[u8], p: usize) -> Result<usize, Refusal>
     file::slot_end(plan, p)
 }
 
-// Where the binding at p ends: a name and a slot.
+// Where the binding at p ends: a name and a slot. As in crate file but for the slot, whose path is a plan's.
 pub fn binding_end(plan: &[u8], p: usize) -> Result<usize, Refusal>
     requires { p ≤ length plan.now }
     ensures { numbered result ≡ step_at plan.now Reader.binding p }
@@ -252,11 +285,7 @@ pub fn items_end(plan: &[u8], kind: Kind, n: usize, at: usize) -> Result<usize, 
     requires { at ≤ length plan.now }
     ensures { numbered result ≡ step_at plan.now (many n (item_of kind)) at }
 {
-    let mut p = at;
-    for _ in 0..n {
-        p = item_end(plan, kind, p)?;
-    }
-    Ok(p)
+    run_end(plan, n, at, |p| item_end(plan, kind, p))
 }
 
 // Where a count at p and as many items of a kind end.
@@ -264,11 +293,7 @@ pub fn list_end(plan: &[u8], kind: Kind, p: usize) -> Result<usize, Refusal>
     requires { p ≤ length plan.now }
     ensures { numbered result ≡ step_at plan.now (Reader.counted (item_of kind)) p }
 {
-    if plan.len() - p < 2 {
-        return Err(Refusal::Ends);
-    }
-    let n = word_at(plan, p);
-    items_end(plan, kind, n, p + 2)
+    counted_end(plan, p, |n, q| items_end(plan, kind, n, q))
 }
 
 // Where a range's text, path and node end.
@@ -369,11 +394,7 @@ pub fn levels_end(plan: &[u8], n: usize, at: usize) -> Result<usize, Refusal>
     requires { at ≤ length plan.now }
     ensures { numbered result ≡ step_at plan.now (many n Reader.level) at }
 {
-    let mut p = at;
-    for _ in 0..n {
-        p = level_end(plan, p)?;
-    }
-    Ok(p)
+    run_end(plan, n, at, |p| level_end(plan, p))
 }
 
 // Where a count at p and as many levels end.
@@ -381,11 +402,7 @@ pub fn level_list_end(plan: &[u8], p: usize) -> Result<usize, Refusal>
     requires { p ≤ length plan.now }
     ensures { numbered result ≡ step_at plan.now (Reader.counted Reader.level) p }
 {
-    if plan.len() - p < 2 {
-        return Err(Refusal::Ends);
-    }
-    let n = word_at(plan, p);
-    levels_end(plan, n, p + 2)
+    counted_end(plan, p, |n, q| levels_end(plan, n, q))
 }
 
 // Reads the whole plan: the number of its first fault, or its end. The five lists are all that a plan holds.

@@ -28,6 +28,7 @@ use plan_form::{Kind, items_end, level_list_end, list_end, words_end};
 use views::{Anchor, SlotView, TextView, anchor_of, half_at, long_at, maybe_predicate, past_path};
 
 // The view of an item, and where the item ends.
+// For what stands inside another item, which takes the view alone. A list or an item of one is handed on whole, with an `end` of its own.
 #[derive(Clone, Copy)]
 pub struct Item<T> {
     pub view: T,

@@ -29,7 +29,9 @@ pub fn answer(file: &[u8], out: &mut [u8]) -> usize
         out.new ≡ sets out.old 0 text }
     ensures bounded { result ≤ 2 * plan_limit }
 {
+    // No heap: on the stack.
     let mut plan = [0u8; PLAN_LIMIT];
+    // No heap: on the stack.
     let mut work = [0u8; WORK_LIMIT];
     let a = sinalvento_compile(file, &mut plan, &mut work);
     put_line(a, &plan, out)

@@ -101,17 +101,11 @@ up-put n at r from to work w w1 w2 e a = put-after n at r to (slice from to work
 pub down-put : (width n at r top : ℕ) (work w w1 w2 : List ℕ) → w1 ≡ put w at (u16 n) → Wrote (backwards width n top work) (at + 2) w1 r w2 → Wrote (u16 n ++ backwards width n top work) at w r w2 × (r ≤ at + top + 2)
 down-put width n at r top work w w1 w2 e a = put-after n at r top (backwards width n top work) w w1 w2 (omega (arith, backwards-length width n top work)) e a
 
--- the same list by another name of its end and its count
-pub up-far : (w : List ℕ) (from to to' r : ℕ) → r ≡ length (slice from to w) → to ≡ to' → r ≡ length (slice from to' w)
-up-far w from to to' r e q = e ∙ ap (λ (k : ℕ). length (slice from k w)) q
-
+-- the same list by another name of its count
 pub down-far : (w : List ℕ) (width n n' top from r : ℕ) → r ≡ length (slice from top w) → from ≡ top - width * n → n ≡ n' → r ≡ length (backwards width n' top w)
 down-far w width n n' top from r e f q =
     e ∙ length-drop from (take top w) ∙ ap (λ (k : ℕ). k - from) (length-take top w) ∙ ap (λ (k : ℕ). min top (length w) - k) f
     ∙ sym (backwards-length width n top w) ∙ ap (λ (k : ℕ). length (backwards width k top w)) q
-
-pub up-as : (work : List ℕ) (n n' from to to' at r : ℕ) (w w1 : List ℕ) → Wrote (u16 n ++ slice from to work) at w r w1 → n ≡ n' → to ≡ to' → Wrote (u16 n' ++ slice from to' work) at w r w1
-up-as work n n' from to to' at r w w1 a en et = wrote_as _ _ at r w w1 a (ap₂ (λ (j k : ℕ). u16 j ++ slice from k work) en et)
 
 pub down-as : (work : List ℕ) (width n n' top at r : ℕ) (w w1 : List ℕ) → Wrote (u16 n ++ backwards width n top work) at w r w1 → n ≡ n' → Wrote (u16 n' ++ backwards width n' top work) at w r w1
 down-as work width n n' top at r w w1 a en = wrote_as _ _ at r w w1 a (ap (λ (k : ℕ). u16 k ++ backwards width k top work) en)

@@ -13,7 +13,7 @@ ghost use Rattle.encode.specs.Written.{Wrote};
 ghost use Rattle.plan_lists.specs.PlanLists.{lists_in};
 
 use lists::Ends;
-use records::{put8, put16, wide32};
+use records::{put8, put16};
 
 // Where the lists begin: bindings at 0 and selects where the first run ends, constrained names and diagnostics down from their run's end.
 const CONSTRAINED: usize = 16384;
@@ -26,13 +26,13 @@ const DIAGNOSTICS: usize = 32768;
 fn names(e: Ends) -> usize
     ensures { (result ≡ constrained_count (ends_of e)) × (2 * result ≤ 16384) }
 {
-    CONSTRAINED.saturating_sub(wide32(e.constrained)) / 2
+    CONSTRAINED.saturating_sub(e.constrained as usize) / 2
 }
 
 fn reports(e: Ends) -> usize
     ensures { (result ≡ diagnostic_count (ends_of e)) × (3 * result ≤ 32768) }
 {
-    DIAGNOSTICS.saturating_sub(wide32(e.diagnostics)) / 3
+    DIAGNOSTICS.saturating_sub(e.diagnostics as usize) / 3
 }
 
 // How many bytes a list has.
@@ -42,7 +42,8 @@ fn run_len(work: &[u8], from: usize, to: usize) -> usize
     to.min(work.len()).saturating_sub(from)
 }
 
-// Copies a run, and gives where its copy ends.
+// Copies a run, and gives where its copy ends. No library call does it: of a run that passes the plan's end the bytes outside are left out,
+// and the place moves on over them, while `copy_from_slice` asks that the whole run has room.
 pub fn copy_run(work: &[u8], from: usize, to: usize, plan: &mut [u8], at: usize) -> usize
     requires { at ≤ reach }
     ensures { Wrote (slice from to work.now) at plan.old result plan.new }
@@ -93,9 +94,9 @@ fn put_down(work: &[u8], width: usize, n: usize, top: usize, plan: &mut [u8], at
 pub fn lists_len(work: &[u8], e: Ends) -> usize
     ensures { (result ≡ length (lists_in (ends_of e) work.now)) × (result ≤ 17179869192) }
 {
-    let a = run_len(work, 0, wide32(e.bindings));
+    let a = run_len(work, 0, e.bindings as usize);
     let b = run_len(work, CONSTRAINED - 2 * names(e), CONSTRAINED);
-    let c = run_len(work, SELECTS, wide32(e.selects));
+    let c = run_len(work, SELECTS, e.selects as usize);
     let d = run_len(work, DIAGNOSTICS - 3 * reports(e), DIAGNOSTICS);
     8 + a + b + c + d
 }
@@ -108,8 +109,8 @@ pub fn put_lists(work: &[u8], plan: &mut [u8], at: usize, e: Ends) -> usize
     let p = put_up(
         work,
         0,
-        wide32(e.bindings),
-        wide32(e.binding_count),
+        e.bindings as usize,
+        e.binding_count as usize,
         plan,
         at,
     );
@@ -117,8 +118,8 @@ pub fn put_lists(work: &[u8], plan: &mut [u8], at: usize, e: Ends) -> usize
     let r = put_up(
         work,
         SELECTS,
-        wide32(e.selects),
-        wide32(e.select_count),
+        e.selects as usize,
+        e.select_count as usize,
         plan,
         q,
     );

@@ -1,22 +1,22 @@
 -- The rules of a level by what its view says, and of all levels one after another.
 use Prim.Native.Nat.{ℕ, ◌+◌, ◌-◌, ◌≤◌, ◌<◌}
-use mathlib.Core.Path.{◌≡◌, refl, sym, ap, ◌∙◌, subst}
+use mathlib.Core.Path.{◌≡◌, refl, sym, ap, ap₂, ◌∙◌, subst}
 use mathlib.Core.Bool.{Bool, true, false}
 use mathlib.Core.List.{List, [], ◌∷◌, ◌++◌}
 use mir.Val.{bool_byte}
-use Rattle.std.specs.Prelude.{Option, None, Some, is_some}
+use Rattle.std.specs.Prelude.{Option, None, Some, is_some, not, ◌&&◌, ◌||◌}
 use native.Mathlib.Omega.{arith}
-use borrow.Author.Tests.{leb-true, le-leb, lt-leb}
+use borrow.Author.Tests.{leb-true}
 use types.Run.{OneOf, miss}
 use denote.Enum.Declared.{tag_of}
-use lib.Dec.{eqb}
+use lib.Dec.{eqb, leb}
 use lib.ListN.{length, drop}
 use Rattle.rules.specs.Base.{both, all, ◌when_some◌}
 use Rattle.rules.specs.Read.{u16, many}
 use Rattle.rules.specs.Read.Read.{got}
 use Rattle.rules.specs.Lookup.{same_path}
 use Rattle.rules.specs.File as File
-use Rattle.rules.specs.Placement.{as_bytes, SeekKeyPart, Part, Guide, Range, RangeEdge, SeekKey, joined}
+use Rattle.rules.specs.Placement.{as_bytes, SeekKeyPart, Part, Guide, Range, SeekKey, joined}
 use Rattle.rules.specs.Plan.{PlanLevel}
 use Rattle.rules.specs.Demand3.{number, seek_range, seek_edges}
 use Rattle.rules.specs.Reader as Reader
@@ -143,15 +143,36 @@ module _ (f : List ℕ) (p : ℕ) (guide : Option GuideView) (parts : List Part)
 pub guide-as : (f : List ℕ) (v w : Option GuideView) → v ≡ w → GuideInside f v → GuideInside f w
 guide-as f v w e x = subst (GuideInside f) e x
 
--- Bounded: an edge, and no guide
-module _ (parts : List Part) (lo hi : Option RangeEdge) (guide : Option Guide) where
-  pub no_edge : number lo + number hi < 1 → false ≡ seek_keeps (SeekKey.Bounded parts lo hi) guide
-  unfolding seek_keeps
-  no_edge h = ap (λ (t : Bool). both t (eqb (number guide) 0)) (sym (lt-leb _ _ h))
+-- an edge or a guide by number
+pub edge-number : (f : List ℕ) (v : Option EdgeView) → bool_byte (is_some v) ≡ number (edge_of f v)
+unfolding number
+edge-number f None = refl
+edge-number f (Some (Ev.Exclusive t)) = refl
+edge-number f (Some (Ev.Inclusive t)) = refl
 
-  pub some-edge : (n : ℕ) → 1 ≤ number lo + number hi → n ≡ number guide → eqb n 0 ≡ seek_keeps (SeekKey.Bounded parts lo hi) guide
+pub guide-number : (f : List ℕ) (v : Option GuideView) → bool_byte (is_some v) ≡ number (guide_of f v)
+unfolding number
+guide-number f None = refl
+guide-number f (Some v) = refl
+
+-- Bounded: an edge, and no guide
+by_flags : (a b g : Bool) → (a || b) && not g ≡ both (leb 1 (bool_byte a + bool_byte b)) (eqb (bool_byte g) 0)
+by_flags true true true = refl
+by_flags true true false = refl
+by_flags true false true = refl
+by_flags true false false = refl
+by_flags false true true = refl
+by_flags false true false = refl
+by_flags false false true = refl
+by_flags false false false = refl
+
+module _ (f : List ℕ) (parts : List Part) (lo hi : Option EdgeView) (guide : Option GuideView) where
+  pub bounded_is : (is_some lo || is_some hi) && not (is_some guide) ≡ seek_keeps (SeekKey.Bounded parts (edge_of f lo) (edge_of f hi)) (guide_of f guide)
   unfolding seek_keeps
-  some-edge n h e = ap (λ (j : ℕ). eqb j 0) e ∙ ap (λ (t : Bool). both t (eqb (number guide) 0)) (sym (le-leb _ _ h))
+  bounded_is =
+      by_flags (is_some lo) (is_some hi) (is_some guide)
+      ∙ ap₂ (λ (m n : ℕ). both (leb 1 (m + n)) (eqb (bool_byte (is_some guide)) 0)) (edge-number f lo) (edge-number f hi)
+      ∙ ap (λ (n : ℕ). both (leb 1 (number (edge_of f lo) + number (edge_of f hi))) (eqb n 0)) (guide-number f guide)
 
 -- a seek's edges
 pub edges_are : (f : List ℕ) (n parts : ℕ) (lo hi : Option EdgeView) (seek : SeekView) (a b : ℕ) → seek ≡ Kv.Bounded parts lo hi → a ≡ number (edge_of f lo) → b ≡ number (edge_of f hi) → a + b ≡ seek_edges (seek_of f n seek)
@@ -269,18 +290,7 @@ going-step f n i q x h l e r k =
     let z : n - i - 1 ≡ n - (i + 1) = omega arith in
     subst (λ (j : ℕ). Going f j e) z (going_more f (n - i) q x (omega arith) l e r k)
 
--- an edge or a guide by number, and the seeks that have no range or no edges
-pub edge-number : (f : List ℕ) (v : Option EdgeView) → bool_byte (is_some v) ≡ number (edge_of f v)
-unfolding number
-edge-number f None = refl
-edge-number f (Some (Ev.Exclusive t)) = refl
-edge-number f (Some (Ev.Inclusive t)) = refl
-
-pub guide-number : (f : List ℕ) (v : Option GuideView) → bool_byte (is_some v) ≡ number (guide_of f v)
-unfolding number
-guide-number f None = refl
-guide-number f (Some v) = refl
-
+-- the seeks that have no range or no edges
 pub range-none : (f : List ℕ) (n : ℕ) (v : SeekView) → OneOf (0 ∷ 1 ∷ 3 ∷ []) (tag_of SeekViews.the_type v) → 0 ≡ number (seek_range (seek_of f n v))
 unfolding number seek_range
 range-none f n (Kv.Prefix t m) w = refl

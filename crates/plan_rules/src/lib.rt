@@ -38,10 +38,7 @@ fn range_number(seek: SeekView) -> usize
     ensures is { (f : List ℕ) (n : ℕ) → result ≡ number (seek_range (seek_of f n seek)) }
     ensures most { result ≤ 1 }
 {
-    match seek {
-        SeekView::PrefixRange(_, _, _, _) => 1,
-        _ => 0,
-    }
+    matches!(seek, SeekView::PrefixRange(_, _, _, _)) as usize
 }
 
 // A seek's edges by number: 0 to 2.
@@ -92,6 +89,7 @@ fn composite_keeps(plan: &[u8], n: usize, p: usize) -> bool
         let parts = items_at plan.now Reader.part n p in
         result ≡ seek_keeps (SeekKey.Composite parts) guide }
 {
+    // A place moves on from part to part, so no range or chain counts it.
     let mut q = p;
     for _ in 0..n {
         let item = part_at(plan, q);
@@ -120,11 +118,12 @@ fn range_keeps(plan: &[u8], p: usize, guide: Option<GuideView>) -> bool
 }
 
 // Bounded has an edge, and an edge excludes a guide.
+#[tactic(auto, using(crate::proofs::Rules::bounded_is))]
 fn bounded_keeps(lo: Option<EdgeView>, hi: Option<EdgeView>, guide: Option<GuideView>) -> bool
     ensures { (f : List ℕ) (parts : List Part) →
         result ≡ seek_keeps (SeekKey.Bounded parts (edge_of f lo) (edge_of f hi)) (guide_of f guide) }
 {
-    edge_number(lo) + edge_number(hi) > 0 && guide_number(guide) == 0
+    (lo.is_some() || hi.is_some()) && guide.is_none()
 }
 
 // What a seek of each kind asks besides.
@@ -157,6 +156,7 @@ pub fn levels_keep(plan: &[u8]) -> bool
     requires { Opened plan.now }
     ensures { result ≡ all level_rules (plan_of plan.now).levels }
 {
+    // A place moves on from level to level, so no range or chain counts it.
     let mut p = 2;
     for _ in 0..word_at(plan, 0) {
         let level = level_at(plan, p);

@@ -14,7 +14,7 @@ use Rattle.rules.proofs.ReaderRules.{too_long}
 use Rattle.endings.specs.Endings.{ending_outcome, Within}
 use Rattle.std.specs.Prelude.{Result, Ok, Err}
 use Rattle.std.specs.Result.{IsErrAnd}
-use Rattle.file.specs.Refusals.{number}
+use Rattle.file.specs.Refusals.{number, numbered}
 use Rattle.file.specs.declared.Refusal.{Refusal}
 use Rattle.file.specs.declared.Refusal.TheVariants as Refusals
 use Rattle.reader.specs.Copies.{bytes_of}
@@ -23,7 +23,7 @@ use Rattle.reader.specs.Copies.{bytes_of}
 abbrev pub Decided : List ℕ → List ℕ → Result ℕ Refusal → List ℕ → Type 0
 Decided f out e out' =
     let o = Reader.outcome f (length out) in
-    (ending_outcome e out' ≡ o) × (Within e out' × (out' ≡ sets out 0 (bytes_of o)))
+    (ending_outcome (numbered e) out' ≡ o) × (Within (numbered e) out' × (out' ≡ sets out 0 (bytes_of o)))
 
 -- 15
 pub refused-15 : (f out : List ℕ) → min plan_limit (length out) < length f → Decided f out (Err Refusals.PlanTooLong) out
@@ -39,7 +39,7 @@ in-time f room l m =
 
 module _ (f out : List ℕ) (l : length f ≤ plan_limit) (m : length f ≤ length out) where
   -- 16 to 18
-  pub refused-by : (r : Result ℕ Refusal) (x : Refusal) → IsErrAnd r (λ y. y ≡ x) → ending_outcome (Err x) f ≡ Reader.finished (Reader.read f) → Decided f out r out
+  pub refused-by : (r : Result ℕ Refusal) (x : Refusal) → IsErrAnd r (λ y. y ≡ x) → ending_outcome (numbered (Err x)) f ≡ Reader.finished (Reader.read f) → Decided f out r out
   unfolding ending_outcome
   refused-by (Ok n) x h is = absurd h
   refused-by (Err y) x h is =

@@ -19,7 +19,7 @@ use Rattle.rules.specs.Reader.{level_rules}
 use Rattle.rules.proofs.ReaderWrites.{Reading, whole, ends-or-unknown, reading}
 use Rattle.file.specs.Steps.{step_of, read_at, step_at}
 use Rattle.std.specs.Prelude.{Result, Ok, Err}
-use Rattle.file.specs.Refusals.{number}
+use Rattle.file.specs.Refusals.{number, numbered}
 use Rattle.file.specs.declared.Refusal.{Refusal}
 use Rattle.file.specs.declared.Refusal.TheVariants as Refusals
 use Rattle.file.proofs.Readers.{refused-got, refused-next}
@@ -82,7 +82,7 @@ module _ (f : List ℕ) (h : Each Byte f) where
       let w = walked n q in
       ap Outcome.planned (ap (λ (k : ℕ). take k f) w.long ∙ take-length f ∙ sym w.same) ∙ sym (judged-as n q ∙ judged-by true b)
 
-  pub breaks : (n : ℕ) → Ok n ≡ step_at f Reader.plan 0 → false ≡ all level_rules (plan_of f).levels → ending_outcome (Err Refusals.PlanRule) f ≡ Reader.finished (Reader.read f)
+  pub breaks : (n : ℕ) → Ok n ≡ step_at f Reader.plan 0 → false ≡ all level_rules (plan_of f).levels → ending_outcome (numbered (Err Refusals.PlanRule)) f ≡ Reader.finished (Reader.read f)
   unfolding ending_outcome
   breaks n q b = sym (judged-as n q ∙ judged-by false b)
 
@@ -107,7 +107,7 @@ refused-by f n (refused m) e =
     let is : n ≡ m = cc in
     ap (λ (k : ℕ). Outcome.refused (number_of k)) is ∙ numbered-by (eqb m 3)
 
-pub refuses : (f : List ℕ) (n : ℕ) (m : Refusal) → Err n ≡ step_at f Reader.plan 0 → number m ≡ number_of n → (ending_outcome (Err m) f ≡ Reader.finished (Reader.read f)) × Unit {0}
+pub refuses : (f : List ℕ) (n : ℕ) (m : Refusal) → Err n ≡ step_at f Reader.plan 0 → number m ≡ number_of n → (ending_outcome (numbered (Err m)) f ≡ Reader.finished (Reader.read f)) × Unit {0}
 unfolding step_at read_at Reader.read ending_outcome
 refuses f n m e q = (ap Outcome.refused q ∙ refused-by f n (Reader.plan f) e, tt)
 

@@ -6,7 +6,7 @@ ghost use Rattle.std.proofs.lemmas.List.Edits.{sets};
 ghost use Rattle.rules.specs.Demand1.{Demand1};
 ghost use Rattle.rules.specs.Reader as Reader;
 ghost use Rattle.rules.specs.ReadAgain.{ReadAgain};
-ghost use Rattle.file.specs.Refusals.{number};
+ghost use Rattle.file.specs.Refusals.{number, numbered};
 ghost use Rattle.endings.specs.Endings.{ending_outcome, Within};
 ghost use Rattle.reader.specs.Copies.{number_of, bytes_of};
 
@@ -30,8 +30,8 @@ fn of_plan(fault: Refusal) -> Refusal
 // What a plan comes to whose length is no trouble: its form first, then the rules of its levels.
 fn judged(plan: &[u8]) -> Result<usize, Refusal>
     ensures outcome { let f = plan.now in
-        ending_outcome result f ≡ Reader.finished (Reader.read f) }
-    ensures within { Within result plan.now }
+        ending_outcome (numbered result) f ≡ Reader.finished (Reader.read f) }
+    ensures within { Within (numbered result) plan.now }
 {
     match plan_end(plan) {
         Ok(n) if levels_keep(plan) => Ok(n),
@@ -43,8 +43,8 @@ fn judged(plan: &[u8]) -> Result<usize, Refusal>
 // Everything except zeroing: the lengths, the plan's bytes, and an accepted plan copied.
 fn decide(plan: &[u8], out: &mut [u8]) -> Result<usize, Refusal>
     ensures outcome { let room = length out.old in
-        ending_outcome result out.new ≡ Reader.outcome plan.now room }
-    ensures within { Within result out.new }
+        ending_outcome (numbered result) out.new ≡ Reader.outcome plan.now room }
+    ensures within { Within (numbered result) out.new }
     ensures copied { let room = length out.old in
         let o = Reader.outcome plan.now room in
         out.new ≡ sets out.old 0 (bytes_of o) }
@@ -76,5 +76,5 @@ pub fn sinalvento_read(plan: &[u8], out: &mut [u8], work: &mut [u8]) -> u64
         ReadAgain plan.now (take result out.new) }
 {
     let e = decide(plan, out);
-    finish(e, out, work)
+    finish(e.map_err(Refusal::number), out, work)
 }

@@ -35,6 +35,13 @@ both_false b c e = ap (λ (d : Bool). both d c) e
 pub both-then : (b c : Bool) → b ≡ true → both b c ≡ c
 both-then b c e = ap (λ (d : Bool). both d c) e
 
+-- v is what `a && r` gives: r if a holds, else a itself
+pub and-then : (x y : Bool) {v a r : Bool} → a ≡ x → a ≡ true → v ≡ r → r ≡ y → v ≡ both x y
+and-then x y e t h g = h ∙ g ∙ sym (both-then x y (sym e ∙ t))
+
+pub and-else : (x y : Bool) {v a : Bool} → a ≡ x → a ≡ false → v ≡ a → v ≡ both x y
+and-else x y e t h = h ∙ t ∙ sym (both_false x y (sym e ∙ t))
+
 -- a number that was read is the file's
 pub word_low : (k w b : ℕ) → k ≡ w → k < b → ltb w b ≡ true
 word_low k w b e h = ap (λ (j : ℕ). ltb j b) (sym e) ∙ lt-ltb k b h

@@ -1,6 +1,6 @@
 -- What a view gives to a check: the check of the table's entry by the view's parts.
 use Rattle.std.specs.Prelude.{Option}
-use Prim.Native.Nat.{ℕ, zero, suc, ◌+◌, ◌*◌, ◌-◌, ◌≤◌, ◌<◌}
+use Prim.Native.Nat.{ℕ, ◌+◌, ◌*◌, ◌-◌, ◌≤◌, ◌<◌}
 use mathlib.Core.Path.{◌≡◌, refl, sym, ap, ap₂, ◌∙◌, subst}
 use mathlib.Core.Bool.{Bool, true, false}
 use mathlib.Core.List.{List, [], ◌∷◌, map}
@@ -9,14 +9,13 @@ use native.Mathlib.Nat.{add-zero}
 use lib.Dec.{ltb}
 use lib.ListN.{length}
 use borrow.Author.Tests.{lt-ltb, le-ltb}
-use Rattle.rules.specs.Base.{both, all}
+use Rattle.rules.specs.Base.{both, all, all_from}
 use Rattle.rules.specs.Limits.{file_limit}
 use Rattle.rules.specs.File as File
 use Rattle.rules.specs.File.{Tables, Ty, Node, Slot, type_at, predicate_at, node_at, child_types, child_nodes}
-use Rattle.rules.specs.Checks.{is_name, is_type, is_predicate, is_node, none_or, type_in, predicate_in, node_in, slot_in, binding_in, hoisted_in, constraint_in, comparison_in, level_in, numbers_in, type_distinct, types_distinct}
-use Rattle.rules.proofs.Cases.{both-unit}
+use Rattle.rules.specs.Checks.{is_name, is_type, is_predicate, is_node, none_or, type_in, predicate_in, node_in, slot_in, binding_in, hoisted_in, constraint_in, comparison_in, level_in, type_distinct, types_distinct}
 use Rattle.file.specs.Steps.{word}
-use Rattle.views.specs.Views.{size_of, run, long, field_at, alternative_at, pattern_at, type_of, node_of, slot_viewed, predicate_of, predicate_option, SeenType, SeenNode, SeenBinding, binding_at, hoisted_at, constraint_at, comparison_at, level_entry_at}
+use Rattle.views.specs.Views.{run, long, field_at, alternative_at, pattern_at, type_of, node_of, slot_viewed, predicate_of, predicate_option, SeenType, SeenNode, SeenBinding, binding_at, hoisted_at, constraint_at, comparison_at, level_entry_at}
 use Rattle.views.specs.declared.TypeView.{TypeView}
 use Rattle.views.specs.declared.TypeView.TheVariants as Tv
 use Rattle.views.specs.declared.NodeView.{NodeView}
@@ -28,7 +27,7 @@ use Rattle.paths.specs.declared.PredicateId.{PredicateId}
 use Rattle.views.specs.declared.Anchor.{Anchor}
 use Rattle.views.specs.declared.BindingView.{BindingView}
 use Rattle.views.specs.declared.Predicate.{Predicate}
-use Rattle.record_checks.specs.RecordChecks.{Words, pairs_in, record_in, section_in, record_lower, section_lower}
+use Rattle.record_checks.specs.RecordChecks.{Words, pairs_in}
 use Rattle.record_checks.proofs.Every.{every, all_from-every, all-every, pairs-law, run-map}
 
 -- any function of the entry, by the view
@@ -103,39 +102,48 @@ module _ (T : Tables) (f : List ℕ) (b : File.Binding) (v : BindingView) (s : S
       let n : b.name < length T.names = subst (λ (j : ℕ). j < length T.names) (ap (λ (x : File.Binding). x.name) s.is) h in
       e ∙ sym (ap (λ (d : Bool). both d (slot_in T b.slot)) (lt-ltb _ _ n))
 
-always : (q : ℕ → Bool) → ((t : ℕ) → q t ≡ true) → (n t : ℕ) → true ≡ every q n t
-unfolding every
-always q h zero t = refl
-always q h (suc n) t = always q h n (suc t) ∙ sym (ap (λ (b : Bool). both b (every q n (suc t))) (h t))
+-- 8, section by section
+module _ (T : Tables) where
+  pub types-in-every : all (type_in T) T.types ≡ every (λ t. type_in T (type_at T t)) (length T.types) 0
+  unfolding type_at
+  types-in-every = all-every (type_in T) _ Ty.Int T.types (λ k g. refl)
 
-pub section-every : (T : Tables) (s : ℕ) → s < 10 → section_in T s ≡ every (record_in T s) (size_of T s) 0
-unfolding section_in record_in type_at predicate_at node_at binding_at hoisted_at constraint_at comparison_at level_entry_at
-section-every T zero h = always (record_in T 0) (λ t. refl) (length T.names) 0
-section-every T (suc zero) h = all-every (type_in T) (record_in T 1) _ T.types (λ k g. refl)
-section-every T (suc (suc zero)) h = all-every (predicate_in T) (record_in T 2) _ T.predicates (λ k g. refl)
-section-every T (suc (suc (suc zero))) h = all-every (node_in T) (record_in T 3) _ T.nodes (λ k g. refl)
-section-every T (suc (suc (suc (suc zero)))) h = all-every (binding_in T) (record_in T 4) _ T.bindings (λ k g. refl)
-section-every T (suc (suc (suc (suc (suc zero))))) h = all-every (hoisted_in T) (record_in T 5) _ T.hoisted (λ k g. refl)
-section-every T (suc (suc (suc (suc (suc (suc zero)))))) h = always (record_in T 6) (λ t. refl) (length T.fetched) 0
-section-every T (suc (suc (suc (suc (suc (suc (suc zero))))))) h = all-every (constraint_in T) (record_in T 7) _ T.constraints (λ k g. refl)
-section-every T (suc (suc (suc (suc (suc (suc (suc (suc zero)))))))) h = all-every (comparison_in T) (record_in T 8) _ T.comparisons (λ k g. refl)
-section-every T (suc (suc (suc (suc (suc (suc (suc (suc (suc zero))))))))) h = all-every (level_in T) (record_in T 9) _ T.levels (λ k g. refl)
-section-every T (suc (suc (suc (suc (suc (suc (suc (suc (suc (suc s)))))))))) h = absurd (omega arith)
+  pub predicates-in-every : all (predicate_in T) T.predicates ≡ every (λ t. predicate_in T (predicate_at T t)) (length T.predicates) 0
+  unfolding predicate_at
+  predicates-in-every = all-every (predicate_in T) _ _ T.predicates (λ k g. refl)
 
-pub numbers-every : (T : Tables) → numbers_in T ≡ every (section_in T) 10 0
-unfolding numbers_in section_in every
-numbers-every T =
-    ap (λ (b : Bool). both (section_in T 1) (both (section_in T 2) (both (section_in T 3) (both (section_in T 4) (both (section_in T 5) (both (section_in T 7) (both (section_in T 8) b)))))))
-    (sym (both-unit (section_in T 9)))
+  pub nodes-in-every : all (node_in T) T.nodes ≡ every (λ t. node_in T (node_at T t)) (length T.nodes) 0
+  unfolding node_at
+  nodes-in-every = all-every (node_in T) _ Node.Error T.nodes (λ k g. refl)
 
--- 9
-pub lower-every : (T : Tables) (s : ℕ) → section_lower T s ≡ every (record_lower T s) (size_of T s) 0
-unfolding section_lower record_lower type_at node_at
-lower-every T zero = always (record_lower T 0) (λ t. refl) (size_of T 0) 0
-lower-every T (suc zero) = all_from-every _ (record_lower T 1) Ty.Int T.types (λ k g. refl)
-lower-every T (suc (suc zero)) = always (record_lower T 2) (λ t. refl) (size_of T 2) 0
-lower-every T (suc (suc (suc zero))) = all_from-every _ (record_lower T 3) Node.Error T.nodes (λ k g. refl)
-lower-every T (suc (suc (suc (suc s)))) = let k : ℕ = suc (suc (suc (suc s))) in always (record_lower T k) (λ t. refl) (size_of T k) 0
+  pub bindings-in-every : all (binding_in T) T.bindings ≡ every (λ t. binding_in T (binding_at T t)) (length T.bindings) 0
+  unfolding binding_at
+  bindings-in-every = all-every (binding_in T) _ _ T.bindings (λ k g. refl)
+
+  pub hoisted-in-every : all (hoisted_in T) T.hoisted ≡ every (λ t. hoisted_in T (hoisted_at T t)) (length T.hoisted) 0
+  unfolding hoisted_at
+  hoisted-in-every = all-every (hoisted_in T) _ _ T.hoisted (λ k g. refl)
+
+  pub constraints-in-every : all (constraint_in T) T.constraints ≡ every (λ t. constraint_in T (constraint_at T t)) (length T.constraints) 0
+  unfolding constraint_at
+  constraints-in-every = all-every (constraint_in T) _ _ T.constraints (λ k g. refl)
+
+  pub comparisons-in-every : all (comparison_in T) T.comparisons ≡ every (λ t. comparison_in T (comparison_at T t)) (length T.comparisons) 0
+  unfolding comparison_at
+  comparisons-in-every = all-every (comparison_in T) _ _ T.comparisons (λ k g. refl)
+
+  pub levels-in-every : all (level_in T) T.levels ≡ every (λ t. level_in T (level_entry_at T t)) (length T.levels) 0
+  unfolding level_entry_at
+  levels-in-every = all-every (level_in T) _ _ T.levels (λ k g. refl)
+
+  -- 9
+  pub types-lower-every : all_from 0 (λ t ty. all (λ c. ltb c t) (child_types ty)) T.types ≡ every (λ t. all (λ c. ltb c t) (child_types (type_at T t))) (length T.types) 0
+  unfolding type_at
+  types-lower-every = all_from-every _ _ Ty.Int T.types (λ k g. refl)
+
+  pub nodes-lower-every : all_from 0 (λ n nd. all (λ c. ltb c n) (child_nodes nd)) T.nodes ≡ every (λ n. all (λ c. ltb c n) (child_nodes (node_at T n))) (length T.nodes) 0
+  unfolding node_at
+  nodes-lower-every = all_from-every _ _ Node.Error T.nodes (λ k g. refl)
 
 -- 10
 pub types-distinct-every : (T : Tables) → types_distinct T ≡ every (λ t. type_distinct (type_at T t)) (length T.types) 0
@@ -180,39 +188,6 @@ child-lower c n = go (ltb c n)
 pub row_in : (T : Tables) (f : List ℕ) (b : File.Binding) (v : BindingView) (a : Address) (p o : Option PredicateId) → SeenBinding f b v → v.slot ≡ Sv.Row a p → p ≡ o → none_or (is_predicate T) (predicate_option o) ≡ slot_in T b.slot
 unfolding slot_in
 row_in T f b v a p o s e g = ap (λ (u : Option PredicateId). none_or (is_predicate T) (predicate_option u)) (sym g) ∙ by-slot (slot_in T) s e
-
--- a record of section s
-module _ (T : Tables) (s t k : ℕ) (e : s ≡ k) where
-  pub record_is : record_in T k t ≡ record_in T s t
-  record_is = ap (λ (j : ℕ). record_in T j t) (sym e)
-
-  pub lower-is : record_lower T k t ≡ record_lower T s t
-  lower-is = ap (λ (j : ℕ). record_lower T j t) (sym e)
-
-  pub size_is : t < size_of T s → t < size_of T k
-  size_is h = subst (λ (j : ℕ). t < size_of T j) e h
-
-pub record-rest : (T : Tables) (s t : ℕ) → s < 10 → (s ≡ 1 → ⊥) → (s ≡ 2 → ⊥) → (s ≡ 3 → ⊥) → (s ≡ 4 → ⊥) → (s ≡ 5 → ⊥) → (s ≡ 7 → ⊥) → (s ≡ 8 → ⊥) → (s ≡ 9 → ⊥) → true ≡ record_in T s t
-unfolding record_in
-record-rest T zero t h n1 n2 n3 n4 n5 n7 n8 n9 = refl
-record-rest T (suc zero) t h n1 n2 n3 n4 n5 n7 n8 n9 = absurd (n1 refl)
-record-rest T (suc (suc zero)) t h n1 n2 n3 n4 n5 n7 n8 n9 = absurd (n2 refl)
-record-rest T (suc (suc (suc zero))) t h n1 n2 n3 n4 n5 n7 n8 n9 = absurd (n3 refl)
-record-rest T (suc (suc (suc (suc zero)))) t h n1 n2 n3 n4 n5 n7 n8 n9 = absurd (n4 refl)
-record-rest T (suc (suc (suc (suc (suc zero))))) t h n1 n2 n3 n4 n5 n7 n8 n9 = absurd (n5 refl)
-record-rest T (suc (suc (suc (suc (suc (suc zero)))))) t h n1 n2 n3 n4 n5 n7 n8 n9 = refl
-record-rest T (suc (suc (suc (suc (suc (suc (suc zero))))))) t h n1 n2 n3 n4 n5 n7 n8 n9 = absurd (n7 refl)
-record-rest T (suc (suc (suc (suc (suc (suc (suc (suc zero)))))))) t h n1 n2 n3 n4 n5 n7 n8 n9 = absurd (n8 refl)
-record-rest T (suc (suc (suc (suc (suc (suc (suc (suc (suc zero))))))))) t h n1 n2 n3 n4 n5 n7 n8 n9 = absurd (n9 refl)
-record-rest T (suc (suc (suc (suc (suc (suc (suc (suc (suc (suc s)))))))))) t h n1 n2 n3 n4 n5 n7 n8 n9 = absurd (omega arith)
-
-pub lower-rest : (T : Tables) (s t : ℕ) → (s ≡ 1 → ⊥) → (s ≡ 3 → ⊥) → true ≡ record_lower T s t
-unfolding record_lower
-lower-rest T zero t n1 n3 = refl
-lower-rest T (suc zero) t n1 n3 = absurd (n1 refl)
-lower-rest T (suc (suc zero)) t n1 n3 = refl
-lower-rest T (suc (suc (suc zero))) t n1 n3 = absurd (n3 refl)
-lower-rest T (suc (suc (suc (suc s)))) t n1 n3 = refl
 
 -- a loop over n numbers begins
 pub every-start : (q : ℕ → Bool) (n m : ℕ) → m ≡ n → every q n 0 ≡ every q (m - 0) 0

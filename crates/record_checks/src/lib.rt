@@ -5,20 +5,14 @@ ghost use Rattle.std.specs.Prelude.{◌≡◌, ◌+◌, ◌≤◌, ◌<◌, leng
 ghost use Rattle.rules.specs.Base.{both, all, distinct};
 ghost use Rattle.rules.specs.File.{type_at, node_at, predicate_at, child_types, child_nodes};
 ghost use Rattle.rules.specs.Checks.{type_in, predicate_in, node_in, binding_in, hoisted_in, constraint_in, comparison_in, level_in, numbers_in, children_lower, type_distinct, types_distinct};
-ghost use Rattle.file.specs.Steps.{word, section_count};
-ghost use Rattle.file.specs.Tables.{Indexed, tables_of};
-ghost use Rattle.views.specs.Views.{size_of, run, binding_at, hoisted_at, constraint_at, comparison_at, level_entry_at};
-ghost use Rattle.record_checks.specs.RecordChecks.{Words, pairs_in, number_at, among, rising, record_in, section_in, record_lower, section_lower};
+ghost use Rattle.file.specs.Steps.{word};
+ghost use Rattle.views.specs.Files.{tables_in};
+ghost use Rattle.views.specs.Views.{run, binding_at, hoisted_at, constraint_at, comparison_at, level_entry_at};
+ghost use Rattle.record_checks.specs.RecordChecks.{Words, pairs_in, number_at, among, rising};
 
-use file::{
-    BINDINGS, COMPARISONS, CONSTRAINTS, HOISTED, LEVELS, NAME_LIMIT, NAMES, NODES, PREDICATES,
-    SECTIONS, TYPES, wide16, word_at,
-};
+use file::{NAME_LIMIT, Section, word_at};
 use paths::PredicateId;
-use views::{
-    NodeView, SlotView, TypeView, binding_at, comparison_at, constraint_at, count_of, hoisted_at,
-    level_at, long_at, node_at, predicate_at, type_at,
-};
+use views::{IndexedFile, NodeView, SlotView, TypeView, long_at};
 
 // Whether each of n two-byte numbers is below the bound; the first stands at p, each next one w bytes on. 8 and 9 both ask this.
 pub fn words_below(file: &[u8], w: usize, n: usize, p: usize, bound: usize) -> bool
@@ -47,31 +41,29 @@ fn pairs_in(
 }
 
 // 8: the names, types and predicate that a type has.
-fn type_in(file: &[u8], index: &[u16], t: usize) -> bool
-    requires indexed { Indexed file.now index.now }
-    requires t_in_bounds { t < length (tables_of file.now).types }
-    ensures { let T = tables_of file.now in
+fn type_in(file: &IndexedFile, t: usize) -> bool
+    requires { t < length (tables_in file.now).types }
+    ensures { let T = tables_in file.now in
         result ≡ type_in T (type_at T t) }
 {
-    let names = count_of(file, index, NAMES);
-    let types = count_of(file, index, TYPES);
-    match type_at(file, index, t) {
-        TypeView::Fact(p) => wide16(p.0) < count_of(file, index, PREDICATES),
-        TypeView::Record(n, at) => pairs_in(file, 4, n, at, names, 2, types),
-        TypeView::Union(n, at) => pairs_in(file, 8, n, at, names, 6, types),
+    let names = file.count_of(Section::Names);
+    let types = file.count_of(Section::Types);
+    match file.type_at(t) {
+        TypeView::Fact(p) => usize::from(p.0) < file.count_of(Section::Predicates),
+        TypeView::Record(n, at) => pairs_in(file.bytes, 4, n, at, names, 2, types),
+        TypeView::Union(n, at) => pairs_in(file.bytes, 8, n, at, names, 6, types),
         _ => true,
     }
 }
 
 // 8: the types of a predicate's key and value.
-fn predicate_in(file: &[u8], index: &[u16], t: usize) -> bool
-    requires indexed { Indexed file.now index.now }
-    requires t_in_bounds { t < length (tables_of file.now).predicates }
-    ensures { let T = tables_of file.now in
+fn predicate_in(file: &IndexedFile, t: usize) -> bool
+    requires { t < length (tables_in file.now).predicates }
+    ensures { let T = tables_in file.now in
         result ≡ predicate_in T (predicate_at T t) }
 {
-    let types = count_of(file, index, TYPES);
-    let p = predicate_at(file, index, PredicateId(t as u16));
+    let types = file.count_of(Section::Types);
+    let p = file.predicate_at(PredicateId(t as u16));
     if p.key >= types {
         return false;
     }
@@ -82,23 +74,22 @@ fn predicate_in(file: &[u8], index: &[u16], t: usize) -> bool
 }
 
 // 8: the names, nodes and predicate that a node has.
-fn node_in(file: &[u8], index: &[u16], n: usize) -> bool
-    requires indexed { Indexed file.now index.now }
-    requires n_in_bounds { n < length (tables_of file.now).nodes }
-    ensures { let T = tables_of file.now in
+fn node_in(file: &IndexedFile, n: usize) -> bool
+    requires { n < length (tables_in file.now).nodes }
+    ensures { let T = tables_in file.now in
         result ≡ node_in T (node_at T n) }
 {
-    let names = count_of(file, index, NAMES);
-    let nodes = count_of(file, index, NODES);
-    match node_at(file, index, n) {
+    let names = file.count_of(Section::Names);
+    let nodes = file.count_of(Section::Nodes);
+    match file.node_at(n) {
         NodeView::Str(x) | NodeView::Var(x) | NodeView::Prefix(x) => x < names,
         NodeView::Fuzzy(x, _, _) => x < names,
-        NodeView::Record(m, at) => pairs_in(file, 4, m, at, names, 2, nodes),
+        NodeView::Record(m, at) => pairs_in(file.bytes, 4, m, at, names, 2, nodes),
         NodeView::Access(x, c) | NodeView::Select(x, c) => both_below(x, names, c, nodes),
         NodeView::Value(c) => c < nodes,
         NodeView::Fact(p, c) => both_below(
-            wide16(p.0),
-            count_of(file, index, PREDICATES),
+            usize::from(p.0),
+            file.count_of(Section::Predicates),
             c,
             nodes,
         ),
@@ -114,152 +105,123 @@ fn both_below(a: usize, m: usize, b: usize, n: usize) -> bool
 }
 
 // 8: the name of a binding, and the number in its slot.
-fn binding_in(file: &[u8], index: &[u16], b: usize) -> bool
-    requires indexed { Indexed file.now index.now }
-    requires b_in_bounds { b < length (tables_of file.now).bindings }
-    ensures { let T = tables_of file.now in
+fn binding_in(file: &IndexedFile, b: usize) -> bool
+    requires { b < length (tables_in file.now).bindings }
+    ensures { let T = tables_in file.now in
         result ≡ binding_in T (binding_at T b) }
 {
-    let types = count_of(file, index, TYPES);
-    let v = binding_at(file, index, b);
-    if v.name >= count_of(file, index, NAMES) {
+    let types = file.count_of(Section::Types);
+    let v = file.binding_at(b);
+    if v.name >= file.count_of(Section::Names) {
         return false;
     }
     let slot = v.slot;
     match slot {
         SlotView::Row(_, p) => match p {
             None => true,
-            Some(q) => wide16(q.0) < count_of(file, index, PREDICATES),
+            Some(q) => usize::from(q.0) < file.count_of(Section::Predicates),
         },
         SlotView::Key(_, t) | SlotView::Value(_, t) => t < types,
         SlotView::Derived(_) => true,
         SlotView::Field(_, _, t) => t < types,
-        SlotView::Const(n) => n < count_of(file, index, NODES),
+        SlotView::Const(n) => n < file.count_of(Section::Nodes),
     }
 }
 
 // 8: the node and name of a hoisted entry.
-fn hoisted_in(file: &[u8], index: &[u16], k: usize) -> bool
-    requires indexed { Indexed file.now index.now }
-    requires k_in_bounds { k < length (tables_of file.now).hoisted }
-    ensures { let T = tables_of file.now in
+fn hoisted_in(file: &IndexedFile, k: usize) -> bool
+    requires { k < length (tables_in file.now).hoisted }
+    ensures { let T = tables_in file.now in
         result ≡ hoisted_in T (hoisted_at T k) }
 {
-    let h = hoisted_at(file, index, k);
+    let h = file.hoisted_at(k);
     both_below(
         h.node,
-        count_of(file, index, NODES),
+        file.count_of(Section::Nodes),
         h.name,
-        count_of(file, index, NAMES),
+        file.count_of(Section::Names),
     )
 }
 
 // 8: the name and node of a constraint.
-fn constraint_in(file: &[u8], index: &[u16], k: usize) -> bool
-    requires indexed { Indexed file.now index.now }
-    requires k_in_bounds { k < length (tables_of file.now).constraints }
-    ensures { let T = tables_of file.now in
+fn constraint_in(file: &IndexedFile, k: usize) -> bool
+    requires { k < length (tables_in file.now).constraints }
+    ensures { let T = tables_in file.now in
         result ≡ constraint_in T (constraint_at T k) }
 {
-    let c = constraint_at(file, index, k);
+    let c = file.constraint_at(k);
     both_below(
         c.name,
-        count_of(file, index, NAMES),
+        file.count_of(Section::Names),
         c.node,
-        count_of(file, index, NODES),
+        file.count_of(Section::Nodes),
     )
 }
 
 // 8: the two nodes of a comparison.
-fn comparison_in(file: &[u8], index: &[u16], k: usize) -> bool
-    requires indexed { Indexed file.now index.now }
-    requires k_in_bounds { k < length (tables_of file.now).comparisons }
-    ensures { let T = tables_of file.now in
+fn comparison_in(file: &IndexedFile, k: usize) -> bool
+    requires { k < length (tables_in file.now).comparisons }
+    ensures { let T = tables_in file.now in
         result ≡ comparison_in T (comparison_at T k) }
 {
-    let c = comparison_at(file, index, k);
+    let c = file.comparison_at(k);
     both_below(
         c.left,
-        count_of(file, index, NODES),
+        file.count_of(Section::Nodes),
         c.right,
-        count_of(file, index, NODES),
+        file.count_of(Section::Nodes),
     )
 }
 
 // 8: the predicate and node of a level.
-fn level_in(file: &[u8], index: &[u16], k: usize) -> bool
-    requires indexed { Indexed file.now index.now }
-    requires k_in_bounds { k < length (tables_of file.now).levels }
-    ensures { let T = tables_of file.now in
+fn level_in(file: &IndexedFile, k: usize) -> bool
+    requires { k < length (tables_in file.now).levels }
+    ensures { let T = tables_in file.now in
         result ≡ level_in T (level_entry_at T k) }
 {
-    let l = level_at(file, index, k);
+    let l = file.level_at(k);
     let p = l.predicate;
     both_below(
-        wide16(p.0),
-        count_of(file, index, PREDICATES),
+        usize::from(p.0),
+        file.count_of(Section::Predicates),
         l.node,
-        count_of(file, index, NODES),
+        file.count_of(Section::Nodes),
     )
 }
 
-// 8: record t of section s. Names and fetched entries name no number that is looked at.
-fn record_in(file: &[u8], index: &[u16], s: usize, t: usize) -> bool
-    requires indexed { Indexed file.now index.now }
-    requires s_lt_section_count { (s < section_count) × (t < size_of (tables_of file.now) s) }
-    ensures { result ≡ record_in (tables_of file.now) s t }
+// 8: whether every number is below its section's count. Names and fetched entries name no number that is looked at.
+pub fn numbers_in(file: &IndexedFile) -> bool
+    ensures { result ≡ numbers_in (tables_in file.now) }
 {
-    match s {
-        TYPES => type_in(file, index, t),
-        PREDICATES => predicate_in(file, index, t),
-        NODES => node_in(file, index, t),
-        BINDINGS => binding_in(file, index, t),
-        HOISTED => hoisted_in(file, index, t),
-        CONSTRAINTS => constraint_in(file, index, t),
-        COMPARISONS => comparison_in(file, index, t),
-        LEVELS => level_in(file, index, t),
-        _ => true,
-    }
-}
-
-// 8: all records of section s.
-fn records_in(file: &[u8], index: &[u16], s: usize) -> bool
-    requires indexed { Indexed file.now index.now }
-    requires s_lt_section_count { s < section_count }
-    ensures { result ≡ section_in (tables_of file.now) s }
-{
-    (0..count_of(file, index, s)).all(|t| record_in(file, index, s, t))
-}
-
-// 8: whether every number is below its section's count.
-pub fn numbers_in(file: &[u8], index: &[u16]) -> bool
-    requires { Indexed file.now index.now }
-    ensures { result ≡ numbers_in (tables_of file.now) }
-{
-    (0..SECTIONS).all(|s| records_in(file, index, s))
+    (0..file.count_of(Section::Types)).all(|t| type_in(file, t))
+        && (0..file.count_of(Section::Predicates)).all(|p| predicate_in(file, p))
+        && (0..file.count_of(Section::Nodes)).all(|n| node_in(file, n))
+        && (0..file.count_of(Section::Bindings)).all(|b| binding_in(file, b))
+        && (0..file.count_of(Section::Hoisted)).all(|k| hoisted_in(file, k))
+        && (0..file.count_of(Section::Constraints)).all(|k| constraint_in(file, k))
+        && (0..file.count_of(Section::Comparisons)).all(|k| comparison_in(file, k))
+        && (0..file.count_of(Section::Levels)).all(|k| level_in(file, k))
 }
 
 // 9: the children of type t.
-fn type_lower(file: &[u8], index: &[u16], t: usize) -> bool
-    requires indexed { Indexed file.now index.now }
-    requires t_in_bounds { t < length (tables_of file.now).types }
-    ensures { result ≡ all (λ c. ltb c t) (child_types (type_at (tables_of file.now) t)) }
+fn type_lower(file: &IndexedFile, t: usize) -> bool
+    requires { t < length (tables_in file.now).types }
+    ensures { result ≡ all (λ c. ltb c t) (child_types (type_at (tables_in file.now) t)) }
 {
-    match type_at(file, index, t) {
-        TypeView::Record(n, at) => words_below(file, 4, n, at + 2, t),
-        TypeView::Union(n, at) => words_below(file, 8, n, at + 6, t),
+    match file.type_at(t) {
+        TypeView::Record(n, at) => words_below(file.bytes, 4, n, at + 2, t),
+        TypeView::Union(n, at) => words_below(file.bytes, 8, n, at + 6, t),
         _ => true,
     }
 }
 
 // 9: the children of node n.
-fn node_lower(file: &[u8], index: &[u16], n: usize) -> bool
-    requires indexed { Indexed file.now index.now }
-    requires n_in_bounds { n < length (tables_of file.now).nodes }
-    ensures { result ≡ all (λ c. ltb c n) (child_nodes (node_at (tables_of file.now) n)) }
+fn node_lower(file: &IndexedFile, n: usize) -> bool
+    requires { n < length (tables_in file.now).nodes }
+    ensures { result ≡ all (λ c. ltb c n) (child_nodes (node_at (tables_in file.now) n)) }
 {
-    match node_at(file, index, n) {
-        NodeView::Record(m, at) => words_below(file, 4, m, at + 2, n),
+    match file.node_at(n) {
+        NodeView::Record(m, at) => words_below(file.bytes, 4, m, at + 2, n),
         NodeView::Access(_, c) | NodeView::Select(_, c) => c < n,
         NodeView::Value(c) => c < n,
         NodeView::Fact(_, c) => c < n,
@@ -267,37 +229,16 @@ fn node_lower(file: &[u8], index: &[u16], n: usize) -> bool
     }
 }
 
-// 9: the children of record t of section s. Only types and nodes have any.
-fn record_lower(file: &[u8], index: &[u16], s: usize, t: usize) -> bool
-    requires indexed { Indexed file.now index.now }
-    requires t_bound { t < size_of (tables_of file.now) s }
-    ensures { result ≡ record_lower (tables_of file.now) s t }
+// 9: whether every child is lower than its parent. Only types and nodes have children.
+pub fn children_lower(file: &IndexedFile) -> bool
+    ensures { result ≡ children_lower (tables_in file.now) }
 {
-    match s {
-        TYPES => type_lower(file, index, t),
-        NODES => node_lower(file, index, t),
-        _ => true,
-    }
+    (0..file.count_of(Section::Types)).all(|t| type_lower(file, t))
+        && (0..file.count_of(Section::Nodes)).all(|n| node_lower(file, n))
 }
 
-// 9: the children of all records of section s.
-fn records_lower(file: &[u8], index: &[u16], s: usize) -> bool
-    requires indexed { Indexed file.now index.now }
-    requires s_lt_section_count { s < section_count }
-    ensures { result ≡ section_lower (tables_of file.now) s }
-{
-    (0..count_of(file, index, s)).all(|t| record_lower(file, index, s, t))
-}
-
-// 9: whether every child is lower than its parent.
-pub fn children_lower(file: &[u8], index: &[u16]) -> bool
-    requires { Indexed file.now index.now }
-    ensures { result ≡ children_lower (tables_of file.now) }
-{
-    records_lower(file, index, TYPES) && records_lower(file, index, NODES)
-}
-
-// The number at p: four bytes if it is long, as a disc is, else two, as a name is.
+// The number at p: four bytes if it is long, as a disc is, else two, as a name is. `long` is a flag and no closure: names and discs alone
+// are read so, and `Words` says for both what lies within.
 fn number_at(file: &[u8], long: bool, p: usize) -> u32
     requires { p + 4 ≤ length file.now }
     ensures { result ≡ number_at file.now long p }
@@ -359,6 +300,7 @@ fn names_distinct(file: &[u8], w: usize, n: usize, p: usize) -> bool
     requires { Words file.now 4 w n p }
     ensures { result ≡ distinct (run (word file.now) w n p) }
 {
+    // No heap: on the stack.
     let mut marks = [0u8; NAME_LIMIT];
     for k in 0..n {
         let x = word_at(file, p + w * k);
@@ -374,24 +316,22 @@ fn names_distinct(file: &[u8], w: usize, n: usize, p: usize) -> bool
 }
 
 // 10: the names of type t, and its discs if it is a Union.
-fn type_distinct(file: &[u8], index: &[u16], t: usize) -> bool
-    requires indexed { Indexed file.now index.now }
-    requires t_in_bounds { t < length (tables_of file.now).types }
-    ensures { result ≡ type_distinct (type_at (tables_of file.now) t) }
+fn type_distinct(file: &IndexedFile, t: usize) -> bool
+    requires { t < length (tables_in file.now).types }
+    ensures { result ≡ type_distinct (type_at (tables_in file.now) t) }
 {
-    match type_at(file, index, t) {
-        TypeView::Record(n, at) => names_distinct(file, 4, n, at),
+    match file.type_at(t) {
+        TypeView::Record(n, at) => names_distinct(file.bytes, 4, n, at),
         TypeView::Union(n, at) => {
-            names_distinct(file, 8, n, at) && all_distinct(file, true, 8, n, at + 2)
+            names_distinct(file.bytes, 8, n, at) && all_distinct(file.bytes, true, 8, n, at + 2)
         }
         _ => true,
     }
 }
 
 // 10: whether no type repeats a name, and no Union a disc.
-pub fn types_distinct(file: &[u8], index: &[u16]) -> bool
-    requires { Indexed file.now index.now }
-    ensures { result ≡ types_distinct (tables_of file.now) }
+pub fn types_distinct(file: &IndexedFile) -> bool
+    ensures { result ≡ types_distinct (tables_in file.now) }
 {
-    (0..count_of(file, index, TYPES)).all(|t| type_distinct(file, index, t))
+    (0..file.count_of(Section::Types)).all(|t| type_distinct(file, t))
 }

@@ -12,11 +12,11 @@ ghost use Rattle.paths.specs.Paths.{path_of};
 ghost use Rattle.views.specs.Views.{anchor_of};
 ghost use Rattle.records.specs.Records.{put, reach, longest_path, written_at, behind, moved_to, head_of, apart_of, cut};
 
-use file::{wide, wide16};
 use paths::{Address, FieldPath};
 use views::Anchor;
 
-// Where bytes go in the plan, and whether they do. A part that is joined has no frame.
+// Where bytes go in the plan, and whether they do. A part that is joined has no frame. `write` is a flag and `at` no Option: a place that
+// takes nothing still moves on, and a clause says where to (`behind`).
 #[derive(Clone, Copy)]
 pub struct Place {
     pub write: bool,
@@ -24,20 +24,14 @@ pub struct Place {
     pub at: usize,
 }
 
-// A number of four bytes as a position or a count.
-pub fn wide32(x: u32) -> usize
-    ensures { (result ≡ x) × (result < 4294967296) }
-{
-    x as usize
-}
-
+// Like tables' `word_or_zero`: one expression each, and a generic one would have to state its From in the clause.
 fn byte_or_zero(bytes: &[u8], p: usize) -> usize
     ensures { (result ≡ get_or bytes.now p 0) × (result < 256) }
 {
-    if p < bytes.len() { wide(bytes[p]) } else { 0 }
+    bytes.get(p).map_or(0, |x| usize::from(*x))
 }
 
-// The word at p, its lower byte first; past the end bytes are 0.
+// The word at p, its lower byte first; past the end bytes are 0, so that `from_le_bytes` has no two bytes to take.
 pub fn word_in(bytes: &[u8], p: usize) -> usize
     requires { p ≤ reach }
     ensures { (result ≡ word_in bytes.now p) × (result < 65536) }
@@ -54,7 +48,8 @@ pub fn put8(buf: &mut [u8], at: usize, b: u8)
     }
 }
 
-// Writes a number as two bytes, the lower first.
+// Writes a number as two bytes, the lower first: byte by byte, since each byte has its own place, and one outside the buffer takes nothing
+// (put8), so `to_le_bytes` would give an array to take apart again.
 pub fn put16(buf: &mut [u8], at: usize, v: usize)
     requires { at ≤ 4 * reach }
     ensures { buf.new ≡ put buf.old at (Plan.u16 v) }
@@ -111,7 +106,7 @@ pub fn put_path(buf: &mut [u8], at: usize, p: FieldPath) -> usize
 {
     let q = within(p);
     let n = q.count as usize;
-    put16(buf, at, wide16(q.field));
+    put16(buf, at, usize::from(q.field));
     put8(buf, at + 2, n as u8);
     for i in 0..n {
         put32(buf, at + 3 + 4 * i, q.steps[i]);
@@ -140,7 +135,8 @@ pub fn put_path_at(plan: &mut [u8], place: Place, path: FieldPath) -> Place
     }
 }
 
-// Writes what stands before a text of `len` bytes, a kind and the length, and gives where the text goes.
+// Writes what stands before a text of `len` bytes, a kind and the length, and gives where the text goes. The kind is the plan's own byte
+// and is written as it is (so too in put_register and put_fact).
 pub fn put_text_at(plan: &mut [u8], place: Place, kind: u8, len: usize) -> Place
     requires { place.at ≤ 2 * reach }
     ensures { let form = kind ∷ Plan.u16 len in
@@ -210,10 +206,7 @@ pub fn put_tag_op(plan: &mut [u8], place: Place, disc: u32)
 pub fn anchor_byte(anchor: Anchor) -> u8
     ensures { result ≡ Plan.anchor (anchor_of anchor) }
 {
-    match anchor {
-        Anchor::Prefix => 0,
-        Anchor::Whole => 1,
-    }
+    anchor as u8
 }
 
 // Writes the op of a residual that is a fuzzy text.
@@ -232,7 +225,8 @@ pub fn put_fuzzy(plan: &mut [u8], place: Place, name: usize, distance: u8, ancho
     put8(plan, at + 4, anchor_byte(anchor));
 }
 
-// Writes a part or the op of a residual that is a register's field: a kind, the register and the path.
+// Writes a part or the op of a residual that is a register's field: a kind, the register and the path. The bound on `place.at` differs
+// from step to step, as each goes further; so it is a clause of each and no type's.
 pub fn put_register(plan: &mut [u8], place: Place, kind: u8, address: Address, path: FieldPath)
     requires { place.at ≤ reach }
     ensures { let form = kind ∷ Plan.u16 address.0 ++ Plan.path (path_of path) in
@@ -243,7 +237,7 @@ pub fn put_register(plan: &mut [u8], place: Place, kind: u8, address: Address, p
     }
     let at = place.at;
     put8(plan, at, kind);
-    put16(plan, at + 1, wide16(address.0));
+    put16(plan, at + 1, usize::from(address.0));
     put_path(plan, at + 3, path);
 }
 
@@ -271,7 +265,7 @@ pub fn put_fact(plan: &mut [u8], place: Place, kind: u8, address: Address)
     }
     let at = place.at;
     put8(plan, at, kind);
-    put16(plan, at + 1, wide16(address.0));
+    put16(plan, at + 1, usize::from(address.0));
 }
 
 // The place of a part that is not bytes: where the parts are joined to one text it writes nothing.

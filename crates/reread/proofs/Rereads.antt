@@ -81,12 +81,17 @@ two_bytes [] e = absurd (omega arith)
 two_bytes (x ∷ []) e = absurd (omega arith)
 two_bytes (x ∷ y ∷ l) e = refl
 
-pub room-is : (hex t t' : List ℕ) (x y : ℕ) → length hex ≡ 4 → length t ≡ 2 → t' ≡ sets t 0 (unhex hex) → x ≡ get_or t' 0 0 → y ≡ get_or t' 1 0 → x * 256 + y ≡ room_of (unhex hex)
-room-is hex t t' x y h lt q xs ys =
-    let n : length (unhex hex) ≡ 2 = omega (arith, length-unhex hex) in
-    let all : length t' ≡ 2 = omega (arith, ap (λ (l : List ℕ). length l) q, length-sets t 0 (unhex hex), lt) in
-    let whole : t' ≡ unhex hex = sym (take_all 2 t' (omega (arith, all))) ∙ ap (take 2) q ∙ front t (unhex hex) 2 (sym n) (omega (arith, n, lt)) in
-    ap₂ (λ (i j : ℕ). i * 256 + j) xs ys ∙ ap (λ (l : List ℕ). get_or l 0 0 * 256 + get_or l 1 0) whole ∙ two_bytes (unhex hex) n
+module _ (hex t t' : List ℕ) (h : length hex ≡ 4) (lt : length t ≡ 2) (q : t' ≡ sets t 0 (unhex hex)) where
+  two-long : length (unhex hex) ≡ 2
+  two-long = omega (arith, length-unhex hex)
+
+  whole : t' ≡ unhex hex
+  whole =
+      let all : length t' ≡ 2 = omega (arith, ap (λ (l : List ℕ). length l) q, length-sets t 0 (unhex hex), lt) in
+      sym (take_all 2 t' (omega (arith, all))) ∙ ap (take 2) q ∙ front t (unhex hex) 2 (sym two-long) (omega (arith, two-long, lt))
+
+  pub room-is : (x y : ℕ) → x ≡ get_or t' 0 0 → y ≡ get_or t' 1 0 → x * 256 + y ≡ room_of (unhex hex)
+  room-is x y xs ys = ap₂ (λ (i j : ℕ). i * 256 + j) xs ys ∙ ap (λ (l : List ℕ). get_or l 0 0 * 256 + get_or l 1 0) whole ∙ two_bytes (unhex hex) two-long
 
 -- the first space
 pub at-space : (entry : List ℕ) (e : ℕ) → e ≡ 0 + index_of 32 (slice 0 (length entry) entry) → agrees entry ≡ agrees_at e entry

@@ -2,20 +2,19 @@
 // differ.
 #![tactic(auto)]
 
-ghost use Rattle.std.specs.Prelude.{◌≡◌, replicate, ◌*◌, ◌≤◌, ◌<◌, length};
+ghost use Rattle.std.specs.Prelude.{◌≡◌, ◌*◌, ◌≤◌, length};
 ghost use Rattle.std.proofs.lemmas.List.Edits.{sets};
 ghost use Rattle.rules.specs.Limits.{plan_limit};
 ghost use Rattle.rules.specs.Reader as Reader;
 ghost use Rattle.lines.specs.Lines.{line, unhex};
-ghost use Rattle.tally.specs.Tallies.{count_limit, counted, tallied, split, none};
+ghost use Rattle.tally.specs.Tallies.{tallied, split, none};
 ghost use Rattle.reread.specs.Plans as Plans;
 
-use file::wide;
 use input::read_full;
 use lines::{put_line, unhex};
 use reader::sinalvento_read;
 use std::io;
-use tally::{Tally, find, same, skipped};
+use tally::{Tally, find, list_room, same, tally_of};
 
 const PLAN_LIMIT: usize = 16384;
 
@@ -27,9 +26,6 @@ const HEX_LIMIT: usize = 32770;
 
 // Room for the longest line: two digits for each byte of a plan.
 const LINE_ROOM: usize = 32768;
-
-// Room for the whole list.
-const TEXT_ROOM: usize = 524288;
 
 // What lies in lent memory before a call: no byte of it may be seen afterwards.
 const DIRT: u8 = 165;
@@ -45,6 +41,7 @@ fn reread(plan: &[u8], out: &mut [u8], text: &mut [u8]) -> usize
         out.new ≡ Plans.output_of plan.now room }
     ensures bounded { result ≤ 2 * plan_limit }
 {
+    // No heap: on the stack.
     let mut work = [DIRT; 16];
     let a = sinalvento_read(plan, out, &mut work);
     put_line(a, &out[..], text)
@@ -58,10 +55,13 @@ fn comes_to(hex: &[u8], room: usize, said: &[u8]) -> bool
     if room > PLAN_LIMIT {
         return false;
     }
+    // No heap: on the stack.
     let mut plan = [0u8; PLAN_ROOM];
     unhex(hex, &mut plan);
     let n = hex.len() / 2;
+    // No heap: on the stack.
     let mut out = [DIRT; PLAN_LIMIT];
+    // No heap: on the stack.
     let mut text = [0u8; LINE_ROOM];
     let m = reread(&plan[..n], &mut out[..room], &mut text);
     same(&text[..m], said)
@@ -72,9 +72,10 @@ fn room_of(hex: &[u8]) -> usize
     requires { length hex.now ≡ 4 }
     ensures { result ≡ Plans.room_of (unhex hex.now) }
 {
+    // No heap: on the stack.
     let mut two = [0u8; 2];
     unhex(hex, &mut two);
-    wide(two[0]) * 256 + wide(two[1])
+    usize::from(u16::from_be_bytes(two))
 }
 
 // Whether what a line says of its plan is so.
@@ -95,44 +96,16 @@ fn agrees(entry: &[u8]) -> bool
     comes_to(&entry[..e], room, &entry[at..])
 }
 
-// The tally after one line more.
-fn count(line: &[u8], t: Tally) -> Tally
-    requires { (t.compared < count_limit) × (t.different < count_limit) }
-    ensures { result ≡ counted Plans.agrees line.now t }
-{
-    if skipped(line) {
-        return t;
-    }
-    t.with(agrees(line))
-}
-
 // The tally of all lines of a text.
 fn reread_all(text: &[u8]) -> Tally
     ensures { result ≡ tallied Plans.agrees (split text.now) none }
 {
-    let mut t = Tally {
-        compared: 0,
-        different: 0,
-    };
-    for line in text.split(|b| *b == b'\n') {
-        t = count(line, t);
-    }
-    t
-}
-
-// Zeroes for the whole list.
-fn list_room() -> [u8; TEXT_ROOM]
-    ensures { result ≡ replicate 524288 0 }
-{
-    [0; TEXT_ROOM]
+    tally_of(text, agrees)
 }
 
 fn main(rt: HostRuntime) -> io::Result<()> {
+    // No heap: on the stack.
     let mut text = list_room();
     let n = read_full(&mut rt.reader(), &mut text)?;
-    let t = reread_all(&text[..n]);
-    let compared = t.compared;
-    let different = t.different;
-    println!(rt; "{compared} compared, {different} different")?;
-    Ok(())
+    println!(rt; "{}", reread_all(&text[..n]))
 }

@@ -2,18 +2,17 @@
 use mathlib.Core.Path.{◌≡◌, refl, sym, ap, ap₂, ◌∙◌}
 use mathlib.Core.Bool.{Bool, true, false}
 use mathlib.Core.List.{List, [], ◌∷◌, ◌++◌}
+use Rattle.std.specs.Prelude.{Option, None, Some}
 use Prim.Native.Nat.{ℕ}
-use Rattle.std.specs.Prelude as Std
-use Rattle.std.specs.Prelude.{None, Some, is_some, Option}
 use Rattle.rules.specs.File.{Tables}
 use Rattle.rules.specs.Placement.{RangeEdge, Edges, take_hi, take_lo, take_edge, edge}
-use Rattle.rules.proofs.Cases.{true≢false}
+use Rattle.rules.proofs.Cases.{pick}
 use Rattle.state.specs.State.{Ends, State, state}
 use Rattle.state.specs.Ops.{relevel, with_edges}
 use Rattle.views.specs.Views.{op_of}
 use Rattle.views.specs.declared.CompareOp.{CompareOp}
 use Rattle.seek.specs.Bounds.{of_sense}
-use Rattle.seek.specs.Seek.{constant_bytes, edge_as, edge_of, folded_of, folded_then, edges_of, guide_of, range_of, level_of, target_of, state_of}
+use Rattle.seek.specs.Seek.{constant_bytes, edge_of, folded_of, folded_then, edges_of, guide_of, range_of, level_of, target_of, state_of}
 use Rattle.seek.specs.declared.Edge.{Edge}
 use Rattle.seek.specs.declared.Folded.{Folded}
 use Rattle.seek.specs.declared.SeekBuilder.{SeekBuilder}
@@ -47,7 +46,7 @@ unfolding take_hi take_lo
 take_by i x e true own h = ap (λ o. elim o [ None ↦ record { lo = e.lo; hi = Some x; folded = e.folded ++ (i ∷ []) } | Some y ↦ e ]) h
 take_by i x e false own h = ap (λ o. elim o [ None ↦ record { lo = Some x; hi = e.hi; folded = e.folded ++ (i ∷ []) } | Some y ↦ e ]) h
 
-abbrev edged : SeekBuilder → Std.Option Edge → Std.Option Edge → Folded → SeekBuilder
+abbrev edged : SeekBuilder → Edge → Edge → Folded → SeekBuilder
 edged b lo hi f =
     record { over = b.over; building = b.building; plain = b.plain; counts = b.counts; path = b.path; range = b.range; guide = b.guide; lo = lo; hi = hi; folded = f; target = b.target }
 
@@ -63,51 +62,35 @@ module _ (b : SeekBuilder) (T : Tables) (e : Ends) (w p : List ℕ) (i : ℕ) (i
   abbrev takes : Bool → State
   takes upper = relevel (λ l. with_edges (of_sense upper take_hi take_lo i new l.edges) l) (state_of T b e w p)
 
-  own_is : (upper : Bool) (own : Std.Option Edge) → own ≡ of_sense upper b.hi b.lo → of_sense upper (edges_of T b).hi (edges_of T b).lo ≡ edge_of T own
+  own_is : (upper : Bool) (own : Edge) → own ≡ of_sense upper b.hi b.lo → of_sense upper (edges_of T b).hi (edges_of T b).lo ≡ edge_of T own
   unfolding edges_of
   own_is true own eo = ap (edge_of T) (sym eo)
   own_is false own eo = ap (edge_of T) (sym eo)
 
-  kept-by : (upper : Bool) (own : Std.Option Edge) → is_some own ≡ true → of_sense upper (edges_of T b).hi (edges_of T b).lo ≡ edge_of T own
-      → of_sense upper take_hi take_lo i new (edges_of T b) ≡ edges_of T b
+  pub keeps : (upper : Bool) (own : Edge) → own ≡ of_sense upper b.hi b.lo → own.set ≡ true → state_of T b e w p ≡ takes upper
   unfolding edge_of
-  kept-by upper None h q = absurd (true≢false (sym h))
-  kept-by upper (Some x) h q = take_by i new (edges_of T b) upper (Some (edge_as T x)) q
+  keeps upper own eo h = edges_are b (of_sense upper take_hi take_lo i new) refl (sym (take_by i new (edges_of T b) upper (Some _) (own_is upper own eo ∙ pick own.set true _ None h)))
 
-  pub keeps : (upper : Bool) (own : Std.Option Edge) → own ≡ of_sense upper b.hi b.lo → is_some own ≡ true → state_of T b e w p ≡ takes upper
-  keeps upper own eo h = edges_are b (of_sense upper take_hi take_lo i new) refl (sym (kept-by upper own h (own_is upper own eo)))
-
-  abbrev taken : Std.Option Edge
-  taken = Some (record { inclusive = inclusive; node = node; ty = ty })
+  abbrev taken : Edge
+  taken = record { set = true; inclusive = inclusive; node = node; ty = ty }
 
   abbrev gain : Bool → SeekBuilder
-  gain upper = edged b (of_sense upper b.lo taken) (of_sense upper taken b.hi) (folded_then (is_some (of_sense upper b.lo b.hi)) i b.folded)
+  gain upper = edged b (of_sense upper b.lo taken) (of_sense upper taken b.hi) (folded_then (of_sense upper b.lo b.hi).set i b.folded)
 
-  -- the edges with the new one of its sense
-  abbrev with-new : Bool → Edges
-  with-new upper =
-      record { lo = of_sense upper (edges_of T b).lo (Some new); hi = of_sense upper (Some new) (edges_of T b).hi; folded = (edges_of T b).folded ++ (i ∷ []) }
-
-  edges-gain : (upper : Bool) → is_some (of_sense upper b.hi b.lo) ≡ false
-      → edges_of T (gain upper) ≡ with-new upper
+  edges-gain : (upper : Bool) → (of_sense upper b.hi b.lo).set ≡ false
+      → edges_of T (gain upper) ≡ record { lo = of_sense upper (edges_of T b).lo (Some new); hi = of_sense upper (Some new) (edges_of T b).hi; folded = (edges_of T b).folded ++ (i ∷ []) }
   unfolding edges_of edge_of
-  edges-gain true h = ap (λ x. record { lo = edge_of T b.lo; hi = Some new; folded = x }) (folded-takes true (is_some b.hi) (is_some b.lo) i b.folded h)
-  edges-gain false h = ap (λ x. record { lo = Some new; hi = edge_of T b.hi; folded = x }) (folded-takes false (is_some b.lo) (is_some b.hi) i b.folded h)
+  edges-gain true h = ap (λ x. record { lo = edge_of T b.lo; hi = Some new; folded = x }) (folded-takes true b.hi.set b.lo.set i b.folded h)
+  edges-gain false h = ap (λ x. record { lo = Some new; hi = edge_of T b.hi; folded = x }) (folded-takes false b.lo.set b.hi.set i b.folded h)
 
-  gained-by : (upper : Bool) (own : Std.Option Edge) → is_some own ≡ false → of_sense upper (edges_of T b).hi (edges_of T b).lo ≡ edge_of T own
-      → of_sense upper take_hi take_lo i new (edges_of T b) ≡ with-new upper
+  pub gains : (upper : Bool) (own other hi lo : Edge) (g : Folded) → own ≡ of_sense upper b.hi b.lo → own.set ≡ false → other ≡ of_sense upper b.lo b.hi
+      → g ≡ folded_then other.set i b.folded → hi ≡ of_sense upper taken b.hi → lo ≡ of_sense upper b.lo taken → state_of T (edged b lo hi g) e w p ≡ takes upper
   unfolding edge_of
-  gained-by upper None h q = take_by i new (edges_of T b) upper None q
-  gained-by upper (Some x) h q = absurd (true≢false h)
-
-  pub gains : (upper : Bool) (own other hi lo : Std.Option Edge) (g : Folded) → own ≡ of_sense upper b.hi b.lo → is_some own ≡ false
-      → other ≡ of_sense upper b.lo b.hi → g ≡ folded_then (is_some other) i b.folded → hi ≡ of_sense upper taken b.hi → lo ≡ of_sense upper b.lo taken
-      → state_of T (edged b lo hi g) e w p ≡ takes upper
   gains upper own other hi lo g eo h ex eg eh el =
       ap₂ (λ x y. state_of T (edged b x y g) e w p) el eh
-      ∙ ap (λ x. state_of T (edged b (of_sense upper b.lo taken) (of_sense upper taken b.hi) x) e w p) (eg ∙ ap (λ x. folded_then (is_some x) i b.folded) ex)
+      ∙ ap (λ x. state_of T (edged b (of_sense upper b.lo taken) (of_sense upper taken b.hi) x) e w p) (eg ∙ ap (λ x. folded_then x.set i b.folded) ex)
       ∙ edges_are (gain upper) (of_sense upper take_hi take_lo i new) refl
-      (edges-gain upper (ap is_some (sym eo) ∙ h) ∙ sym (gained-by upper own h (own_is upper own eo)))
+      (edges-gain upper (ap (λ x. x.set) (sym eo) ∙ h) ∙ sym (take_by i new (edges_of T b) upper None (own_is upper own eo ∙ pick own.set false _ None h)))
 
 -- a comparison, by its op
 pub by-op : (i : ℕ) (v : List ℕ) (op o : CompareOp) (s r : State) → op ≡ o → r ≡ relevel (λ l. with_edges (take_edge i (op_of o) v l.edges) l) s → r ≡ relevel (λ l. with_edges (take_edge i (op_of op) v l.edges) l) s

@@ -2,10 +2,9 @@
 use mathlib.Core.Path.{◌≡◌, refl, sym, ap, ◌∙◌}
 use mathlib.Core.Bool.{Bool, true, false}
 use mathlib.Core.List.{List, [], ◌∷◌}
+use Rattle.std.specs.Prelude.{Option, None, Some}
 use Prim.Native.Nat.{ℕ}
 use lib.Dec.{eqb}
-use Rattle.std.specs.Prelude as Std
-use Rattle.std.specs.Prelude.{None, Some, is_some, is_none, Option}
 use Rattle.rules.specs.File as File
 use Rattle.rules.specs.File.{Tables, name_at}
 use Rattle.rules.specs.Constant.{encode_prefix}
@@ -20,13 +19,10 @@ use Rattle.paths.specs.Paths.{path_of}
 use Rattle.paths.specs.declared.FieldPath.{FieldPath}
 use Rattle.views.specs.Views.{anchor_of}
 use Rattle.views.specs.declared.Anchor.{Anchor}
-use Rattle.seek.specs.Seek.{sums_of, summed, counted, counts_of, counts_fit, narrow_sums, overrun, narrowed_to}
-use Rattle.seek.specs.Seek.{in_rules, kept, guide_as, guide_of, range_as, range_of, edges_of, level_of, target_of, state_of, fell, guided_at, ranged_at}
+use Rattle.seek.specs.Seek.{sums_of, summed, counted, overrun, counts_of, set_in, guide_of, range_of, edges_of, level_of, target_of, state_of, counts_fit, narrow_sums, kept, fell, guided_at, ranged_at, narrowed_to}
 use Rattle.seek.specs.declared.Counts.{Counts}
 use Rattle.seek.specs.declared.Sums.{Sums}
 use Rattle.seek.specs.declared.SeekBuilder.{SeekBuilder}
-use Rattle.seek.specs.declared.Guide as CodeGuide
-use Rattle.seek.specs.declared.Range as CodeRange
 use Rattle.seek.proofs.Grows.{grow-yes, grow-no, overruns}
 use Rattle.seek.proofs.Narrows.{goes}
 
@@ -34,14 +30,22 @@ use Rattle.seek.proofs.Narrows.{goes}
 grow-bare : (l : Level) (s : State) → counts_fit l.plain l.counts ≡ true → state s.over s.ends l s.target s.work s.plan ≡ grow l (λ plan. plan) s
 grow-bare l s h = sym (grow-yes l (λ plan. plan) s h)
 
--- nothing is kept of a level that builds
-not-kept : {A B : Type 0} (building : Bool) (f g : A → B) (o : Std.Option A) → building ≡ true → in_rules f (kept building o) ≡ in_rules g (kept building o)
-not-kept true f g o e = refl
-not-kept false f g o e = absurd (true≢false (sym e))
+module _ {A : Type 0} where
+  set-kept : (building set : Bool) (x : A) → set_in false (kept building set) x ≡ set_in building set x
+  unfolding set_in kept
+  set-kept true set x = refl
+  set-kept false set x = refl
+
+  not-kept : (building set set' : Bool) (x y : A) → building ≡ true → set_in false (kept building set) x ≡ set_in building set' y
+  unfolding set_in kept
+  not-kept true set set' x y e = refl
+  not-kept false set set' x y e = absurd (true≢false (sym e))
 
 pub falls : (T : Tables) (b : SeekBuilder) → level_of T (fell b) ≡ fall (level_of T b)
 unfolding level_of fell guide_of range_of edges_of fall
-falls T b = refl
+falls T b =
+    let made : Option Guide → Option Range → Level = λ g r. record { building = false; plain = b.plain; counts = counts_of b.counts; guide = g; range = r; edges = edges_of T b } in
+    ap (λ g. made g (range_of T (fell b))) (set-kept b.building b.guide.set _) ∙ ap (made (guide_of b)) (set-kept b.building b.range.set _)
 
 releveled : (b r : SeekBuilder) (T : Tables) (e : Ends) (w p : List ℕ) → r ≡ fell b → state_of T r e w p ≡ relevel fall (state_of T b e w p)
 unfolding state_of relevel fell
@@ -81,58 +85,38 @@ abbrev attaches : Option Guide → Bool → Option Range → File.FieldPath → 
 attaches guide building range path = elim guide [ Some g ↦ false | None ↦ elim building [ true ↦ true | false ↦ range_at range path ] ]
 
 module _ (b : SeekBuilder) (path : FieldPath) (T : Tables) where
-  abbrev told : Bool → Std.Option CodeGuide.Guide → Std.Option CodeRange.Range → Bool
-  told building guide range =
-      attaches (in_rules (guide_as b.path) (kept building guide)) building (in_rules (range_as T b.path) (kept building range)) (path_of path)
-
-  told-is : (x : Bool) → x ≡ told b.building b.guide b.range → x ≡ attachable (level_of T b) (path_of path)
-  unfolding attachable level_of guide_of range_of
-  told-is x e = e
+  abbrev told : Bool → Bool → Bool → Bool
+  told building guided ranged =
+      attaches (set_in building guided (record { path = path_of b.path; term = b.guide.term; distance = b.guide.distance; anchor = anchor_of b.guide.anchor; node = b.guide.node })) building
+      (set_in building ranged (record { path = path_of b.path; prefix = encode_prefix (name_at T b.range.name); node = b.range.node })) (path_of path)
 
   pub attach-builds : b.building ≡ true → true ≡ attachable (level_of T b) (path_of path)
-  attach-builds h = told-is true (ap (λ t. told t b.guide b.range) (sym h))
+  unfolding attachable level_of guide_of range_of set_in
+  attach-builds h = ap (λ t. told t b.guide.set b.range.set) (sym h)
 
-  has-guide : (g : Std.Option CodeGuide.Guide) → is_some g ≡ true → false ≡ told false g b.range
-  has-guide None h = absurd (true≢false (sym h))
-  has-guide (Some g) h = refl
+  pub attach-guided : b.building ≡ false → b.guide.set ≡ true → false ≡ attachable (level_of T b) (path_of path)
+  unfolding attachable level_of guide_of range_of set_in
+  attach-guided h g = ap (λ t. told false t b.range.set) (sym g) ∙ ap (λ t. told t b.guide.set b.range.set) (sym h)
 
-  pub attach-guided : b.building ≡ false → is_some b.guide ≡ true → false ≡ attachable (level_of T b) (path_of path)
-  attach-guided h g = told-is false (has-guide b.guide g ∙ ap (λ t. told t b.guide b.range) (sym h))
+  pub attach-bare : b.building ≡ false → b.guide.set ≡ false → b.range.set ≡ false → false ≡ attachable (level_of T b) (path_of path)
+  unfolding attachable level_of guide_of range_of set_in range_at
+  attach-bare h g r = ap (told false false) (sym r) ∙ ap (λ t. told false t b.range.set) (sym g) ∙ ap (λ t. told t b.guide.set b.range.set) (sym h)
 
-  no-range : (g : Std.Option CodeGuide.Guide) (r : Std.Option CodeRange.Range) → is_some g ≡ false → is_none r ≡ true → false ≡ told false g r
-  unfolding range_at
-  no-range (Some g) r h k = absurd (true≢false h)
-  no-range None None h k = refl
-  no-range None (Some r) h k = absurd (true≢false (sym k))
-
-  pub attach-bare : b.building ≡ false → is_some b.guide ≡ false → is_none b.range ≡ true → false ≡ attachable (level_of T b) (path_of path)
-  attach-bare h g r = told-is false (no-range b.guide b.range g r ∙ ap (λ t. told t b.guide b.range) (sym h))
-
-  has-range : (g : Std.Option CodeGuide.Guide) (r : Std.Option CodeRange.Range) → is_some g ≡ false → is_none r ≡ false
-      → same_path (path_of b.path) (path_of path) ≡ told false g r
-  unfolding range_at
-  has-range (Some g) r h k = absurd (true≢false h)
-  has-range None None h k = absurd (true≢false k)
-  has-range None (Some r) h k = refl
-
-  pub attach-ranged : (x : Bool) (p q : FieldPath) → b.building ≡ false → is_some b.guide ≡ false → is_none b.range ≡ false
-      → x ≡ same_path (path_of p) (path_of q) → path_of p ≡ path_of b.path → path_of q ≡ path_of path
+  pub attach-ranged : (x : Bool) (p q : FieldPath) → b.building ≡ false → b.guide.set ≡ false → b.range.set ≡ true → x ≡ same_path (path_of p) (path_of q) → path_of p ≡ path_of b.path → path_of q ≡ path_of path
       → x ≡ attachable (level_of T b) (path_of path)
+  unfolding attachable level_of guide_of range_of set_in range_at
   attach-ranged x p q h g r e ep eq =
-      told-is x
-      (e ∙ ap (λ t. same_path t (path_of q)) ep ∙ ap (same_path (path_of b.path)) eq
-      ∙ has-range b.guide b.range g r ∙ ap (λ t. told t b.guide b.range) (sym h))
+      e ∙ ap (λ t. same_path t (path_of q)) ep ∙ ap (same_path (path_of b.path)) eq
+      ∙ ap (told false false) (sym r) ∙ ap (λ t. told false t b.range.set) (sym g) ∙ ap (λ t. told t b.guide.set b.range.set) (sym h)
 
--- a guide that attaches leaves the range as it is
-range-stays : (T : Tables) (building : Bool) (guide : Std.Option CodeGuide.Guide) (range : Std.Option CodeRange.Range) (path at : FieldPath)
-    → attaches (in_rules (guide_as at) (kept building guide)) building (in_rules (range_as T at) (kept building range)) (path_of path) ≡ true
-    → in_rules (range_as T path) (kept building range) ≡ in_rules (range_as T at) (kept building range)
-unfolding range_at
-range-stays T true guide range path at h = refl
-range-stays T false (Some g) range path at h = absurd (true≢false (sym h))
-range-stays T false None None path at h = refl
-range-stays T false None (Some r) path at h =
-    ap (λ q. Some (record { path = q; prefix = encode_prefix (name_at T r.name); node = r.node })) (sym (same-path (path_of at) (path_of path) h))
+range-stays : (building guided ranged : Bool) (g : Guide) (path at : File.FieldPath) (prefix : List ℕ) (node : ℕ)
+    → attaches (set_in building guided g) building (set_in building ranged (record { path = at; prefix = prefix; node = node })) path ≡ true
+    → set_in {A = Range} false (kept building ranged) (record { path = path; prefix = prefix; node = node }) ≡ set_in building ranged (record { path = at; prefix = prefix; node = node })
+unfolding set_in kept range_at
+range-stays true guided ranged g path at prefix node h = refl
+range-stays false true ranged g path at prefix node h = absurd (true≢false (sym h))
+range-stays false false false g path at prefix node h = refl
+range-stays false false true g path at prefix node h = ap (λ q. Some (record { path = q; prefix = prefix; node = node })) (sym (same-path at path h))
 
 -- the level itself, by whether the counts fit
 module _ (b : SeekBuilder) (s s0 : Sums) (es : s ≡ narrow_sums s0) (e0 : s0 ≡ summed b.counts) (make : Counts → SeekBuilder) where
@@ -161,26 +145,26 @@ module _ (b l : SeekBuilder) (s s0 : Sums) (T : Tables) (e : Ends) (w p : List �
   pub guides : (k : Counts) (path : FieldPath) (name distance : ℕ) (anchor : Anchor) (node : ℕ) → k ≡ counted s → counts_fit b.plain (sums_of s) ≡ true → attachable (level_of T b) (path_of path) ≡ true
       → state_of T (guided_at l k path name distance anchor node) e w p
       ≡ grow (with_guide (record { path = path_of path; term = name; distance = distance; anchor = anchor_of anchor; node = node }) (level_of T b)) (λ plan. plan) (state_of T b e w p)
-  unfolding state_of level_of guide_of range_of edges_of fell with_guide attachable
+  unfolding state_of level_of guide_of range_of edges_of fell set_in with_guide attachable
   guides k path name distance anchor node ek h a =
       let g : Guide = record { path = path_of path; term = name; distance = distance; anchor = anchor_of anchor; node = node } in
       let made : InState.Counts → Option Range → State =
       λ c r. state b.over e (record { building = false; plain = b.plain; counts = c; guide = Some g; range = r; edges = edges_of T b }) (target_of b.target) w p in
       ap (λ x. state_of T (guided_at x k path name distance anchor node) e w p) el
       ∙ ap (λ c. made c (range_of T (guided_at (fell b) k path name distance anchor node))) (counts-are k ek)
-      ∙ ap (made (narrowed (counts_of b.counts))) (range-stays T b.building b.guide b.range path b.path a)
+      ∙ ap (made (narrowed (counts_of b.counts))) (range-stays b.building b.guide.set b.range.set _ (path_of path) (path_of b.path) (encode_prefix (name_at T b.range.name)) b.range.node a)
       ∙ grow-bare (with_guide g (level_of T b)) (state_of T b e w p) (ap (counts_fit b.plain) (sym counts-narrowed) ∙ h)
 
   pub ranges : (k : Counts) (path : FieldPath) (name node : ℕ) → k ≡ counted s → counts_fit b.plain (sums_of s) ≡ true → b.building ≡ true
       → state_of T (ranged_at l k path name node) e w p ≡ grow (with_range node (path_of path) (encode_prefix (name_at T name)) (level_of T b)) (λ plan. plan) (state_of T b e w p)
-  unfolding state_of level_of guide_of range_of edges_of fell with_range
+  unfolding state_of level_of guide_of range_of edges_of fell set_in with_range
   ranges k path name node ek h on =
       let r : Range = record { path = path_of path; prefix = encode_prefix (name_at T name); node = node } in
       let made : InState.Counts → Option Guide → State =
       λ c g. state b.over e (record { building = false; plain = b.plain; counts = c; guide = g; range = Some r; edges = edges_of T b }) (target_of b.target) w p in
       ap (λ x. state_of T (ranged_at x k path name node) e w p) el
       ∙ ap (λ c. made c (guide_of (ranged_at (fell b) k path name node))) (counts-are k ek)
-      ∙ ap (made (narrowed (counts_of b.counts))) (not-kept b.building _ _ b.guide on)
+      ∙ ap (made (narrowed (counts_of b.counts))) (not-kept b.building b.guide.set b.guide.set _ _ on)
       ∙ grow-bare (with_range node (path_of path) (encode_prefix (name_at T name)) (level_of T b)) (state_of T b e w p) (ap (counts_fit b.plain) (sym counts-narrowed) ∙ h)
 
   -- what does not fit stops the level, whatever it was to become

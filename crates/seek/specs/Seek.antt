@@ -1,6 +1,5 @@
 -- What the code's level stands for in the state that the compiler keeps (crate state).
-use Rattle.std.specs.Prelude.{Bool, true, false, None, Some, is_some, List, [], ◌∷◌, ℕ, ◌+◌, ◌*◌, ◌<◌, Option, unwrap_or}
-use Rattle.std.specs.Prelude as Std
+use Rattle.std.specs.Prelude.{Bool, true, false, None, Some, List, [], ◌∷◌, ℕ, ◌+◌, ◌*◌, ◌<◌, Option, unwrap_or}
 use Rattle.rules.specs.Base.{◌when_some◌, both}
 use Rattle.rules.specs.File.{Tables, name_at, field_path}
 use Rattle.rules.specs.Constant.{constant, bytes_only, encode_prefix}
@@ -12,11 +11,10 @@ use Rattle.paths.specs.Paths.{path_of, path_for}
 use Rattle.paths.specs.declared.FieldPath.{FieldPath}
 use Rattle.views.specs.Views.{anchor_of}
 use Rattle.views.specs.declared.Anchor.{Anchor}
+use Rattle.views.specs.declared.Anchor.TheVariants as An
 use Rattle.seek.specs.declared.Counts.{Counts}
 use Rattle.seek.specs.declared.Sums.{Sums}
 use Rattle.seek.specs.declared.Edge.{Edge}
-use Rattle.seek.specs.declared.Guide.{Guide}
-use Rattle.seek.specs.declared.Range.{Range}
 use Rattle.seek.specs.declared.Folded.{Folded}
 use Rattle.seek.specs.declared.Target.{Target}
 use Rattle.seek.specs.declared.SeekBuilder.{SeekBuilder}
@@ -70,38 +68,30 @@ pub record Below (limit : ℕ) (c : Sums) : Type 0 where
   pub framed : c.framed < limit
   pub rest : c.rest < limit
 
--- what the rules have for an Option of the code
-abbrev pub in_rules : {A B : Type 0} → (A → B) → Std.Option A → Option B
-in_rules f None = None
-in_rules f (Some x) = Some (f x)
-
 -- A level that builds has neither range nor guide, whatever their fields hold.
-abbrev pub kept : {A : Type 0} → Bool → Std.Option A → Std.Option A
-kept true x = None
-kept false x = x
-
-abbrev pub guide_as : FieldPath → Guide → Placement.Guide
-guide_as path g =
-    record { path = path_of path; term = g.term; distance = g.distance; anchor = anchor_of g.anchor; node = g.node }
+unfoldable pub set_in : {A : Type 0} → Bool → Bool → A → Option A
+set_in building set x = elim building [ true ↦ None | false ↦ elim set [ true ↦ Some x | false ↦ None ] ]
 
 unfoldable pub guide_of : SeekBuilder → Option Placement.Guide
-guide_of b = in_rules (guide_as b.path) (kept b.building b.guide)
-
-abbrev pub range_as : Tables → FieldPath → Range → Placement.Range
-range_as T path r = record { path = path_of path; prefix = encode_prefix (name_at T r.name); node = r.node }
+guide_of b =
+    let g = b.guide in
+    let anchor = anchor_of g.anchor in
+    set_in b.building g.set
+    (record { path = path_of b.path; term = g.term; distance = g.distance; anchor = anchor; node = g.node })
 
 unfoldable pub range_of : Tables → SeekBuilder → Option Placement.Range
-range_of T b = in_rules (range_as T b.path) (kept b.building b.range)
+range_of T b =
+    let prefix = encode_prefix (name_at T b.range.name) in
+    set_in b.building b.range.set (record { path = path_of b.path; prefix = prefix; node = b.range.node })
 
 -- A constant stays a position until it is written.
 unfoldable pub constant_bytes : Tables → ℕ → ℕ → List ℕ
 constant_bytes T n t = unwrap_or (constant T n t when_some bytes_only) []
 
-abbrev pub edge_as : Tables → Edge → RangeEdge
-edge_as T e = record { value = constant_bytes T e.node e.ty; inclusive = e.inclusive }
-
-unfoldable pub edge_of : Tables → Std.Option Edge → Option RangeEdge
-edge_of T e = in_rules (edge_as T) e
+unfoldable pub edge_of : Tables → Edge → Option RangeEdge
+edge_of T e =
+    let value = constant_bytes T e.node e.ty in
+    elim e.set [ true ↦ Some (record { value = value; inclusive = e.inclusive }) | false ↦ None ]
 
 -- as many indices as edges, in the order in which they were taken
 unfoldable pub folded_of : Bool → Bool → ℕ → ℕ → List ℕ
@@ -116,7 +106,7 @@ folded_then false i f = record { first = i; second = f.second }
 
 unfoldable pub edges_of : Tables → SeekBuilder → Edges
 edges_of T b =
-    let folded = folded_of (is_some b.lo) (is_some b.hi) b.folded.first b.folded.second in
+    let folded = folded_of b.lo.set b.hi.set b.folded.first b.folded.second in
     record { lo = edge_of T b.lo; hi = edge_of T b.hi; folded = folded }
 
 unfoldable pub level_of : Tables → SeekBuilder → Level
@@ -195,6 +185,9 @@ rest_sums size c =
     }
 
 -- a level that builds, with nothing set
+abbrev pub no_edge : Edge
+no_edge = record { set = false; inclusive = false; node = 0; ty = 0 }
+
 unfoldable pub new_builder : Target → SeekBuilder
 new_builder target =
     record {
@@ -203,13 +196,17 @@ new_builder target =
       plain = true;
       counts = no_counts;
       path = path_for (field_path 0);
-      range = None;
-      guide = None;
-      lo = None;
-      hi = None;
+      range = record { set = false; name = 0; node = 0 };
+      guide = record { set = false; distance = 0; anchor = An.Prefix; term = 0; node = 0 };
+      lo = no_edge;
+      hi = no_edge;
       folded = record { first = 0; second = 0 };
       target = target;
     }
+
+-- what is set in a level that fell
+unfoldable pub kept : Bool → Bool → Bool
+kept building set = elim building [ true ↦ false | false ↦ set ]
 
 -- the level when building falls
 unfoldable pub fell : SeekBuilder → SeekBuilder
@@ -220,8 +217,15 @@ fell b =
       plain = b.plain;
       counts = b.counts;
       path = b.path;
-      range = kept b.building b.range;
-      guide = kept b.building b.guide;
+      range = record { set = kept b.building b.range.set; name = b.range.name; node = b.range.node };
+      guide =
+          record {
+            set = kept b.building b.guide.set;
+            distance = b.guide.distance;
+            anchor = b.guide.anchor;
+            term = b.guide.term;
+            node = b.guide.node;
+          };
       lo = b.lo;
       hi = b.hi;
       folded = b.folded;
@@ -281,7 +285,7 @@ guided_at b c path name distance anchor node =
       counts = c;
       path = path;
       range = b.range;
-      guide = Some (record { distance = distance; anchor = anchor; term = name; node = node });
+      guide = record { set = true; distance = distance; anchor = anchor; term = name; node = node };
       lo = b.lo;
       hi = b.hi;
       folded = b.folded;
@@ -296,7 +300,7 @@ ranged_at b c path name node =
       plain = b.plain;
       counts = c;
       path = path;
-      range = Some (record { name = name; node = node });
+      range = record { set = true; name = name; node = node };
       guide = b.guide;
       lo = b.lo;
       hi = b.hi;

@@ -4,24 +4,24 @@ ghost use Rattle.rules.specs.File.{Tables};
 ghost use Rattle.rules.specs.Placement.{take_hi, take_lo, take_edge, edge, is_var, flipped};
 ghost use Rattle.state.specs.State.{Ends};
 ghost use Rattle.state.specs.Ops as Ops;
-ghost use Rattle.file.specs.Tables.{tables_of};
 ghost use Rattle.views.specs.Views.{op_of, comparison_at};
-ghost use Rattle.accepted_file.specs.AcceptedFile.{AcceptedFile};
+ghost use Rattle.accepted_file.specs.Tables.{accepted_tables};
 ghost use Rattle.seek.specs.Bounds.{of_sense, edge_by, fold_one};
 ghost use Rattle.seek.specs.Seek.{folded_then, constant_bytes, state_of};
 
 use crate::{Edge, Folded, SeekBuilder};
+use accepted_file::AcceptedFile;
 use constant::has_bytes;
+use file::Section;
 use tables::var_name;
-use views::{CompareOp, compare_op, comparison_at, count_of, op_number};
+use views::{CompareOp, compare_op, op_number};
 
 // Whether a node is the variable of that name.
-fn is_var(file: &[u8], index: &[u16], node: usize, name: usize) -> bool
-    requires accepted_file { AcceptedFile file.now index.now }
-    requires node_in_bounds { node < length (tables_of file.now).nodes }
-    ensures { result ≡ is_var (tables_of file.now) name node }
+fn is_var(file: &AcceptedFile, node: usize, name: usize) -> bool
+    requires { node < length (accepted_tables file.now).nodes }
+    ensures { result ≡ is_var (accepted_tables file.now) name node }
 {
-    match var_name(file, index, node) {
+    match var_name(&file.tables, node) {
         Some(x) => x == name,
         None => false,
     }
@@ -35,14 +35,14 @@ fn flipped(op: CompareOp) -> CompareOp
 }
 
 // Of two edges, the first for the upper sense, the second for the lower.
-fn of_sense(upper: bool, hi: Option<Edge>, lo: Option<Edge>) -> Option<Edge>
+fn of_sense(upper: bool, hi: Edge, lo: Edge) -> Edge
     ensures { result ≡ of_sense upper hi lo }
 {
     if upper { hi } else { lo }
 }
 
 impl Folded {
-    // One index more, after the other edge's if there is one.
+    // One index more, after the other edge's if that is set.
     fn then(self, other: bool, index: u16) -> Folded
         ensures { result ≡ folded_then other index self }
     {
@@ -69,19 +69,20 @@ impl SeekBuilder {
             after ≡ Ops.relevel (λ l. Ops.with_edges (of_sense upper take_hi take_lo index taken l.edges) l) before }
     {
         let own = of_sense(upper, self.hi, self.lo);
-        if own.is_some() {
+        if own.set {
             return self;
         }
         let other = of_sense(upper, self.lo, self.hi);
-        let edge = Some(Edge {
+        let edge = Edge {
+            set: true,
             inclusive,
             node,
             ty,
-        });
+        };
         let mut l = self;
         l.hi = of_sense(upper, edge, self.hi);
         l.lo = of_sense(upper, self.lo, edge);
-        l.folded = self.folded.then(other.is_some(), index);
+        l.folded = self.folded.then(other.set, index);
         l
     }
 
@@ -103,59 +104,55 @@ impl SeekBuilder {
     // The edge that a constant gives, if it is bytes: nothing of it is measured before it is written.
     fn edge_at(
         self,
-        file: &[u8],
-        index: &[u16],
+        file: &AcceptedFile,
         k: usize,
         op: CompareOp,
         node: usize,
         ty: usize,
     ) -> SeekBuilder
-        requires accepted_file { AcceptedFile file.now index.now }
-        requires k_in_bounds { k < length (tables_of file.now).comparisons }
-        requires node_in_bounds { node < length (tables_of file.now).nodes }
-        requires ty_in_bounds { ty < length (tables_of file.now).types }
+        requires k_in_bounds { k < length (accepted_tables file.now).comparisons }
+        requires node_in_bounds { node < length (accepted_tables file.now).nodes }
+        requires ty_in_bounds { ty < length (accepted_tables file.now).types }
         ensures { (e : Ends) (w p : List ℕ) →
-            let T = tables_of file.now in
+            let T = accepted_tables file.now in
             let before = state_of T self e w p in
             let after = state_of T result e w p in
             after ≡ Ops.relevel (λ l. Ops.with_edges (edge_by T k (op_of op) node ty l.edges) l) before }
     {
-        if has_bytes(file, index, node, ty) {
+        if has_bytes(file, node, ty) {
             return self.edge(k as u16, op, node as u16, ty as u16);
         }
         self
     }
 
     // Comparison k, read from the variable's side.
-    fn compared(self, file: &[u8], index: &[u16], k: usize, name: usize, ty: usize) -> SeekBuilder
-        requires accepted_file { AcceptedFile file.now index.now }
-        requires k_in_bounds { k < length (tables_of file.now).comparisons }
-        requires ty_in_bounds { ty < length (tables_of file.now).types }
+    fn compared(self, file: &AcceptedFile, k: usize, name: usize, ty: usize) -> SeekBuilder
+        requires k_in_bounds { k < length (accepted_tables file.now).comparisons }
+        requires ty_in_bounds { ty < length (accepted_tables file.now).types }
         ensures { (e : Ends) (w p : List ℕ) →
-            let T = tables_of file.now in
+            let T = accepted_tables file.now in
             let before = state_of T self e w p in
             let after = state_of T result e w p in
             after ≡ Ops.relevel (λ l. Ops.with_edges (fold_one T name ty k (comparison_at T k) l.edges) l) before }
     {
-        let c = comparison_at(file, index, k);
+        let c = file.tables.comparison_at(k);
         let op = c.op;
         let left = c.left;
         let right = c.right;
-        if is_var(file, index, left, name) {
-            return self.edge_at(file, index, k, op, right, ty);
+        if is_var(file, left, name) {
+            return self.edge_at(file, k, op, right, ty);
         }
-        if is_var(file, index, right, name) {
-            return self.edge_at(file, index, k, flipped(op), left, ty);
+        if is_var(file, right, name) {
+            return self.edge_at(file, k, flipped(op), left, ty);
         }
         self
     }
 
     // The comparisons with a variable bound a level that builds.
-    pub fn bound(self, file: &[u8], index: &[u16], name: usize, ty: usize) -> SeekBuilder
-        requires accepted_file { AcceptedFile file.now index.now }
-        requires ty_in_bounds { ty < length (tables_of file.now).types }
+    pub fn bound(self, file: &AcceptedFile, name: usize, ty: usize) -> SeekBuilder
+        requires { ty < length (accepted_tables file.now).types }
         ensures { (e : Ends) (w p : List ℕ) →
-            let T = tables_of file.now in
+            let T = accepted_tables file.now in
             let before = state_of T self e w p in
             let after = state_of T result e w p in
             after ≡ Ops.bound T name ty before }
@@ -167,8 +164,8 @@ impl SeekBuilder {
             return self;
         }
         let mut l = self;
-        for i in 0..count_of(file, index, file::COMPARISONS) {
-            l = l.compared(file, index, i, name, ty);
+        for i in 0..file.tables.count_of(Section::Comparisons) {
+            l = l.compared(file, i, name, ty);
         }
         l
     }

@@ -16,17 +16,17 @@ use records::{path_size, put_fuzzy, put_path_at, within};
 use views::Anchor;
 
 impl SeekBuilder {
-    // Whether a fuzzy text can guide the walk.
+    // Whether a fuzzy text can guide the walk: three facts asked in turn, each with an answer of its own.
     fn attachable(self, path: FieldPath) -> bool
         ensures { (T : Tables) → result ≡ Ops.attachable (level_of T self) (path_of path) }
     {
         if self.building {
             return true;
         }
-        if self.guide.is_some() {
+        if self.guide.set {
             return false;
         }
-        if self.range.is_none() {
+        if !self.range.set {
             return false;
         }
         within(self.path).same(within(path))
@@ -57,12 +57,13 @@ impl SeekBuilder {
             let mut l = self.fallen();
             l.counts = k;
             l.path = path;
-            l.guide = Some(Guide {
+            l.guide = Guide {
+                set: true,
                 distance,
                 anchor,
                 term: name,
                 node,
-            });
+            };
             l
         } else {
             self.stopped()
@@ -132,7 +133,11 @@ impl SeekBuilder {
             let mut l = self.fallen();
             l.counts = k;
             l.path = path;
-            l.range = Some(Range { name, node });
+            l.range = Range {
+                set: true,
+                name,
+                node,
+            };
             l
         } else {
             self.stopped()

@@ -3,7 +3,6 @@
 #![tactic(auto)]
 
 ghost use Rattle.std.specs.Prelude.{◌≡◌, false, List, ℕ};
-ghost use Rattle.rules.specs.Base.{both};
 ghost use Rattle.rules.specs.File.{Tables};
 ghost use Rattle.state.specs.State.{Ends, new_level, state};
 ghost use Rattle.state.specs.Ops as Ops;
@@ -44,24 +43,29 @@ pub struct Sums {
     pub rest: usize,
 }
 
+// A flag and not an Option: with Options the walk has 280 bytes, and above 256 each local is cleared and copied by calls (docs/BENCH.md).
 #[derive(Clone, Copy)]
 pub struct Edge {
+    pub set: bool,
     pub inclusive: bool,
     pub node: u16,
     pub ty: u16,
 }
 
+// With a flag, as an edge.
 #[derive(Clone, Copy)]
 pub struct Guide {
+    pub set: bool,
     pub distance: u8,
     pub anchor: Anchor,
     pub term: usize,
     pub node: usize,
 }
 
-// A Prefix node's text is its name.
+// With a flag, as an edge. A Prefix node's text is its name.
 #[derive(Clone, Copy)]
 pub struct Range {
+    pub set: bool,
     pub name: u16,
     pub node: usize,
 }
@@ -73,7 +77,7 @@ pub struct Folded {
     pub second: u16,
 }
 
-// Where the parts, their nodes if the parts are joined, and the residuals begin in the plan.
+// Where the parts, their nodes if the parts are joined, and the residuals begin in the plan. `joining` is a flag, as an edge's.
 #[derive(Clone, Copy)]
 pub struct Target {
     pub joining: bool,
@@ -85,15 +89,16 @@ pub struct Target {
 // `path` is that of range and guide: a guide beside a range has the range's path.
 #[derive(Clone, Copy)]
 pub struct SeekBuilder {
+    // A state of the written walk, in which lists and level stay as they are; an Err would lose them.
     pub over: bool,
     pub building: bool,
     pub plain: bool,
     pub counts: Counts,
     pub path: FieldPath,
-    pub range: Option<Range>,
-    pub guide: Option<Guide>,
-    pub lo: Option<Edge>,
-    pub hi: Option<Edge>,
+    pub range: Range,
+    pub guide: Guide,
+    pub lo: Edge,
+    pub hi: Edge,
     pub folded: Folded,
     pub target: Target,
 }
@@ -105,17 +110,11 @@ pub struct Placed {
     pub place: Place,
 }
 
-fn and(a: bool, b: bool) -> bool
-    ensures { result ≡ both a b }
+// Whether a level has its range, or its guide: one that builds has neither, whatever their fields hold.
+pub fn kept(building: bool, set: bool) -> bool
+    ensures { result ≡ kept building set }
 {
-    if a { b } else { false }
-}
-
-// A level's range, or its guide: one that builds has neither, whatever their fields hold.
-pub fn kept<A: Drop>(building: bool, held: Option<A>) -> Option<A>
-    ensures { result ≡ kept building held }
-{
-    if building { None } else { held }
+    !building && set
 }
 
 impl SeekBuilder {
@@ -125,16 +124,32 @@ impl SeekBuilder {
             state_of T result e w p ≡ state false e new_level (target_of target) w p }
         ensures whole { result ≡ new_builder target }
     {
+        let edge = Edge {
+            set: false,
+            inclusive: false,
+            node: 0,
+            ty: 0,
+        };
         SeekBuilder {
             over: false,
             building: true,
             plain: true,
             counts: Counts::none(),
             path: FieldPath::field(0),
-            range: None,
-            guide: None,
-            lo: None,
-            hi: None,
+            range: Range {
+                set: false,
+                name: 0,
+                node: 0,
+            },
+            guide: Guide {
+                set: false,
+                distance: 0,
+                anchor: Anchor::Prefix,
+                term: 0,
+                node: 0,
+            },
+            lo: edge,
+            hi: edge,
             folded: Folded {
                 first: 0,
                 second: 0,
@@ -158,8 +173,8 @@ impl SeekBuilder {
     {
         let mut l = self;
         l.building = false;
-        l.range = kept(self.building, self.range);
-        l.guide = kept(self.building, self.guide);
+        l.range.set = kept(self.building, self.range.set);
+        l.guide.set = kept(self.building, self.guide.set);
         l
     }
 

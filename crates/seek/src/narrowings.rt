@@ -11,11 +11,11 @@ ghost use Rattle.paths.specs.Paths.{path_of};
 ghost use Rattle.records.specs.Records.{reach, written_at, moved_to};
 ghost use Rattle.seek.specs.Seek.{Below, counts_of, state_of, grown_by, part_place, node_place, rest_place, part_by, residual_by};
 
-use crate::{Placed, SeekBuilder, Sums, and};
+use crate::{Placed, SeekBuilder, Sums};
 use paths::{Address, FieldPath};
 use records::{
     Place, apart, path_size, put_byte_at, put_fact, put_head, put_node, put_path_at, put_register,
-    put_tag_at, put_tag_op, wide32,
+    put_tag_at, put_tag_op,
 };
 
 impl SeekBuilder {
@@ -55,11 +55,11 @@ impl SeekBuilder {
     {
         let t = self.target;
         let c = self.counts;
-        let base = wide32(t.parts) + wide32(c.joined);
+        let base = t.parts as usize + c.joined as usize;
         if t.joining {
             return base;
         }
-        base + wide32(c.framed)
+        base + c.framed as usize
     }
 
     // Where the node of the next part is written: where the part's form ends, or with the others' behind the joined text.
@@ -70,7 +70,7 @@ impl SeekBuilder {
         let t = self.target;
         let c = self.counts;
         if t.joining {
-            return wide32(t.nodes) + 2 * (wide32(c.closers) + wide32(c.others));
+            return t.nodes as usize + 2 * (c.closers as usize + c.others as usize);
         }
         end
     }
@@ -93,7 +93,7 @@ impl SeekBuilder {
         let c = self.counts;
         let s = c.sums().with_part(closer, text, frame + 2);
         let at = self.part_at();
-        let p = self.grown(and(self.plain, bytes), s, at);
+        let p = self.grown(self.plain && bytes, s, at);
         put_node(plan, p.place, self.node_at(at + (text + frame)), node);
         p
     }
@@ -108,7 +108,7 @@ impl SeekBuilder {
         let c = self.counts;
         let t = self.target;
         let s = c.sums().with_residual(size + 2);
-        let at = wide32(t.rest) + wide32(c.rest);
+        let at = t.rest as usize + c.rest as usize;
         let p = self.grown(self.plain, s, at);
         put_node(plan, p.place, at + size, node);
         p

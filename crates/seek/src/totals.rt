@@ -4,7 +4,6 @@ ghost use Rattle.records.specs.Records.{reach};
 ghost use Rattle.seek.specs.Seek.{Below, sums_of, summed, counted, no_counts, counts_fit, parts_size, part_sums, rest_sums, narrow_sums};
 
 use crate::{Counts, Sums};
-use records::wide32;
 
 impl Counts {
     // Nothing counted yet.
@@ -27,13 +26,13 @@ impl Counts {
         ensures { (result ≡ summed self) × Below 4294967296 result }
     {
         Sums {
-            narrowings: wide32(self.narrowings),
-            closers: wide32(self.closers),
-            others: wide32(self.others),
-            residuals: wide32(self.residuals),
-            joined: wide32(self.joined),
-            framed: wide32(self.framed),
-            rest: wide32(self.rest),
+            narrowings: self.narrowings as usize,
+            closers: self.closers as usize,
+            others: self.others as usize,
+            residuals: self.residuals as usize,
+            joined: self.joined as usize,
+            framed: self.framed as usize,
+            rest: self.rest as usize,
         }
     }
 }

@@ -3,4 +3,6 @@ pub mod Tags
 -- Searches, step by step.
 pub mod Digits
 pub mod Recalls
+pub mod Firsts
 pub mod Searches
+pub mod Fates

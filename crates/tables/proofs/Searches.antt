@@ -1,5 +1,5 @@
--- Searches step by step in a run of records, and what the number of a name's last binding tells.
-use Prim.Native.Nat.{ℕ, suc, ◌+◌, ◌*◌, ◌-◌, ◌≤◌, ◌<◌}
+-- Searches in a run of records, and what the number of a name's last binding tells.
+use Prim.Native.Nat.{ℕ, suc, ◌+◌, ◌-◌, ◌≤◌, ◌<◌}
 use mathlib.Core.Path.{◌≡◌, refl, sym, ap, ◌∙◌, subst}
 use mathlib.Core.Bool.{Bool, true, false, not}
 use mathlib.Core.List.{List, [], ◌∷◌}
@@ -8,7 +8,7 @@ use native.Mathlib.Nat.{zero-add}
 use native.Mathlib.Omega.{arith}
 use lib.Dec.{eqb}
 use lib.ListN.{length, get_or}
-use borrow.Author.Tests.{eq-eqb, ne_eqb}
+use borrow.Author.Tests.{ne_eqb}
 use Rattle.rules.specs.Base.{Each, more, first, last_or, ◌when_some◌}
 use Rattle.rules.specs.File.{Tables, Binding, Slot, node_at, var_name}
 use Rattle.rules.specs.File as File
@@ -21,12 +21,11 @@ use Rattle.rules.proofs.Each.{each-imply}
 use Rattle.rules.proofs.Sound.{Passed, numbers-in}
 use Rattle.file.specs.Tables.{last_from, last_binding}
 use Rattle.file.specs.Sections as Sections
-use Rattle.views.specs.Views.{run, start_at, binding_view, alternative_at, pattern_at, alternative_of, pattern_of, slot_viewed, binding_at, SeenBinding}
+use Rattle.views.specs.Views.{run, start_at, binding_view, slot_viewed, binding_at, SeenBinding}
 use Rattle.accepted_file.specs.AcceptedFile.{flag}
 use Rattle.tables.specs.Tables.{bound_in, SeenSlot}
+use Rattle.tables.proofs.Firsts.{first_given, where-passes, first-record}
 use Rattle.tables.proofs.Tags.{no_const}
-use Rattle.views.specs.declared.FieldPattern.{FieldPattern}
-use Rattle.views.specs.declared.Alternative.{Alternative}
 use Rattle.views.specs.declared.BindingView.{BindingView}
 use Rattle.views.specs.declared.SlotView.{SlotView}
 use Rattle.views.specs.declared.SlotView.TheVariants as Sv
@@ -34,74 +33,25 @@ use Rattle.views.specs.contracts.SlotView as SlotViews
 use types.Run.{OneOf}
 use denote.Enum.Declared.{tag_of}
 
--- The first record that passes, among n of w bytes each from at on.
-module _ {A : Type 0} (p : A → Bool) (g : ℕ → A) (w n at : ℕ) where
-  -- what is found from record k on
-  unfoldable pub first_from : ℕ → Option A
-  first_from k = first p (run g w (n - k) (at + w * k))
-
-  pub first-start : first p (run g w n at) ≡ first_from 0
-  unfolding first_from
-  first-start =
-      let a : at ≡ at + w * 0 = omega arith in
-      let m : n ≡ n - 0 = omega arith in
-      ap (λ (i : ℕ). first p (run g w n i)) a ∙ ap (λ (i : ℕ). first p (run g w i (at + w * 0))) m
-
-  split : (k : ℕ) → k < n → first_from k ≡ elim (p (g (at + w * k))) [ true ↦ Some (g (at + w * k)) | false ↦ first_from (k + 1) ]
-  unfolding first_from first run
-  split k h =
-      let m : n - k ≡ suc (n - (k + 1)) = omega arith in
-      let a : at + w * k + w ≡ at + w * (k + 1) = omega arith in
-      ap (λ (i : ℕ). first p (run g w i (at + w * k))) m
-      ∙ ap (λ (i : ℕ). elim (p (g (at + w * k))) [ true ↦ Some (g (at + w * k)) | false ↦ first p (run g w (n - (k + 1)) i) ]) a
-
-  pub first_more : (k : ℕ) → k < n → p (g (at + w * k)) ≡ false → first_from k ≡ first_from (k + 1)
-  first_more k h e = split k h ∙ ap (λ (b : Bool). elim b [ true ↦ Some (g (at + w * k)) | false ↦ first_from (k + 1) ]) e
-
-  pub first-hit : (k : ℕ) → k < n → p (g (at + w * k)) ≡ true → first_from k ≡ Some (g (at + w * k))
-  first-hit k h e = split k h ∙ ap (λ (b : Bool). elim b [ true ↦ Some (g (at + w * k)) | false ↦ first_from (k + 1) ]) e
-
-  pub first-end : (k : ℕ) → n ≤ k → first_from k ≡ None
-  unfolding first_from first run
-  first-end k h = let m : n - k ≡ 0 = omega arith in ap (λ (i : ℕ). first p (run g w i (at + w * k))) m
-
+-- The searches for a name among records, as a list of them is searched.
 abbrev pub named : ℕ → File.FieldPattern → Bool
 named x f = eqb f.name x
 
 abbrev pub called : ℕ → File.Alternative → Bool
 called x a = eqb a.name x
 
--- a search that has come to record k
-pub record Seeking {A : Type 0} (p : A → Bool) (g : ℕ → A) (w n at k : ℕ) : Type 0 where
-  pub within : k ≤ n
-  pub same : first p (run g w n at) ≡ first_from p g w n at k
+pub first-pattern : (g : ℕ → File.FieldPattern) (at n x : ℕ) → first_given (where-passes (named x) (λ _ f. f.node) g 4 at) n 0 ≡ field_pattern (run g 4 n at) x
+unfolding field_pattern first ◌when_some◌
+first-pattern g at n x = first-record (named x) (λ _ f. f.node) g 4 at (λ _ fs. field_pattern fs x) (λ _. refl) (λ k f fs. go f fs (named x f)) n
+  where
+    go : (f : File.FieldPattern) (fs : List File.FieldPattern) (b : Bool)
+        → elim b as (λ _. Option ℕ) [ true ↦ Some f.node | false ↦ field_pattern fs x ] ≡ (elim b as (λ _. Option File.FieldPattern) [ true ↦ Some f | false ↦ first (named x) fs ] when_some λ f. Some f.node)
+    go f fs true = refl
+    go f fs false = refl
 
-module _ (f : List ℕ) (n at x k : ℕ) where
-  module _ (s : Seeking (named x) (pattern_at f) 4 n at k) where
-    pub pattern-more : (v : FieldPattern) → k < n → pattern_of v ≡ pattern_at f (at + 4 * k) → (v.name ≡ x → ⊥) → Seeking (named x) (pattern_at f) 4 n at (k + 1)
-    pattern-more v h e d = record { within = omega arith; same = s.same ∙ first_more (named x) (pattern_at f) 4 n at k h (ap (named x) (sym e) ∙ ne_eqb v.name x d) }
-
-    pub pattern-hit : (v : FieldPattern) → k < n → pattern_of v ≡ pattern_at f (at + 4 * k) → v.name ≡ x → Some v.node ≡ field_pattern (run (pattern_at f) 4 n at) x
-    unfolding field_pattern ◌when_some◌
-    pattern-hit v h e d =
-        ap (λ (q : File.FieldPattern). Some q.node) e
-        ∙ sym (ap (λ (o : Option File.FieldPattern). o when_some λ q. Some q.node) (s.same ∙ first-hit (named x) (pattern_at f) 4 n at k h (ap (named x) (sym e) ∙ eq-eqb v.name x d)))
-
-    pub pattern-end : n ≤ k → None ≡ field_pattern (run (pattern_at f) 4 n at) x
-    unfolding field_pattern ◌when_some◌
-    pattern-end h = sym (ap (λ (o : Option File.FieldPattern). o when_some λ q. Some q.node) (s.same ∙ first-end (named x) (pattern_at f) 4 n at k h))
-
-  module _ (s : Seeking (called x) (alternative_at f) 8 n at k) where
-    pub alternative-more : (v : Alternative) → k < n → alternative_of v ≡ alternative_at f (at + 8 * k) → (v.name ≡ x → ⊥) → Seeking (called x) (alternative_at f) 8 n at (k + 1)
-    alternative-more v h e d = record { within = omega arith; same = s.same ∙ first_more (called x) (alternative_at f) 8 n at k h (ap (called x) (sym e) ∙ ne_eqb v.name x d) }
-
-    pub alternative-hit : (v : Alternative) → k < n → alternative_of v ≡ alternative_at f (at + 8 * k) → v.name ≡ x → Some (alternative_of v) ≡ Constant.alternative_of (run (alternative_at f) 8 n at) x
-    unfolding Constant.alternative_of
-    alternative-hit v h e d = ap Some e ∙ sym (s.same ∙ first-hit (called x) (alternative_at f) 8 n at k h (ap (called x) (sym e) ∙ eq-eqb v.name x d))
-
-    pub alternative-end : n ≤ k → None ≡ Constant.alternative_of (run (alternative_at f) 8 n at) x
-    unfolding Constant.alternative_of
-    alternative-end h = sym (s.same ∙ first-end (called x) (alternative_at f) 8 n at k h)
+pub first-alternative : (g : ℕ → File.Alternative) (at n x : ℕ) → first_given (where-passes (called x) (λ _ a. a) g 8 at) n 0 ≡ Constant.alternative_of (run g 8 n at) x
+unfolding Constant.alternative_of first
+first-alternative g at n x = first-record (called x) (λ _ a. a) g 8 at (λ _ xs. Constant.alternative_of xs x) (λ _. refl) (λ k a xs. refl) n
 
 -- The last binding of a name, by the number that the index has for it.
 abbrev no_binding : Binding

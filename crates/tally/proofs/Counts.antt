@@ -10,7 +10,7 @@ use lib.Dec.{eqb}
 use lib.ListN.{length, take, drop, get_or, length-drop}
 use lib.Seq.{take_all}
 use Rattle.rules.specs.Base.{both}
-use Rattle.rules.proofs.Cases.{by-test, ways, pick, true≢false, eqb-eq, both_left, both_right}
+use Rattle.rules.proofs.Cases.{ways, pick, true≢false, eqb-eq, both_left, both_right}
 use Rattle.tally.specs.declared.Tally.{Tally}
 use Rattle.tally.specs.Tallies.{same, skipped, added, counted}
 
@@ -56,11 +56,11 @@ unfolding added
 added-other true t e = absurd (true≢false e)
 added-other false t e = refl
 
--- a line adds at most one to each
-added-most : (b : Bool) (t : Tally) → ((added b t).compared ≤ t.compared + 1) × ((added b t).different ≤ t.different + 1)
+-- an answer more adds at most one to each
+pub added-most : (b : Bool) (t u : Tally) → u ≡ added b t → (u.compared ≤ t.compared + 1) × (u.different ≤ t.different + 1)
 unfolding added
-added-most true t = (omega arith, omega arith)
-added-most false t = (omega arith, omega arith)
+added-most true t u e = (omega (arith, ap (λ (v : Tally). v.compared) e), omega (arith, ap (λ (v : Tally). v.different) e))
+added-most false t u e = (omega (arith, ap (λ (v : Tally). v.compared) e), omega (arith, ap (λ (v : Tally). v.different) e))
 
 module _ (agrees : List ℕ → Bool) (l : List ℕ) (t : Tally) where
   pub counted-skipped : skipped l ≡ true → t ≡ counted agrees l t
@@ -70,12 +70,3 @@ module _ (agrees : List ℕ → Bool) (l : List ℕ) (t : Tally) where
   pub counted-added : skipped l ≡ false → (b : Bool) → b ≡ agrees l → (u : Tally) → u ≡ added b t → u ≡ counted agrees l t
   unfolding counted
   counted-added s b a u e = e ∙ ap (λ (c : Bool). added c t) a ∙ sym (pick (skipped l) false _ _ s)
-
-  counted-most : ((counted agrees l t).compared ≤ t.compared + 1) × ((counted agrees l t).different ≤ t.different + 1)
-  unfolding counted
-  counted-most =
-      by-test (λ (u : Tally). (u.compared ≤ t.compared + 1) × (u.different ≤ t.different + 1)) (skipped l)
-      (λ q. (omega arith, omega arith)) (λ q. added-most (agrees l) t)
-
-  pub counted-within : (u : Tally) → u ≡ counted agrees l t → (u.compared ≤ t.compared + 1) × (u.different ≤ t.different + 1)
-  counted-within u e = (omega (arith, counted-most.0, ap (λ (v : Tally). v.compared) e), omega (arith, counted-most.1, ap (λ (v : Tally). v.different) e))

@@ -1,10 +1,16 @@
 // A stored list of answers: which of its lines are compared, and how many differ.
 #![tactic(auto)]
 
-ghost use Rattle.std.specs.Prelude.{◌≡◌, ◌+◌, ◌≤◌, ◌<◌, true, length};
+ghost use Rattle.std.specs.Prelude.{◌≡◌, ◌+◌, ◌≤◌, ◌<◌, true, length, replicate, Bool, List, ℕ};
 ghost use Rattle.tally.specs.Bytes.{index_of, slice};
 ghost use Rattle.tally.specs.Tallies as Tallies;
-ghost use Rattle.tally.specs.Tallies.{count_limit};
+ghost use Rattle.tally.specs.Tallies.{count_limit, counted, tallied, split, none};
+ghost use Rattle.tally.specs.Tests.{Computes};
+
+use std::fmt;
+
+// Room for a whole list.
+const LIST_ROOM: usize = 524288;
 
 // How many answers were compared, and how many of them differ.
 #[derive(Clone, Copy)]
@@ -13,8 +19,25 @@ pub struct Tally {
     pub different: usize,
 }
 
+impl fmt::Display for Tally {
+    fn fmt<W: fmt::Write>(&self, f: &mut fmt::Formatter<W>) -> fmt::Result {
+        write!(
+            f,
+            "{} compared, {} different",
+            self.compared, self.different
+        )
+    }
+}
+
+// Zeroes for a whole list. Apart, so that no proof of a caller looks into half a million of them.
+pub fn list_room() -> [u8; LIST_ROOM]
+    ensures { result ≡ replicate 524288 0 }
+{
+    [0; LIST_ROOM]
+}
+
 // Whether a line is none to compare: empty, or a comment.
-pub fn skipped(line: &[u8]) -> bool
+fn skipped(line: &[u8]) -> bool
     ensures { result ≡ Tallies.skipped line.now }
 {
     line.is_empty() || line[0] == b'#'
@@ -22,10 +45,11 @@ pub fn skipped(line: &[u8]) -> bool
 
 impl Tally {
     // The tally after one answer more, which agrees or not.
-    pub fn with(self, agrees: bool) -> Tally
+    fn with(self, agrees: bool) -> Tally
         requires { (self.compared < count_limit) × (self.different < count_limit) }
         ensures { result ≡ Tallies.added agrees self }
     {
+        // Two literals and no sum over `agrees`: the rule `added` has the two cases apart, and so has the code.
         let compared = self.compared + 1;
         if agrees {
             return Tally {
@@ -40,6 +64,33 @@ impl Tally {
     }
 }
 
+// The tally after one line more, by a test of whether a line agrees.
+fn count<F: Fn(&[u8]) -> bool>(line: &[u8], t: Tally, agrees: &F) -> Tally
+    requires callable { F.IsAlwaysCallable agrees.now }
+    requires room { (t.compared < count_limit) × (t.different < count_limit) }
+    ensures counts { (g : List ℕ → Bool) → Computes F.Fn agrees.now g → result ≡ counted g line.now t }
+    ensures grows { (result.compared ≤ t.compared + 1) × (result.different ≤ t.different + 1) }
+{
+    if skipped(line) {
+        return t;
+    }
+    t.with(agrees(line))
+}
+
+// The tally of all lines of a text, by a test of whether a line agrees.
+pub fn tally_of<F: Fn(&[u8]) -> bool>(text: &[u8], agrees: F) -> Tally
+    requires { F.IsAlwaysCallable agrees }
+    ensures { (g : List ℕ → Bool) → Computes F.Fn agrees g →
+        result ≡ tallied g (split text.now) none }
+{
+    let none = Tally {
+        compared: 0,
+        different: 0,
+    };
+    text.split(|b| *b == b'\n')
+        .fold(none, |t, line| count(line, t, &agrees))
+}
+
 // Where a byte first stands between two places, or the second place.
 pub fn find(text: &[u8], from: usize, to: usize, b: u8) -> usize
     requires from_in_order { from ≤ to }
@@ -51,7 +102,7 @@ pub fn find(text: &[u8], from: usize, to: usize, b: u8) -> usize
     from + part.iter().position(|c| *c == b).unwrap_or(part.len())
 }
 
-// Whether two texts are the same.
+// Whether two texts are the same: std's `==`, by clauses that say each direction apart, as the callers' proofs take them.
 pub fn same(a: &[u8], b: &[u8]) -> bool
     ensures tells { result ≡ true → a.now ≡ b.now }
     ensures sees { a.now ≡ b.now → result ≡ true }

@@ -1,17 +1,18 @@
 -- Texts, their lengths up to the cap, and how they are put.
+use mathlib.Core.Bool.{Bool, true, false}
 use mathlib.Core.List.{List, [], ◌∷◌, ◌++◌}
 use mathlib.Core.Path.{◌≡◌, refl, sym, ap, ◌∙◌}
 use Prim.Native.Nat.{ℕ, ◌+◌, ◌≤◌, ◌<◌, min}
 use native.Mathlib.Omega.{arith}
 use borrow.Author.Tests.{leb-true, leb-false}
 use lib.Dec.{leb}
-use Rattle.std.specs.Prelude as Std
 use Rattle.std.specs.Prelude.{None, Some, Option, unwrap_or}
 use lib.ListN.{length, length-append, get_or-eq_default}
 use Rattle.rules.specs.Base.{◌when_some◌}
 use Rattle.rules.specs.File.{Tables, name_at}
 use Rattle.rules.specs.Constant as ConstantRules
 use Rattle.rules.specs.Constant.{bytes_only, encode_prefix, escape}
+use Rattle.rules.specs.Placement.{RangeEdge}
 use Rattle.rules.specs.Plan as Plan
 use Rattle.rules.specs.Plan.{u16}
 use Rattle.rules.proofs.Cases.{ways}
@@ -101,52 +102,50 @@ module _ (T : Tables) (n t : ℕ) where
         unfolding Plan.text
         whole-text r w2 a = wrote_then headed (wrote_as (or_empty (bytes_of T n t)) (constant_bytes T n t) (at + 2) r w1 w2 a same_bytes_lem)
 
--- no edge
-module _ (T : Tables) where
-  unset-is : 0 ∷ [] ≡ Plan.edge (edge_of T None)
-  unfolding edge_of Plan.edge
-  unset-is = refl
-
-  none-is : (o : Std.Option Edge) → o ≡ None → 0 ∷ [] ≡ Plan.edge (edge_of T o)
-  none-is o q = unset-is ∙ ap (λ (x : Std.Option Edge). Plan.edge (edge_of T x)) (sym q)
-
-  pub unset-size : (o : Std.Option Edge) → o ≡ None → 1 ≡ min cap (length (Plan.edge (edge_of T o)))
-  unset-size o q = let l : 1 ≡ length (Plan.edge (edge_of T o)) = ap length (none-is o q) in omega arith
-
-  pub put-unset : (o : Std.Option Edge) (at : ℕ) (w w1 : List ℕ) → o ≡ None → w1 ≡ put w at (0 ∷ []) → Wrote (Plan.edge (edge_of T o)) at w (at + 1) w1
-  put-unset o at w w1 q p =
-      wrote_as (0 ∷ []) (Plan.edge (edge_of T o)) at (at + 1) w w1 (wrote_one 0 at (at + 1) w w1 refl p) (none-is o q)
-
--- an edge
-module _ (T : Tables) (o : Std.Option Edge) (e : Edge) (q : o ≡ Some e) where
+-- edges
+module _ (T : Tables) (e : Edge) where
   value : List ℕ
   value = constant_bytes T e.node e.ty
 
-  some-is : Plan.inclusive e.inclusive ∷ Plan.text value ≡ Plan.edge (edge_of T (Some e))
-  unfolding edge_of Plan.edge value
-  some-is = refl
+  edged : Bool → Option RangeEdge
+  edged b = elim b [ true ↦ Some (record { value = value; inclusive = e.inclusive }) | false ↦ None ]
 
-  set_is : Plan.inclusive e.inclusive ∷ Plan.text value ≡ Plan.edge (edge_of T o)
-  set_is = some-is ∙ ap (λ (x : Std.Option Edge). Plan.edge (edge_of T x)) (sym q)
+  edge-is : (b : Bool) → e.set ≡ b → Plan.edge (edged b) ≡ Plan.edge (edge_of T e)
+  unfolding edge_of edged value
+  edge-is b q = ap (λ (x : Bool). Plan.edge (edged x)) (sym q)
+
+  set_is : e.set ≡ true → Plan.inclusive e.inclusive ∷ Plan.text value ≡ Plan.edge (edge_of T e)
+  unfolding edged Plan.edge
+  set_is q = edge-is true q
+
+  unset-is : e.set ≡ false → 0 ∷ [] ≡ Plan.edge (edge_of T e)
+  unfolding edged Plan.edge
+  unset-is q = edge-is false q
 
   three-more : length (Plan.inclusive e.inclusive ∷ Plan.text value) ≡ 3 + length value
   unfolding Plan.text u16
   three-more = omega (arith, length-append (u16 (length value)) value)
 
-  pub edge-size : (k r : ℕ) → k ≡ min cap (length (constant_bytes T e.node e.ty)) → r ≡ min cap (3 + k) → r ≡ min cap (length (Plan.edge (edge_of T o)))
+  pub edge-size : (k r : ℕ) → e.set ≡ true → k ≡ min cap (length (constant_bytes T e.node e.ty)) → r ≡ min cap (3 + k) → r ≡ min cap (length (Plan.edge (edge_of T e)))
   unfolding value
-  edge-size k r ek er = omega (arith, ek, er, three-more, ap length set_is)
+  edge-size k r q ek er = omega (arith, ek, er, three-more, ap length (set_is q))
 
-  pub value-small : length (Plan.edge (edge_of T o)) ≤ cap → length (constant_bytes T e.node e.ty) ≤ cap
-  unfolding value
-  value-small h = omega (arith, h, three-more, ap length set_is)
+  pub unset-size : e.set ≡ false → 1 ≡ min cap (length (Plan.edge (edge_of T e)))
+  unset-size q = let l : 1 ≡ length (Plan.edge (edge_of T e)) = ap length (unset-is q) in omega arith
 
-  pub put-set : (at r : ℕ) (w w1 : List ℕ) (b : ℕ) (w2 : List ℕ) → b ≡ Plan.inclusive e.inclusive → w1 ≡ put w at (b ∷ [])
-      → Wrote (Plan.text (constant_bytes T e.node e.ty)) (at + 1) w1 r w2 → Wrote (Plan.edge (edge_of T o)) at w r w2
+  pub value-small : e.set ≡ true → length (Plan.edge (edge_of T e)) ≤ cap → length (constant_bytes T e.node e.ty) ≤ cap
   unfolding value
-  put-set at r w w1 b w2 eb p a =
-      wrote_as ((Plan.inclusive e.inclusive ∷ []) ++ Plan.text value) (Plan.edge (edge_of T o)) at r w w2
-      (wrote_then (wrote_one (Plan.inclusive e.inclusive) at (at + 1) w w1 refl (p ∙ ap (λ (x : ℕ). put w at (x ∷ [])) eb)) a) set_is
+  value-small q h = omega (arith, h, three-more, ap length (set_is q))
+
+  module _ (at r : ℕ) (w w1 : List ℕ) where
+    pub put-unset : e.set ≡ false → w1 ≡ put w at (0 ∷ []) → Wrote (Plan.edge (edge_of T e)) at w (at + 1) w1
+    put-unset q p = wrote_as (0 ∷ []) (Plan.edge (edge_of T e)) at (at + 1) w w1 (wrote_one 0 at (at + 1) w w1 refl p) (unset-is q)
+
+    pub put-set : (b : ℕ) (w2 : List ℕ) → e.set ≡ true → b ≡ Plan.inclusive e.inclusive → w1 ≡ put w at (b ∷ []) → Wrote (Plan.text (constant_bytes T e.node e.ty)) (at + 1) w1 r w2 → Wrote (Plan.edge (edge_of T e)) at w r w2
+    unfolding value
+    put-set b w2 q eb p a =
+        wrote_as ((Plan.inclusive e.inclusive ∷ []) ++ Plan.text value) (Plan.edge (edge_of T e)) at r w w2
+        (wrote_then (wrote_one (Plan.inclusive e.inclusive) at (at + 1) w w1 refl (p ∙ ap (λ (x : ℕ). put w at (x ∷ [])) eb)) a) (set_is q)
 
 -- a name's prefix
 module _ (T : Tables) (x : ℕ) where

@@ -14,7 +14,8 @@ pub struct Wanted {
     pub high: u8,
 }
 
-// No character wants so many bytes: it stands for a byte that the grammar does not have there.
+// No character wants so many bytes: it stands for a byte that the grammar does not have there. A count among counts and no case of an
+// enum: each test of `more` is one comparison, and a range stands beside each count alike.
 const FAULT: u8 = 4;
 
 // How many bytes are looked at together.

@@ -6,16 +6,18 @@ ghost use Rattle.std.specs.Prelude.{◌≡◌, ◌+◌, ◌*◌, ◌≤◌, ◌<
 ghost use Rattle.rules.specs.Limits.{step_limit};
 ghost use Rattle.rules.specs.File.{op_of_number, op_number, name_at, type_at, predicate_at, node_at};
 ghost use Rattle.file.specs.Sections as Sections;
-ghost use Rattle.file.specs.Steps.{word, section_count, limit_of, index_length};
-ghost use Rattle.file.specs.Tables.{Indexed, tables_of};
+ghost use Rattle.file.specs.Sections.{number_of};
+ghost use Rattle.file.specs.Steps.{word, limit_of};
 ghost use Rattle.paths.specs.Paths.{path_for, Holds};
+ghost use Rattle.views.specs.Files.{tables_in};
 ghost use Rattle.views.specs.Views.{size_of, start_at, path_at, past_path, long, or_none, anchor_at, op_of, predicate_maybe, text_view, type_view, node_view, type_entry, node_entry, binding_view, fetched_view, field_at, alternative_at, pattern_at, field_of, alternative_of, pattern_of, predicate_of, binding_at, hoisted_at, fetched_at, constraint_at, comparison_at, level_entry_at, hoisted_of, constraint_of, comparison_of, level_of, PathInside, SeenType, SeenNode, SeenBinding, SeenFetched, SeenText};
 
-use file::{
-    BINDINGS, COMPARISONS, CONSTRAINTS, FETCHED, LEVELS, NAMES, NODES, PREDICATES, TYPES, base,
-    wide, wide16, word_at,
-};
+use file::{Section, base, word_at};
 use paths::{Address, FieldPath, PredicateId};
+
+mod indexed;
+
+pub use indexed::IndexedFile;
 
 // A type. Record and Union have the count of their children and the position of the first.
 #[derive(Clone, Copy)]
@@ -158,23 +160,6 @@ pub struct LevelEntry {
     pub address: Address,
 }
 
-// How many records section s has.
-pub fn count_of(file: &[u8], index: &[u16], s: usize) -> usize
-    requires indexed { Indexed file.now index.now }
-    requires s_lt_section_count { s < section_count }
-    ensures { result ≡ size_of (tables_of file.now) s }
-{
-    wide16(index[base(s)])
-}
-
-// Where record t of section s starts.
-fn start_of(index: &[u16], s: usize, t: usize) -> usize
-    requires { (index_length ≤ length index.now) × (s < section_count) × (t < limit_of s) }
-    ensures { result ≡ start_at index.now s t }
-{
-    wide16(index[base(s) + 1 + t])
-}
-
 // The two bytes at p, as register and predicate numbers are kept.
 pub fn half_at(file: &[u8], p: usize) -> u16
     requires { p + 2 ≤ length file.now }
@@ -183,30 +168,12 @@ pub fn half_at(file: &[u8], p: usize) -> u16
     word_at(file, p) as u16
 }
 
-// Type t, and where its children stand.
-pub fn type_at(file: &[u8], index: &[u16], t: usize) -> TypeView
-    requires indexed { Indexed file.now index.now }
-    requires t_in_bounds { t < length (tables_of file.now).types }
-    ensures shows { SeenType file.now (type_at (tables_of file.now) t) result }
-    ensures view { result ≡ type_view file.now (start_at index.now Sections.types t) }
-{
-    let p = start_of(index, TYPES, t);
-    match file[p] {
-        0 => TypeView::Int,
-        1 => TypeView::Str,
-        2 => TypeView::Bytes,
-        3 => TypeView::Fact(PredicateId(half_at(file, p + 1))),
-        4 => TypeView::Record(wide(file[p + 1]), p + 2),
-        _ => TypeView::Union(wide(file[p + 1]), p + 2),
-    }
-}
-
 // The four bytes at p, the lowest first.
 pub fn long_at(file: &[u8], p: usize) -> u32
     requires { p + 4 ≤ length file.now }
     ensures { result ≡ long file.now p }
 {
-    (word_at(file, p) as u32) + 65536 * (word_at(file, p + 2) as u32)
+    u32::from_le_bytes([file[p], file[p + 1], file[p + 2], file[p + 3]])
 }
 
 // Field k of a Record type whose fields start at `at`.
@@ -246,20 +213,6 @@ pub fn field_pattern_at(file: &[u8], at: usize, k: usize) -> FieldPattern
     }
 }
 
-// Where the text of name x stands, and its length.
-pub fn name_at(file: &[u8], index: &[u16], x: usize) -> TextView
-    requires indexed { Indexed file.now index.now }
-    requires x_in_bounds { x < length (tables_of file.now).names }
-    ensures shows { SeenText file.now (name_at (tables_of file.now) x) result }
-    ensures view { result ≡ text_view file.now (start_at index.now Sections.names x) }
-{
-    let p = start_of(index, NAMES, x);
-    TextView {
-        at: p + 1,
-        len: wide(file[p]),
-    }
-}
-
 // A type's number, where FFFF hex stands for none.
 fn maybe_type(n: usize) -> Option<usize>
     ensures { result ≡ or_none n }
@@ -278,21 +231,7 @@ pub fn maybe_predicate(n: u16) -> Option<PredicateId>
     }
 }
 
-// The key and value types of predicate p.
-pub fn predicate_at(file: &[u8], index: &[u16], p: PredicateId) -> Predicate
-    requires indexed { Indexed file.now index.now }
-    requires p_in_bounds { p.0 < length (tables_of file.now).predicates }
-    ensures { predicate_of result ≡ predicate_at (tables_of file.now) p.0 }
-{
-    let n = wide16(p.0);
-    let at = start_of(index, PREDICATES, n);
-    Predicate {
-        key: word_at(file, at),
-        value: maybe_type(word_at(file, at + 2)),
-    }
-}
-
-// An anchor by its byte.
+// An anchor by its byte. A TryFrom would hand callers an error that reading has ruled out: no plainer.
 pub fn anchor_of(b: u8) -> Anchor
     requires { b < 2 }
     ensures { result ≡ anchor_at b }
@@ -304,42 +243,12 @@ pub fn anchor_of(b: u8) -> Anchor
     }
 }
 
-// Node n, and where its bytes or pairs stand.
-pub fn node_at(file: &[u8], index: &[u16], n: usize) -> NodeView
-    requires indexed { Indexed file.now index.now }
-    requires n_in_bounds { n < length (tables_of file.now).nodes }
-    ensures shows { SeenNode file.now (node_at (tables_of file.now) n) result }
-    ensures view { result ≡ node_view file.now (start_at index.now Sections.nodes n) }
-{
-    let at = start_of(index, NODES, n);
-    let p = at + 1;
-    match file[at] {
-        0 => NodeView::Int(p),
-        1 => NodeView::Str(word_at(file, p)),
-        2 => NodeView::Bytes(wide(file[p]), p + 1),
-        3 => NodeView::Var(word_at(file, p)),
-        4 => NodeView::Wildcard,
-        5 => NodeView::Never,
-        6 => NodeView::Prefix(word_at(file, p)),
-        7 => NodeView::Fuzzy(word_at(file, p), file[p + 2], anchor_of(file[p + 3])),
-        8 => NodeView::Record(wide(file[p]), p + 1),
-        9 => NodeView::Access(word_at(file, p), word_at(file, p + 2)),
-        10 => NodeView::Value(word_at(file, p)),
-        11 => NodeView::Select(word_at(file, p), word_at(file, p + 2)),
-        12 => NodeView::Disjunction,
-        13 => NodeView::Subquery,
-        14 => NodeView::Fact(PredicateId(half_at(file, p)), word_at(file, p + 2)),
-        15 => NodeView::Arith,
-        _ => NodeView::Error,
-    }
-}
-
 // Where a path that starts at `at` ends.
 pub fn past_path(file: &[u8], at: usize) -> usize
     requires { PathInside file.now at }
     ensures { result ≡ past_path file.now at }
 {
-    at + 3 + 4 * wide(file[at + 2])
+    at + 3 + 4 * usize::from(file[at + 2])
 }
 
 // The path that stands at `at`, by value.
@@ -350,7 +259,8 @@ pub fn path_at(file: &[u8], at: usize) -> FieldPath
     ensures whole { result ≡ path_for (path_at file.now at) }
 {
     let field = word_at(file, at) as u16;
-    let count = wide(file[at + 2]);
+    let count = usize::from(file[at + 2]);
+    // No heap: on the stack.
     let mut steps = [0u32; FieldPath::STEP_LIMIT];
     for i in 0..count {
         steps[i] = long_at(file, at + 3 + 4 * i);
@@ -362,102 +272,14 @@ pub fn path_at(file: &[u8], at: usize) -> FieldPath
     }
 }
 
-// Binding b of the file: its name and its slot.
-pub fn binding_at(file: &[u8], index: &[u16], b: usize) -> BindingView
-    requires indexed { Indexed file.now index.now }
-    requires b_in_bounds { b < length (tables_of file.now).bindings }
-    ensures shows { SeenBinding file.now (binding_at (tables_of file.now) b) result }
-    ensures view { result ≡ binding_view file.now (start_at index.now Sections.bindings b) }
-{
-    let at = start_of(index, BINDINGS, b);
-    let name = word_at(file, at);
-    let q = at + 2;
-    let p = q + 1;
-    let a = Address(half_at(file, p));
-    match file[q] {
-        0 => BindingView {
-            name,
-            slot: SlotView::Row(a, maybe_predicate(half_at(file, p + 2))),
-        },
-        1 => BindingView {
-            name,
-            slot: SlotView::Key(a, word_at(file, p + 2)),
-        },
-        2 => BindingView {
-            name,
-            slot: SlotView::Derived(a),
-        },
-        3 => BindingView {
-            name,
-            slot: SlotView::Field(a, p + 2, word_at(file, past_path(file, p + 2))),
-        },
-        4 => BindingView {
-            name,
-            slot: SlotView::Value(a, word_at(file, p + 2)),
-        },
-        _ => BindingView {
-            name,
-            slot: SlotView::Const(word_at(file, p)),
-        },
-    }
-}
-
-// Hoisted entry k.
-pub fn hoisted_at(file: &[u8], index: &[u16], k: usize) -> Hoisted
-    requires indexed { Indexed file.now index.now }
-    requires k_in_bounds { k < length (tables_of file.now).hoisted }
-    ensures { hoisted_of result ≡ hoisted_at (tables_of file.now) k }
-{
-    let p = start_of(index, file::HOISTED, k);
-    Hoisted {
-        node: word_at(file, p),
-        name: word_at(file, p + 2),
-    }
-}
-
-// Fetched entry k.
-pub fn fetched_at(file: &[u8], index: &[u16], k: usize) -> FetchedView
-    requires indexed { Indexed file.now index.now }
-    requires k_in_bounds { k < length (tables_of file.now).fetched }
-    ensures shows { SeenFetched file.now (fetched_at (tables_of file.now) k) result }
-    ensures view { result ≡ fetched_view file.now (start_at index.now Sections.fetched k) }
-{
-    let p = start_of(index, FETCHED, k);
-    let address = Address(half_at(file, p));
-    let register = Address(half_at(file, past_path(file, p + 2)));
-    FetchedView {
-        address,
-        path: p + 2,
-        register,
-    }
-}
-
-// Constraint k.
-pub fn constraint_at(file: &[u8], index: &[u16], k: usize) -> Constraint
-    requires indexed { Indexed file.now index.now }
-    requires k_in_bounds { k < length (tables_of file.now).constraints }
-    ensures { constraint_of result ≡ constraint_at (tables_of file.now) k }
-{
-    let p = start_of(index, CONSTRAINTS, k);
-    Constraint {
-        name: word_at(file, p),
-        node: word_at(file, p + 2),
-    }
-}
-
 // The number of a comparison's op.
 pub fn op_number(op: CompareOp) -> u8
     ensures { result ≡ op_number (op_of op) }
 {
-    match op {
-        CompareOp::Lt => 0,
-        CompareOp::Le => 1,
-        CompareOp::Gt => 2,
-        CompareOp::Ge => 3,
-    }
+    op as u8
 }
 
-// A comparison's op by its number.
+// A comparison's op by its number; no TryFrom, as above.
 pub fn compare_op(b: u8) -> CompareOp
     requires { b < 4 }
     ensures { op_of result ≡ op_of_number b }
@@ -470,74 +292,244 @@ pub fn compare_op(b: u8) -> CompareOp
     }
 }
 
-// Comparison k.
-pub fn comparison_at(file: &[u8], index: &[u16], k: usize) -> Comparison
-    requires indexed { Indexed file.now index.now }
-    requires k_in_bounds { k < length (tables_of file.now).comparisons }
-    ensures { comparison_of result ≡ comparison_at (tables_of file.now) k }
-{
-    let p = start_of(index, COMPARISONS, k);
-    Comparison {
-        op: compare_op(file[p]),
-        left: word_at(file, p + 1),
-        right: word_at(file, p + 3),
+impl IndexedFile<'_> {
+    // Where record t of section s starts.
+    fn start_of(&self, s: Section, t: usize) -> usize
+        requires { t < limit_of (number_of s) }
+        ensures { result ≡ start_at self.now.index.now (number_of s) t }
+    {
+        usize::from(self.index[base(s) + 1 + t])
     }
-}
 
-// Entry k of the list of levels.
-pub fn level_at(file: &[u8], index: &[u16], k: usize) -> LevelEntry
-    requires indexed { Indexed file.now index.now }
-    requires k_in_bounds { k < length (tables_of file.now).levels }
-    ensures { level_of result ≡ level_entry_at (tables_of file.now) k }
-{
-    let p = start_of(index, LEVELS, k);
-    let predicate = PredicateId(half_at(file, p));
-    let address = Address(half_at(file, p + 4));
-    LevelEntry {
-        predicate,
-        node: word_at(file, p + 2),
-        address,
+    // How many records section s has.
+    pub fn count_of(&self, s: Section) -> usize
+        ensures { result ≡ size_of (tables_in self.now) (number_of s) }
+    {
+        usize::from(self.index[base(s)])
     }
-}
 
-// Type t, and Int past the last.
-pub fn type_of(file: &[u8], index: &[u16], t: usize) -> TypeView
-    requires { Indexed file.now index.now }
-    ensures shows { SeenType file.now (type_at (tables_of file.now) t) result }
-    ensures view { result ≡ type_entry (tables_of file.now) file.now index.now t }
-{
-    if t < count_of(file, index, TYPES) {
-        type_at(file, index, t)
-    } else {
-        TypeView::Int
+    // Type t, and where its children stand.
+    pub fn type_at(&self, t: usize) -> TypeView
+        requires { t < length (tables_in self.now).types }
+        ensures shows { SeenType self.now.bytes.now (type_at (tables_in self.now) t) result }
+        ensures view { result ≡ type_view self.now.bytes.now (start_at self.now.index.now Sections.types t) }
+    {
+        let p = self.start_of(Section::Types, t);
+        match self.bytes[p] {
+            0 => TypeView::Int,
+            1 => TypeView::Str,
+            2 => TypeView::Bytes,
+            3 => TypeView::Fact(PredicateId(half_at(self.bytes, p + 1))),
+            4 => TypeView::Record(usize::from(self.bytes[p + 1]), p + 2),
+            _ => TypeView::Union(usize::from(self.bytes[p + 1]), p + 2),
+        }
     }
-}
 
-// Node n, and Error past the last.
-pub fn node_of(file: &[u8], index: &[u16], n: usize) -> NodeView
-    requires { Indexed file.now index.now }
-    ensures shows { SeenNode file.now (node_at (tables_of file.now) n) result }
-    ensures view { result ≡ node_entry (tables_of file.now) file.now index.now n }
-{
-    if n < count_of(file, index, NODES) {
-        node_at(file, index, n)
-    } else {
-        NodeView::Error
+    // Where the text of name x stands, and its length.
+    pub fn name_at(&self, x: usize) -> TextView
+        requires { x < length (tables_in self.now).names }
+        ensures shows { SeenText self.now.bytes.now (name_at (tables_in self.now) x) result }
+        ensures view { result ≡ text_view self.now.bytes.now (start_at self.now.index.now Sections.names x) }
+    {
+        let p = self.start_of(Section::Names, x);
+        TextView {
+            at: p + 1,
+            len: usize::from(self.bytes[p]),
+        }
     }
-}
 
-// Predicate p; past the last, one with key type 0 and no value.
-pub fn predicate_of(file: &[u8], index: &[u16], p: PredicateId) -> Predicate
-    requires { Indexed file.now index.now }
-    ensures { predicate_of result ≡ predicate_at (tables_of file.now) p.0 }
-{
-    let n = wide16(p.0);
-    if n < count_of(file, index, PREDICATES) {
-        predicate_at(file, index, p)
-    } else {
+    // The key and value types of predicate p.
+    pub fn predicate_at(&self, p: PredicateId) -> Predicate
+        requires { p.0 < length (tables_in self.now).predicates }
+        ensures { predicate_of result ≡ predicate_at (tables_in self.now) p.0 }
+    {
+        let n = usize::from(p.0);
+        let at = self.start_of(Section::Predicates, n);
         Predicate {
-            key: 0,
-            value: None,
+            key: word_at(self.bytes, at),
+            value: maybe_type(word_at(self.bytes, at + 2)),
+        }
+    }
+
+    // Node n, and where its bytes or pairs stand.
+    pub fn node_at(&self, n: usize) -> NodeView
+        requires { n < length (tables_in self.now).nodes }
+        ensures shows { SeenNode self.now.bytes.now (node_at (tables_in self.now) n) result }
+        ensures view { result ≡ node_view self.now.bytes.now (start_at self.now.index.now Sections.nodes n) }
+    {
+        let at = self.start_of(Section::Nodes, n);
+        let p = at + 1;
+        match self.bytes[at] {
+            0 => NodeView::Int(p),
+            1 => NodeView::Str(word_at(self.bytes, p)),
+            2 => NodeView::Bytes(usize::from(self.bytes[p]), p + 1),
+            3 => NodeView::Var(word_at(self.bytes, p)),
+            4 => NodeView::Wildcard,
+            5 => NodeView::Never,
+            6 => NodeView::Prefix(word_at(self.bytes, p)),
+            7 => NodeView::Fuzzy(
+                word_at(self.bytes, p),
+                self.bytes[p + 2],
+                anchor_of(self.bytes[p + 3]),
+            ),
+            8 => NodeView::Record(usize::from(self.bytes[p]), p + 1),
+            9 => NodeView::Access(word_at(self.bytes, p), word_at(self.bytes, p + 2)),
+            10 => NodeView::Value(word_at(self.bytes, p)),
+            11 => NodeView::Select(word_at(self.bytes, p), word_at(self.bytes, p + 2)),
+            12 => NodeView::Disjunction,
+            13 => NodeView::Subquery,
+            14 => NodeView::Fact(
+                PredicateId(half_at(self.bytes, p)),
+                word_at(self.bytes, p + 2),
+            ),
+            15 => NodeView::Arith,
+            _ => NodeView::Error,
+        }
+    }
+
+    // Binding b of the file: its name and its slot.
+    pub fn binding_at(&self, b: usize) -> BindingView
+        requires { b < length (tables_in self.now).bindings }
+        ensures shows { SeenBinding self.now.bytes.now (binding_at (tables_in self.now) b) result }
+        ensures view { result ≡ binding_view self.now.bytes.now (start_at self.now.index.now Sections.bindings b) }
+    {
+        let at = self.start_of(Section::Bindings, b);
+        let name = word_at(self.bytes, at);
+        let q = at + 2;
+        let p = q + 1;
+        let a = Address(half_at(self.bytes, p));
+        match self.bytes[q] {
+            0 => BindingView {
+                name,
+                slot: SlotView::Row(a, maybe_predicate(half_at(self.bytes, p + 2))),
+            },
+            1 => BindingView {
+                name,
+                slot: SlotView::Key(a, word_at(self.bytes, p + 2)),
+            },
+            2 => BindingView {
+                name,
+                slot: SlotView::Derived(a),
+            },
+            3 => BindingView {
+                name,
+                slot: SlotView::Field(a, p + 2, word_at(self.bytes, past_path(self.bytes, p + 2))),
+            },
+            4 => BindingView {
+                name,
+                slot: SlotView::Value(a, word_at(self.bytes, p + 2)),
+            },
+            _ => BindingView {
+                name,
+                slot: SlotView::Const(word_at(self.bytes, p)),
+            },
+        }
+    }
+
+    // Hoisted entry k.
+    pub fn hoisted_at(&self, k: usize) -> Hoisted
+        requires { k < length (tables_in self.now).hoisted }
+        ensures { hoisted_of result ≡ hoisted_at (tables_in self.now) k }
+    {
+        let p = self.start_of(Section::Hoisted, k);
+        Hoisted {
+            node: word_at(self.bytes, p),
+            name: word_at(self.bytes, p + 2),
+        }
+    }
+
+    // Fetched entry k.
+    pub fn fetched_at(&self, k: usize) -> FetchedView
+        requires { k < length (tables_in self.now).fetched }
+        ensures shows { SeenFetched self.now.bytes.now (fetched_at (tables_in self.now) k) result }
+        ensures view { result ≡ fetched_view self.now.bytes.now (start_at self.now.index.now Sections.fetched k) }
+    {
+        let p = self.start_of(Section::Fetched, k);
+        let address = Address(half_at(self.bytes, p));
+        let register = Address(half_at(self.bytes, past_path(self.bytes, p + 2)));
+        FetchedView {
+            address,
+            path: p + 2,
+            register,
+        }
+    }
+
+    // Constraint k.
+    pub fn constraint_at(&self, k: usize) -> Constraint
+        requires { k < length (tables_in self.now).constraints }
+        ensures { constraint_of result ≡ constraint_at (tables_in self.now) k }
+    {
+        let p = self.start_of(Section::Constraints, k);
+        Constraint {
+            name: word_at(self.bytes, p),
+            node: word_at(self.bytes, p + 2),
+        }
+    }
+
+    // Comparison k.
+    pub fn comparison_at(&self, k: usize) -> Comparison
+        requires { k < length (tables_in self.now).comparisons }
+        ensures { comparison_of result ≡ comparison_at (tables_in self.now) k }
+    {
+        let p = self.start_of(Section::Comparisons, k);
+        Comparison {
+            op: compare_op(self.bytes[p]),
+            left: word_at(self.bytes, p + 1),
+            right: word_at(self.bytes, p + 3),
+        }
+    }
+
+    // Entry k of the list of levels.
+    pub fn level_at(&self, k: usize) -> LevelEntry
+        requires { k < length (tables_in self.now).levels }
+        ensures { level_of result ≡ level_entry_at (tables_in self.now) k }
+    {
+        let p = self.start_of(Section::Levels, k);
+        let predicate = PredicateId(half_at(self.bytes, p));
+        let address = Address(half_at(self.bytes, p + 4));
+        LevelEntry {
+            predicate,
+            node: word_at(self.bytes, p + 2),
+            address,
+        }
+    }
+
+    // Type t, and Int past the last.
+    pub fn type_of(&self, t: usize) -> TypeView
+        ensures shows { SeenType self.now.bytes.now (type_at (tables_in self.now) t) result }
+        ensures view { result ≡ type_entry (tables_in self.now) self.now.bytes.now self.now.index.now t }
+    {
+        if t < self.count_of(Section::Types) {
+            self.type_at(t)
+        } else {
+            TypeView::Int
+        }
+    }
+
+    // Node n, and Error past the last.
+    pub fn node_of(&self, n: usize) -> NodeView
+        ensures shows { SeenNode self.now.bytes.now (node_at (tables_in self.now) n) result }
+        ensures view { result ≡ node_entry (tables_in self.now) self.now.bytes.now self.now.index.now n }
+    {
+        if n < self.count_of(Section::Nodes) {
+            self.node_at(n)
+        } else {
+            NodeView::Error
+        }
+    }
+
+    // Predicate p; past the last, one with key type 0 and no value.
+    pub fn predicate_of(&self, p: PredicateId) -> Predicate
+        ensures { predicate_of result ≡ predicate_at (tables_in self.now) p.0 }
+    {
+        let n = usize::from(p.0);
+        if n < self.count_of(Section::Predicates) {
+            self.predicate_at(p)
+        } else {
+            Predicate {
+                key: 0,
+                value: None,
+            }
         }
     }
 }

@@ -1,5 +1,6 @@
 // A level's walk by value: the lists' ends and the level, with the operations of the written walk. `node` is the node that made a
-// narrowing or a closer.
+// narrowing or a closer. `work` and `plan` stay two parameters, here and above: the engine lends two buffers, clauses say what each holds
+// at the return, and a struct of two `&mut` would have to be lent on field by field.
 #![tactic(auto)]
 
 ghost use Rattle.std.specs.Prelude.{◌≡◌, List, ℕ};

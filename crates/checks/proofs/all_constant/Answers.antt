@@ -11,7 +11,7 @@ use Rattle.checks.proofs.Fill.{low-at, flag-yes, flag-no}
 use Rattle.checks.proofs.all_constant.Goals as goal
 
 pub loop-k-init : goal.loop-k-init
-loop-k-init c = left-first (λ m q. all (λ c'. get_or (flags_at c.args.index.now) c' false) (run (word c.args.file.now) 4 m q)) 4 c.args.n c.args.p
+loop-k-init c = left-first (λ m q. all (λ c'. get_or (flags_at c.args.file.now.index.now) c' false) (run (word c.args.file.now.bytes.now) 4 m q)) 4 c.args.n c.args.p
 
 pub overflow_mul-k : goal.overflow_mul-k
 overflow_mul-k c = omega (arith, words-at c.requires.words c.loop-k.k c.loop-k-test.true, c.requires.words.small)
@@ -23,22 +23,22 @@ pub word_at-requires : goal.word_at-requires
 word_at-requires c = words-at c.requires.words c.loop-k.k c.loop-k-test.true
 
 pub overflow_add-word_at : goal.overflow_add-word_at
-overflow_add-word_at c = omega (arith, low-at (word c.args.file.now) 4 c.args.n c.args.p _ c.requires.p_value c.loop-k.k c.loop-k-test.true, c.word_at.ensures.reads, c.requires.index_length_in_bounds)
+overflow_add-word_at c = omega (arith, low-at (word c.args.file.now.bytes.now) 4 c.args.n c.args.p _ c.requires.p_value c.loop-k.k c.loop-k-test.true, c.word_at.ensures.reads, c.requires.m_le_node_limit, c.args.file.now.indexed.long)
 
-pub offset_bounds-index-word_at : goal.offset_bounds-index-word_at
-offset_bounds-index-word_at c = omega (arith, low-at (word c.args.file.now) 4 c.args.n c.args.p _ c.requires.p_value c.loop-k.k c.loop-k-test.true, c.word_at.ensures.reads, c.requires.index_length_in_bounds)
+pub offset_bounds-file-word_at : goal.offset_bounds-file-word_at
+offset_bounds-file-word_at c = omega (arith, low-at (word c.args.file.now.bytes.now) 4 c.args.n c.args.p _ c.requires.p_value c.loop-k.k c.loop-k-test.true, c.word_at.ensures.reads, c.requires.m_le_node_limit, c.args.file.now.indexed.long)
 
-pub bounds-index-word_at : goal.bounds-index-word_at
-bounds-index-word_at c = omega (arith, low-at (word c.args.file.now) 4 c.args.n c.args.p _ c.requires.p_value c.loop-k.k c.loop-k-test.true, c.word_at.ensures.reads, c.requires.index_length_in_bounds)
+pub bounds-file-word_at : goal.bounds-file-word_at
+bounds-file-word_at c = omega (arith, low-at (word c.args.file.now.bytes.now) 4 c.args.n c.args.p _ c.requires.p_value c.loop-k.k c.loop-k-test.true, c.word_at.ensures.reads, c.requires.m_le_node_limit, c.args.file.now.indexed.long)
 
-pub returns-then-index-word_at-ne1 : goal.returns-then-index-word_at-ne1
-returns-then-index-word_at-ne1 c =
-    sym (c.loop-k.invariant ∙ run-no _ _ _ _ _ (omega (arith, c.loop-k-test.true)) (flag-no _ _ _ _ c.word_at.ensures.reads refl c.if-index-word_at-ne1.true))
+pub returns-then-file-word_at-ne1 : goal.returns-then-file-word_at-ne1
+returns-then-file-word_at-ne1 c =
+    sym (c.loop-k.invariant ∙ run-no _ _ _ _ _ (omega (arith, c.loop-k-test.true)) (flag-no _ _ _ _ c.word_at.ensures.reads refl c.if-file-word_at-ne1.true))
 
 pub loop-k-preserved : goal.loop-k-preserved
 loop-k-preserved c =
-    c.loop-k.invariant ∙ run-yes _ _ _ _ _ (omega (arith, c.loop-k-test.true)) (flag-yes _ _ _ _ c.word_at.ensures.reads refl c.if-index-word_at-ne1.false)
-    ∙ left-next (λ m q. all (λ c'. get_or (flags_at c.args.index.now) c' false) (run (word c.args.file.now) 4 m q)) 4 c.args.n c.args.p c.loop-k.k
+    c.loop-k.invariant ∙ run-yes _ _ _ _ _ (omega (arith, c.loop-k-test.true)) (flag-yes _ _ _ _ c.word_at.ensures.reads refl c.if-file-word_at-ne1.false)
+    ∙ left-next (λ m q. all (λ c'. get_or (flags_at c.args.file.now.index.now) c' false) (run (word c.args.file.now.bytes.now) 4 m q)) 4 c.args.n c.args.p c.loop-k.k
 
 pub returns : goal.returns
 returns c = sym (c.loop-k.invariant ∙ run-done _ _ _ _ _ (omega arith))

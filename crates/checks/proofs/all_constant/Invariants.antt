@@ -10,5 +10,5 @@ use Rattle.checks.proofs.all_constant.Given as goal
 
 abbrev pub invariant-loop-k : goal.invariant-loop-k
 invariant-loop-k l =
-    all (λ c. get_or (flags_at l.index) c false) (run (word l.file) 4 l.n l.p)
-    ≡ all (λ c. get_or (flags_at l.index) c false) (run (word l.file) 4 (l.n - l.k) (l.p + 4 * l.k))
+    all (λ c. get_or (flags_at l.file.index.now) c false) (run (word l.file.bytes.now) 4 l.n l.p)
+    ≡ all (λ c. get_or (flags_at l.file.index.now) c false) (run (word l.file.bytes.now) 4 (l.n - l.k) (l.p + 4 * l.k))

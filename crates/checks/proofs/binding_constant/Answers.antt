@@ -4,9 +4,6 @@ use Rattle.record_checks.proofs.Seen.{by-slot}
 use Rattle.checks.proofs.Fill.{slot-in, const-node, constant-slots}
 use Rattle.checks.proofs.binding_constant.Goals as goal
 
-pub binding_at-v-requires : goal.binding_at-v-requires
-binding_at-v-requires c = record { indexed = c.requires.numbered.filled.indexed; b_in_bounds = c.requires.b_in_bounds }
-
 pub is_constant-requires : goal.is_constant-requires
 is_constant-requires c = record { filled = c.requires.numbered.filled; n_in_bounds = const-node _ _ _ _ c.binding_at-v.ensures.shows _ c.in-Const.is (slot-in _ c.requires.numbered.numbers _ c.requires.b_in_bounds) }
 

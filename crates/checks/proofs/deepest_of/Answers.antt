@@ -11,7 +11,7 @@ use Rattle.checks.proofs.deepest_of.Goals as goal
 
 pub loop-k-init : goal.loop-k-init
 loop-k-init c =
-    (omega (arith, left-first (λ m q. deepest (drop depths_base c.args.index.now) (run (word c.args.file.now) c.args.w m q)) c.args.w c.args.n c.args.p), omega arith)
+    (omega (arith, left-first (λ m q. deepest (drop depths_base c.args.file.now.index.now) (run (word c.args.file.now.bytes.now) c.args.w m q)) c.args.w c.args.n c.args.p), omega arith)
 
 pub overflow_mul-w : goal.overflow_mul-w
 overflow_mul-w c = omega (arith, words-at c.requires.words c.loop-k.k c.loop-k-test.true, c.requires.words.small)
@@ -23,20 +23,20 @@ pub word_at-requires : goal.word_at-requires
 word_at-requires c = words-at c.requires.words c.loop-k.k c.loop-k-test.true
 
 pub overflow_add-word_at : goal.overflow_add-word_at
-overflow_add-word_at c = omega (arith, low-at (word c.args.file.now) c.args.w c.args.n c.args.p _ c.requires.p_value c.loop-k.k c.loop-k-test.true, c.word_at.ensures.reads, c.requires.index_length_in_bounds)
+overflow_add-word_at c = omega (arith, low-at (word c.args.file.now.bytes.now) c.args.w c.args.n c.args.p _ c.requires.p_value c.loop-k.k c.loop-k-test.true, c.word_at.ensures.reads, c.requires.t_le_type_limit, c.args.file.now.indexed.long)
 
-pub offset_bounds-index-word_at : goal.offset_bounds-index-word_at
-offset_bounds-index-word_at c = omega (arith, low-at (word c.args.file.now) c.args.w c.args.n c.args.p _ c.requires.p_value c.loop-k.k c.loop-k-test.true, c.word_at.ensures.reads, c.requires.index_length_in_bounds)
+pub offset_bounds-file-word_at : goal.offset_bounds-file-word_at
+offset_bounds-file-word_at c = omega (arith, low-at (word c.args.file.now.bytes.now) c.args.w c.args.n c.args.p _ c.requires.p_value c.loop-k.k c.loop-k-test.true, c.word_at.ensures.reads, c.requires.t_le_type_limit, c.args.file.now.indexed.long)
 
-pub bounds-index-word_at : goal.bounds-index-word_at
-bounds-index-word_at c = omega (arith, low-at (word c.args.file.now) c.args.w c.args.n c.args.p _ c.requires.p_value c.loop-k.k c.loop-k-test.true, c.word_at.ensures.reads, c.requires.index_length_in_bounds)
+pub bounds-file-word_at : goal.bounds-file-word_at
+bounds-file-word_at c = omega (arith, low-at (word c.args.file.now.bytes.now) c.args.w c.args.n c.args.p _ c.requires.p_value c.loop-k.k c.loop-k-test.true, c.word_at.ensures.reads, c.requires.t_le_type_limit, c.args.file.now.indexed.long)
 
 pub loop-k-preserved : goal.loop-k-preserved
 loop-k-preserved c = (
-  c.loop-k.invariant.0 ∙ deepest-turn _ c.args.index.now c.args.w (c.args.n - c.loop-k.k) (c.args.p + c.args.w * c.loop-k.k) _ _ _ _
-      (omega (arith, c.loop-k-test.true)) c.word_at.ensures.reads c.wide16-d.ensures c.max-most.ensures
-      ∙ left-next (λ m q. max c.max-most.result (deepest (drop depths_base c.args.index.now) (run (word c.args.file.now) c.args.w m q))) c.args.w c.args.n c.args.p c.loop-k.k,
-  omega (arith, c.loop-k.invariant.1, c.max-most.ensures, c.wide16-d.ensures, c.type_inv.index (4682 + c.word_at.result)),
+  c.loop-k.invariant.0 ∙ deepest-turn _ c.args.file.now.index.now c.args.w (c.args.n - c.loop-k.k) (c.args.p + c.args.w * c.loop-k.k) _ _ _ _
+      (omega (arith, c.loop-k-test.true)) c.word_at.ensures.reads c.from-d.ensures c.max-most.ensures
+      ∙ left-next (λ m q. max c.max-most.result (deepest (drop depths_base c.args.file.now.index.now) (run (word c.args.file.now.bytes.now) c.args.w m q))) c.args.w c.args.n c.args.p c.loop-k.k,
+  omega (arith, c.loop-k.invariant.1, c.max-most.ensures, c.from-d.ensures),
 )
 
 pub returns : goal.returns

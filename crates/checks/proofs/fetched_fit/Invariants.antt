@@ -1,5 +1,5 @@
 use mathlib.Core.Path.{◌≡◌}
-use Prim.Native.Nat.{◌-◌, ◌≤◌}
+use Prim.Native.Nat.{◌-◌}
 use lib.ListN.{length}
 use lib.Dec.{leb}
 use Rattle.file.specs.Tables.{tables_of}
@@ -10,4 +10,4 @@ use Rattle.record_checks.proofs.Every.{every}
 use Rattle.checks.proofs.fetched_fit.Given as goal
 
 abbrev pub invariant-loop-k : goal.invariant-loop-k
-invariant-loop-k l = (fetched_fit (tables_of l.file) ≡ every (λ j. leb (length (fetched_at (tables_of l.file) j).path.steps) step_limit) (l.n - l.k) l.k) × (l.n ≡ length (tables_of l.file).fetched)
+invariant-loop-k l = (fetched_fit (tables_of l.file.bytes.now) ≡ every (λ j. leb (length (fetched_at (tables_of l.file.bytes.now) j).path.steps) step_limit) (l.n - l.k) l.k) × (l.n ≡ length (tables_of l.file.bytes.now).fetched)

@@ -10,8 +10,11 @@ use Rattle.checks.proofs.fill_constants.Goals as goal
 pub loop-n-init : goal.loop-n-init
 loop-n-init c = (refl, c.count_of-m.ensures, refl)
 
+pub invariant_of-tables-in-loop-n : goal.invariant_of-tables-in-loop-n
+invariant_of-tables-in-loop-n c = record { indexed = indexed-so _ _ _ (take c.loop-n.n (flags_of (tables_of c.args.file.now))) constants_base (omega arith) c.loop-n.invariant.0 c.requires.indexed }
+
 pub node_constant-requires : goal.node_constant-requires
-node_constant-requires c = record { indexed = indexed-so _ _ _ (take c.loop-n.n (flags_of (tables_of c.args.file.now))) constants_base (omega arith) c.loop-n.invariant.0 c.requires.indexed; n_in_bounds = omega (arith, c.loop-n.invariant.1, c.loop-n-test.true); file_value = c.requires.file_value }
+node_constant-requires c = record { n_in_bounds = omega (arith, c.loop-n.invariant.1, c.loop-n-test.true); file_value = c.requires.file_value }
 
 pub overflow_add-index : goal.overflow_add-index
 overflow_add-index c = omega (arith, c.loop-n.invariant.1, c.loop-n-test.true, nodes-few _ _ c.requires.indexed)

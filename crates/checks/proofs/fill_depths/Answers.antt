@@ -10,8 +10,11 @@ use Rattle.checks.proofs.fill_depths.Goals as goal
 pub loop-t-init : goal.loop-t-init
 loop-t-init c = (refl, c.count_of-n.ensures, refl)
 
+pub invariant_of-tables-in-loop-t : goal.invariant_of-tables-in-loop-t
+invariant_of-tables-in-loop-t c = record { indexed = indexed-so _ _ _ (take c.loop-t.t (depths (tables_of c.args.file.now))) depths_base (omega arith) c.loop-t.invariant.0 c.requires.indexed }
+
 pub type_depth-d-requires : goal.type_depth-d-requires
-type_depth-d-requires c = record { indexed = indexed-so _ _ _ (take c.loop-t.t (depths (tables_of c.args.file.now))) depths_base (omega arith) c.loop-t.invariant.0 c.requires.indexed; t_in_bounds = omega (arith, c.loop-t.invariant.1, c.loop-t-test.true); file_value = c.requires.file_value }
+type_depth-d-requires c = record { t_in_bounds = omega (arith, c.loop-t.invariant.1, c.loop-t-test.true); file_value = c.requires.file_value }
 
 pub overflow_cast-index : goal.overflow_cast-index
 overflow_cast-index c = omega (arith, (depth-stored _ _ _ c.requires.file_value c.requires.indexed.long _ _ (omega (arith, c.loop-t.invariant.1, c.loop-t-test.true)) (types-few _ _ c.requires.indexed) c.loop-t.invariant.0 c.type_depth-d.ensures).1)

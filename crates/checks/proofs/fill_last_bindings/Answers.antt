@@ -10,7 +10,7 @@ pub loop-k-init : goal.loop-k-init
 loop-k-init c = written_none _ _ _ c.count_of-names.result c.requires.indexed c.clear_last_bindings.ensures
 
 pub binding_name-x-requires : goal.binding_name-x-requires
-binding_name-x-requires c = record { indexed = c.loop-k.invariant.indexed; k_in_bounds = omega (arith, c.count_of-n.ensures, c.loop-k-test.true) }
+binding_name-x-requires c = omega (arith, c.count_of-n.ensures, c.loop-k-test.true)
 
 pub overflow_cast-index : goal.overflow_cast-index
 overflow_cast-index c = omega (arith, c.count_of-n.ensures, c.loop-k-test.true, bindings-few _ _ c.loop-k.invariant.indexed)

@@ -1,4 +1,3 @@
-use Prim.Native.Nat.{◌-◌}
 use Rattle.checks.proofs.Last.{Written}
 use Rattle.checks.proofs.fill_last_bindings.Given as goal
 

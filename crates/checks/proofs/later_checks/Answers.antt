@@ -2,9 +2,6 @@ use mathlib.Core.Path.{sym, ◌∙◌}
 use Rattle.checks.proofs.Verdicts.{later-10, later-11, later-12, later-13, later-14, later-none}
 use Rattle.checks.proofs.later_checks.Goals as goal
 
-pub types_distinct-requires : goal.types_distinct-requires
-types_distinct-requires c = c.requires.filled.indexed
-
 pub returns-then-not-types_distinct : goal.returns-then-not-types_distinct
 returns-then-not-types_distinct c = later-10 _ (sym c.types_distinct.ensures ∙ c.if-not-types_distinct.true)
 
@@ -15,7 +12,7 @@ pub returns-then-not-types_shallow : goal.returns-then-not-types_shallow
 returns-then-not-types_shallow c = later-11 _ (sym c.types_distinct.ensures ∙ c.if-not-types_distinct.false) (sym c.types_shallow.ensures ∙ c.if-not-types_shallow.true)
 
 pub children_once-requires : goal.children_once-requires
-children_once-requires c = record { indexed = c.requires.filled.indexed; file_value = c.requires.lower }
+children_once-requires c = c.requires.lower
 
 pub returns-then-not-children_once : goal.returns-then-not-children_once
 returns-then-not-children_once c = later-12 _ (sym c.types_distinct.ensures ∙ c.if-not-types_distinct.false) (sym c.types_shallow.ensures ∙ c.if-not-types_shallow.false) (sym c.children_once.ensures ∙ c.if-not-children_once.true)

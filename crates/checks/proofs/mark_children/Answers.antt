@@ -12,13 +12,13 @@ named : {A B : Type 0} → A × B → record { gives : A; leaves : B }
 named p = record { gives = p.0; leaves = p.1 }
 
 pub overflow_add-at : goal.overflow_add-at
-overflow_add-at c = let i = (node-as c.node_at.ensures.shows c.in-Record.is).inside in omega (arith, i, c.requires.indexed.small)
+overflow_add-at c = let i = (node-as c.node_at.ensures.shows c.in-Record.is).inside in omega (arith, i, c.args.file.now.indexed.small)
 
 pub mark_run-requires : goal.mark_run-requires
 mark_run-requires c =
     let s = c.node_at.ensures.shows in
     let e = c.in-Record.is in
-    record { words = words-4 _ c.requires.indexed.small _ _ 2 2 (node-as s e).inside (omega arith); p_value = lower-run _ _ _ (patterns-are _ _ _ s _ _ e) c.requires.n_value }
+    record { words = words-4 _ c.args.file.now.indexed.small _ _ 2 2 (node-as s e).inside (omega arith); p_value = lower-run _ _ _ (patterns-are _ _ _ s _ _ e) c.requires.n_value }
 
 pub mark-requires : goal.mark-requires
 unfolding child_nodes
@@ -54,5 +54,5 @@ returns-in-Access c =
 pub returns-in_default : goal.returns-in_default
 returns-in_default c =
     let n = c.in_default in
-    named (none-marked _ _ (sym (node-rest (tables_of c.args.file.now) _ _ n.not-Record n.not-Access n.not-Value n.not-Select n.not-Fact)
+    named (none-marked _ _ (sym (node-rest (tables_of c.args.file.now.bytes.now) _ _ n.not-Record n.not-Access n.not-Value n.not-Select n.not-Fact)
     ∙ by-node child_nodes c.node_at.ensures.shows refl))

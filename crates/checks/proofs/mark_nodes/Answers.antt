@@ -8,7 +8,7 @@ use Rattle.checks.proofs.Marks.{nodes-end, nodes-on, nodes-stop, child-marks}
 use Rattle.checks.proofs.mark_nodes.Goals as goal
 
 pub count_of-m-requires : goal.count_of-m-requires
-count_of-m-requires c = record { indexed = c.requires.indexed; s_lt_section_count = omega arith }
+count_of-m-requires c = omega arith
 
 pub loop-n-init : goal.loop-n-init
 loop-n-init c = (refl, refl, c.count_of-m.ensures, refl)
@@ -16,8 +16,8 @@ loop-n-init c = (refl, refl, c.count_of-m.ensures, refl)
 pub mark_children-requires : goal.mark_children-requires
 mark_children-requires c =
     let l = c.loop-n in
-    let h : l.n < length (tables_of c.args.file.now).nodes = omega (arith, l.invariant.2, c.loop-n-test.true) in
-    record { indexed = c.requires.indexed; n_in_bounds = h; n_value = child-marks _ c.requires.file_value _ _ h (omega (arith, nodes-few _ _ c.requires.indexed, l.invariant.3, c.requires.marks_len)) }
+    let h : l.n < length (tables_of c.args.file.now.bytes.now).nodes = omega (arith, l.invariant.2, c.loop-n-test.true) in
+    record { n_in_bounds = h; n_value = child-marks _ c.requires.file_value _ _ h (omega (arith, nodes-few _ _ c.args.file.now.indexed, l.invariant.3, c.requires.marks_len)) }
 
 pub returns-then-not-mark_children : goal.returns-then-not-mark_children
 returns-then-not-mark_children c =
@@ -34,5 +34,5 @@ loop-n-preserved c =
 pub returns : goal.returns
 returns c =
     let l = c.loop-n in
-    let s = nodes-end (tables_of c.args.file.now) l.marks l.marks l.n (omega (arith, l.invariant.2, c.loop-n-test.false)) in
+    let s = nodes-end (tables_of c.args.file.now.bytes.now) l.marks l.marks l.n (omega (arith, l.invariant.2, c.loop-n-test.false)) in
     record { gives = sym (l.invariant.0 ∙ s.0); leaves = sym (l.invariant.1 ∙ s.1) }

@@ -1,5 +1,4 @@
 use mathlib.Core.Path.{◌≡◌}
-use Prim.Native.Nat.{◌-◌, ◌≤◌}
 use lib.ListN.{length, drop}
 use Rattle.rules.specs.Base.{concat_map}
 use Rattle.file.specs.Tables.{tables_of}
@@ -8,4 +7,4 @@ use Rattle.checks.specs.Checked.{once, marked}
 use Rattle.checks.proofs.mark_nodes.Given as goal
 
 abbrev pub invariant-loop-n : goal.invariant-loop-n
-invariant-loop-n l = (once l.initial.marks (concat_map child_nodes (tables_of l.file).nodes) ≡ once l.marks (concat_map child_nodes (drop l.n (tables_of l.file).nodes))) × (marked l.initial.marks (concat_map child_nodes (tables_of l.file).nodes) ≡ marked l.marks (concat_map child_nodes (drop l.n (tables_of l.file).nodes))) × (l.m ≡ length (tables_of l.file).nodes) × (length l.marks ≡ length l.initial.marks)
+invariant-loop-n l = (once l.initial.marks (concat_map child_nodes (tables_of l.file.bytes.now).nodes) ≡ once l.marks (concat_map child_nodes (drop l.n (tables_of l.file.bytes.now).nodes))) × (marked l.initial.marks (concat_map child_nodes (tables_of l.file.bytes.now).nodes) ≡ marked l.marks (concat_map child_nodes (drop l.n (tables_of l.file.bytes.now).nodes))) × (l.m ≡ length (tables_of l.file.bytes.now).nodes) × (length l.marks ≡ length l.initial.marks)

@@ -9,13 +9,13 @@ use Rattle.checks.proofs.Views.{patterns-are, lower-run, constant-record, consta
 use Rattle.checks.proofs.node_constant.Goals as goal
 
 pub overflow_add-at : goal.overflow_add-at
-overflow_add-at c = let i = (node-as c.node_at.ensures.shows c.in-Record.is).inside in omega (arith, i, c.requires.indexed.small)
+overflow_add-at c = let i = (node-as c.node_at.ensures.shows c.in-Record.is).inside in omega (arith, i, c.args.file.now.indexed.small)
 
 pub all_constant-requires : goal.all_constant-requires
 all_constant-requires c =
     let s = c.node_at.ensures.shows in
     let e = c.in-Record.is in
-    record { index_length_in_bounds = (c.requires.indexed.long, omega (arith, nodes-few _ _ c.requires.indexed, c.requires.n_in_bounds)); words = words-4 _ c.requires.indexed.small _ _ 2 2 (node-as s e).inside (omega arith); p_value = lower-run _ _ _ (patterns-are _ _ _ s _ _ e) (node-lower _ c.requires.file_value _ c.requires.n_in_bounds) }
+    record { m_le_node_limit = omega (arith, nodes-few _ _ c.args.file.now.indexed, c.requires.n_in_bounds); words = words-4 _ c.args.file.now.indexed.small _ _ 2 2 (node-as s e).inside (omega arith); p_value = lower-run _ _ _ (patterns-are _ _ _ s _ _ e) (node-lower _ c.requires.file_value _ c.requires.n_in_bounds) }
 
 pub returns-in-Record : goal.returns-in-Record
 returns-in-Record c = c.all_constant.ensures ∙ constant-record _ _ _ c.node_at.ensures.shows _ _ c.in-Record.is _

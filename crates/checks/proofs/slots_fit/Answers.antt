@@ -12,5 +12,5 @@ use Rattle.checks.proofs.slots_fit.Goals as goal
 
 pub returns : goal.returns
 returns c =
-    all_from_yields_List (λ b. slot_fits (tables_of c.args.file.now) (binding_at (tables_of c.args.file.now) b).slot) _ _ _ c.all.ensures.ran (YieldsList-from_range 0 _ _ refl refl) (λ x b q k. search (rules, tests))
+    all_from_yields_List (λ b. slot_fits (tables_of c.args.file.now.bytes.now) (binding_at (tables_of c.args.file.now.bytes.now) b).slot) _ _ _ c.all.ensures.ran (YieldsList-from_range 0 _ _ refl refl) (λ x b q k. search (rules, tests))
     ∙ every-list _ _ _ ∙ sym (slots-every _ ∙ every-start _ _ _ c.count_of.ensures)

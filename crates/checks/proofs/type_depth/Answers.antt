@@ -8,25 +8,25 @@ use Rattle.checks.proofs.Views.{fields-are, alternatives-are, lower-run, depth_i
 use Rattle.checks.proofs.type_depth.Goals as goal
 
 pub overflow_add-at : goal.overflow_add-at
-overflow_add-at c = let i = (type-as c.type_at.ensures.shows c.in-Record.is).inside in omega (arith, i, c.requires.indexed.small)
+overflow_add-at c = let i = (type-as c.type_at.ensures.shows c.in-Record.is).inside in omega (arith, i, c.args.file.now.indexed.small)
 
 pub deepest_of-requires : goal.deepest_of-requires
 deepest_of-requires c =
     let s = c.type_at.ensures.shows in
     let e = c.in-Record.is in
-    record { index_length_in_bounds = (c.requires.indexed.long, omega (arith, types-few _ _ c.requires.indexed, c.requires.t_in_bounds)); words = words-4 _ c.requires.indexed.small _ _ 2 2 (type-as s e).inside (omega arith); p_value = lower-run _ _ _ (fields-are _ _ _ s _ _ e) (type-lower _ c.requires.file_value _ c.requires.t_in_bounds) }
+    record { t_le_type_limit = omega (arith, types-few _ _ c.args.file.now.indexed, c.requires.t_in_bounds); words = words-4 _ c.args.file.now.indexed.small _ _ 2 2 (type-as s e).inside (omega arith); p_value = lower-run _ _ _ (fields-are _ _ _ s _ _ e) (type-lower _ c.requires.file_value _ c.requires.t_in_bounds) }
 
 pub overflow_add-result : goal.overflow_add-result
 overflow_add-result c = omega (arith, c.deepest_of.ensures.bounded)
 
 pub overflow_add-at-in-Union : goal.overflow_add-at-in-Union
-overflow_add-at-in-Union c = let i = (type-as c.type_at.ensures.shows c.in-Union.is).inside in omega (arith, i, c.requires.indexed.small)
+overflow_add-at-in-Union c = let i = (type-as c.type_at.ensures.shows c.in-Union.is).inside in omega (arith, i, c.args.file.now.indexed.small)
 
 pub deepest_of-requires-in-Union : goal.deepest_of-requires-in-Union
 deepest_of-requires-in-Union c =
     let s = c.type_at.ensures.shows in
     let e = c.in-Union.is in
-    record { index_length_in_bounds = (c.requires.indexed.long, omega (arith, types-few _ _ c.requires.indexed, c.requires.t_in_bounds)); words = words-8 _ c.requires.indexed.small _ _ 2 6 (type-as s e).inside (omega arith); p_value = lower-run _ _ _ (alternatives-are _ _ _ s _ _ e) (type-lower _ c.requires.file_value _ c.requires.t_in_bounds) }
+    record { t_le_type_limit = omega (arith, types-few _ _ c.args.file.now.indexed, c.requires.t_in_bounds); words = words-8 _ c.args.file.now.indexed.small _ _ 2 6 (type-as s e).inside (omega arith); p_value = lower-run _ _ _ (alternatives-are _ _ _ s _ _ e) (type-lower _ c.requires.file_value _ c.requires.t_in_bounds) }
 
 pub overflow_add-result-in-Union : goal.overflow_add-result-in-Union
 overflow_add-result-in-Union c = omega (arith, c.deepest_of-in-Union.ensures.bounded)

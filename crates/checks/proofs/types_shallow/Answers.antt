@@ -13,5 +13,5 @@ use Rattle.checks.proofs.types_shallow.Goals as goal
 
 pub returns : goal.returns
 returns c =
-    all_from_yields_List (λ t. leb (depth (tables_of c.args.file.now) t) depth_limit) _ _ _ c.all.ensures.ran (YieldsList-from_range 0 _ _ refl refl) (λ x b q k. search (rules, tests))
+    all_from_yields_List (λ t. leb (depth (tables_of c.args.file.now.bytes.now) t) depth_limit) _ _ _ c.all.ensures.ran (YieldsList-from_range 0 _ _ refl refl) (λ x b q k. search (rules, tests))
     ∙ every-list _ _ _ ∙ sym (shallow-every _ ∙ every-start _ _ _ c.count_of.ensures)

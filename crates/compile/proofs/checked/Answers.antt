@@ -4,10 +4,13 @@ use Rattle.compile.proofs.Verdicts.{own-length, ready, accepted-outcome, passed-
 use Rattle.compile.proofs.checked.Goals as goal
 
 pub walked-requires : goal.walked-requires
-walked-requires c =
+walked-requires c = own-length c.verify.new.index _ c.verify.auto.index refl
+
+pub invariant_of-walked : goal.invariant_of-walked
+invariant_of-walked c =
     let v = c.verify in
-    let l = own-length v.new.index _ v.auto.index refl in
-    record { accepted_file = ready _ _ l c.in_ok-verify.ensures.gives c.in_ok-verify.ensures.finds; index_len = l }
+    let a = ready _ _ (own-length v.new.index _ v.auto.index refl) c.in_ok-verify.ensures.gives c.in_ok-verify.ensures.finds in
+    record { accepted = a }
 
 pub returns-in_err-verify : goal.returns-in_err-verify
 returns-in_err-verify c =

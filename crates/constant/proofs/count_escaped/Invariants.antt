@@ -1,4 +1,3 @@
-use Prim.Native.Nat.{◌-◌}
 use Rattle.constant.proofs.Escapes.{Counted}
 use Rattle.constant.proofs.count_escaped.Given as goal
 

@@ -1,4 +1,3 @@
-use Prim.Native.Nat.{◌-◌}
 use Rattle.constant.proofs.Plain.{Least}
 use Rattle.constant.proofs.least_byte.Given as goal
 

@@ -6,13 +6,13 @@ use Rattle.walk.proofs.Parts.{placed-is}
 use Rattle.constrain.proofs.constrain.Goals as goal
 
 pub constrain_rank-c-requires : goal.constrain_rank-c-requires
-constrain_rank-c-requires c = record { accepted_file = c.requires.accepted_file; ty_in_bounds = c.requires.ty_in_bounds }
+constrain_rank-c-requires c = c.requires
 
 pub constrain_rank-d-requires : goal.constrain_rank-d-requires
-constrain_rank-d-requires c = record { accepted_file = c.requires.accepted_file; ty_in_bounds = c.requires.ty_in_bounds }
+constrain_rank-d-requires c = c.requires
 
 pub constrain_rank-requires : goal.constrain_rank-requires
-constrain_rank-requires c = record { accepted_file = c.requires.accepted_file; ty_in_bounds = c.requires.ty_in_bounds }
+constrain_rank-requires c = c.requires
 
 pub returns-then-is_constrained : goal.returns-then-is_constrained
 returns-then-is_constrained c = constrain-ranked _ _ _ _ (sym c.is_constrained.ensures ∙ c.if-is_constrained.true) _ _ _ _ _ _ _ _ _ _ _ _ _ _ _ _ _ c.constrained-a.ensures c.constrain_rank-b.ensures c.constrain_rank-c.ensures c.constrain_rank-d.ensures c.constrain_rank.ensures

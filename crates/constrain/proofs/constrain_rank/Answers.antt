@@ -3,16 +3,16 @@ use Rattle.constrain.proofs.Ranks.{going-first, going-not, going-one, going_end}
 use Rattle.constrain.proofs.constrain_rank.Goals as goal
 
 pub count_of-k-end-requires : goal.count_of-k-end-requires
-count_of-k-end-requires c = record { indexed = c.requires.accepted_file.indexed; s_lt_section_count = omega arith }
+count_of-k-end-requires c = omega arith
 
 pub loop-k-init : goal.loop-k-init
 loop-k-init c = going-first _ _ _ _ _ _ _ _
 
 pub pattern_for-requires : goal.pattern_for-requires
-pattern_for-requires c = record { indexed = c.requires.accepted_file.indexed; k_in_bounds = omega (arith, c.loop-k-test.true, c.count_of-k-end.ensures) }
+pattern_for-requires c = omega (arith, c.loop-k-test.true, c.count_of-k-end.ensures)
 
 pub narrow_or_report-l-requires : goal.narrow_or_report-l-requires
-narrow_or_report-l-requires c = record { accepted_file = c.requires.accepted_file; ty_in_bounds = c.requires.ty_in_bounds }
+narrow_or_report-l-requires c = c.requires
 
 pub loop-k-preserved : goal.loop-k-preserved
 loop-k-preserved c =

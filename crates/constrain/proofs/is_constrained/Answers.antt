@@ -10,6 +10,6 @@ use Rattle.constrain.proofs.is_constrained.Goals as goal
 
 pub returns : goal.returns
 returns c =
-    any_from_yields_List (λ k. eqb (constraint_at (tables_of c.args.file.now) k).name c.args.name) _ _ _ c.any.ensures.ran
+    any_from_yields_List (λ k. eqb (constraint_at (tables_of c.args.file.now.bytes.now) k).name c.args.name) _ _ _ c.any.ensures.ran
     (YieldsList-from_range 0 _ _ refl refl) (λ x b q k. search (rules, tests))
-    ∙ any-constrained (tables_of c.args.file.now) c.args.name _ c.count_of.ensures
+    ∙ any-constrained (tables_of c.args.file.now.bytes.now) c.args.name _ c.count_of.ensures

@@ -7,7 +7,7 @@ use Rattle.fates.proofs.+heard.Goals as goal
 use Rattle.fates.proofs.+heard.Goals.{in-Some+else-heard, in_default}
 
 pub pieces-opened-requires : goal.pieces-opened-requires
-pieces-opened-requires t c = record { accepted_file = c.requires.accepted_file; ty_in_bounds = c.requires.ty_in_bounds }
+pieces-opened-requires t c = c.requires
 
 pub returns-then-opened-eq0 : goal.returns-then-opened-eq0
 returns-then-opened-eq0 t c = heard-none _ _ _ (omega (arith, c.if-opened-eq0.true, count-is _ _ _ _ _ c.pieces-opened.ensures.opens))
@@ -16,12 +16,12 @@ pub loop-i-init : goal.loop-i-init
 loop-i-init t c = going-first _ _ _ _
 
 pub piece_at-p-requires : goal.piece_at-p-requires
-piece_at-p-requires t c = record { accepted_file = c.requires.accepted_file; ty_in_bounds = c.requires.ty_in_bounds; opened = c.pieces-opened.ensures.opens; i_lt_count = c.loop-i-test.true }
+piece_at-p-requires t c = record { ty_in_bounds = c.requires; opened = c.pieces-opened.ensures.opens; i_lt_count = c.loop-i-test.true }
 
 pub heard-requires : goal.heard-requires
 heard-requires t c =
     let l = c.piece_at-p.ensures.lower in
-    (omega (arith, l.lower, c.decreases), (c.requires.accepted_file, l.known))
+    (omega (arith, l.lower, c.decreases), l.known)
 
 pub returns-then-heard : goal.returns-then-heard
 returns-then-heard t c =

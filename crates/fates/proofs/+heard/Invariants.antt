@@ -8,4 +8,4 @@ abbrev pub decreases-heard : goal.decreases-heard
 decreases-heard l = l.ty
 
 abbrev pub invariant-loop-i : goal.invariant-loop-i
-invariant-loop-i l = Going (heard_below (tables_of l.file)) (tables_of l.file) l.node l.ty l.i
+invariant-loop-i l = Going (heard_below (tables_of l.file.tables.bytes.now)) (tables_of l.file.tables.bytes.now) l.node l.ty l.i

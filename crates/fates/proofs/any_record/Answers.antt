@@ -7,7 +7,7 @@ pub loop-k-init : goal.loop-k-init
 loop-k-init c = searched-none _
 
 pub const_record-requires : goal.const_record-requires
-const_record-requires c = record { accepted_file = c.requires; k_in_bounds = omega (arith, c.count_of-n.ensures, c.loop-k-test.true) }
+const_record-requires c = omega (arith, c.count_of-n.ensures, c.loop-k-test.true)
 
 pub returns-in-Some : goal.returns-in-Some
 returns-in-Some c = searched-found _ _ c.loop-k.invariant (omega (arith, c.count_of-n.ensures, c.loop-k-test.true)) _ (sym (c.in-Some.is) ∙ c.const_record.ensures)

@@ -8,4 +8,4 @@ use Rattle.fates.specs.Rows.{words, word_of}
 use Rattle.fates.proofs.put_row.Given as goal
 
 abbrev pub invariant-loop-q : goal.invariant-loop-q
-invariant-loop-q l = (length l.long ≡ long_length) × (sets l.initial.long l.at (words (word_of (tables_of l.file) l.node) 0 64) ≡ sets l.long (l.at + l.q) (words (word_of (tables_of l.file) l.node) l.q (64 - l.q)))
+invariant-loop-q l = (length l.long ≡ long_length) × (sets l.initial.long l.at (words (word_of (tables_of l.file.tables.bytes.now) l.node) 0 64) ≡ sets l.long (l.at + l.q) (words (word_of (tables_of l.file.tables.bytes.now) l.node) l.q (64 - l.q)))

@@ -5,16 +5,16 @@ use Rattle.fates.proofs.Parts.{held_none, held-parts}
 use Rattle.fates.proofs.remember_held.Goals as goal
 
 pub overflow_add-node : goal.overflow_add-node
-overflow_add-node c = omega (arith, few-nodes _ _ c.requires.accepted_file.indexed, c.requires.node_in_bounds.0)
+overflow_add-node c = omega (arith, few-nodes _ _ c.args.file.now.accepted.indexed, c.requires)
 
 pub offset_bounds-long-node : goal.offset_bounds-long-node
-offset_bounds-long-node c = omega (arith, few-nodes _ _ c.requires.accepted_file.indexed, c.requires.node_in_bounds.0)
+offset_bounds-long-node c = omega (arith, few-nodes _ _ c.args.file.now.accepted.indexed, c.requires)
 
 pub bounds-long-node : goal.bounds-long-node
-bounds-long-node c = omega (arith, few-nodes _ _ c.requires.accepted_file.indexed, c.requires.node_in_bounds.0, c.requires.node_in_bounds.1)
+bounds-long-node c = omega (arith, few-nodes _ _ c.args.file.now.accepted.indexed, c.requires, c.told-long)
 
-pub returns-then-wide16-eq0 : goal.returns-then-wide16-eq0
-returns-then-wide16-eq0 c = held_none _ _ _ (sym c.wide16.ensures ∙ c.if-wide16-eq0.true)
+pub returns-then-from-eq0 : goal.returns-then-from-eq0
+returns-then-from-eq0 c = held_none _ _ _ (sym c.from.ensures ∙ c.if-from-eq0.true)
 
 pub returns : goal.returns
-returns c = c.remember_parts.ensures ∙ held-parts _ _ _ (λ e. c.if-wide16-eq0.false (c.wide16.ensures ∙ e))
+returns c = c.remember_parts.ensures ∙ held-parts _ _ _ (λ e. c.if-from-eq0.false (c.from.ensures ∙ e))

@@ -14,38 +14,38 @@ returns-then-not-is_parent c = part_no _ _ _ _ (sym c.is_parent.ensures ∙ c.if
 pub overflow_add-node : goal.overflow_add-node
 overflow_add-node c =
     let k = constant-in _ _ (parent-constant _ _ (sym c.is_parent.ensures ∙ c.if-not-is_parent.false)) in
-    omega (arith, few-nodes _ _ c.requires.accepted_file.indexed, k)
+    omega (arith, few-nodes _ _ c.args.file.now.accepted.indexed, k)
 
 pub offset_bounds-long-node : goal.offset_bounds-long-node
 offset_bounds-long-node c =
     let k = constant-in _ _ (parent-constant _ _ (sym c.is_parent.ensures ∙ c.if-not-is_parent.false)) in
-    omega (arith, few-nodes _ _ c.requires.accepted_file.indexed, k)
+    omega (arith, few-nodes _ _ c.args.file.now.accepted.indexed, k)
 
 pub bounds-long-node : goal.bounds-long-node
 bounds-long-node c =
     let k = constant-in _ _ (parent-constant _ _ (sym c.is_parent.ensures ∙ c.if-not-is_parent.false)) in
-    omega (arith, few-nodes _ _ c.requires.accepted_file.indexed, k, c.requires.long_len)
+    omega (arith, few-nodes _ _ c.args.file.now.accepted.indexed, k, c.told-long)
 
-pub returns-then-wide16-ne0 : goal.returns-then-wide16-ne0
-returns-then-wide16-ne0 c = part-has _ _ _ _ (λ e. c.if-wide16-ne0.true (c.wide16.ensures ∙ e))
+pub returns-then-from-ne0 : goal.returns-then-from-ne0
+returns-then-from-ne0 c = part-has _ _ _ _ (λ e. c.if-from-ne0.true (c.from.ensures ∙ e))
 
 pub put_row-requires : goal.put_row-requires
-put_row-requires c = record { accepted_file = c.requires.accepted_file; node_value = parent-constant _ _ (sym c.is_parent.ensures ∙ c.if-not-is_parent.false); k_lt_binding_limit = (c.if-k-ge-ROW_LIMIT.false, c.requires.long_len) }
+put_row-requires c = record { node_value = parent-constant _ _ (sym c.is_parent.ensures ∙ c.if-not-is_parent.false); k_lt_binding_limit = c.if-k-ge-ROW_LIMIT.false }
 
 pub overflow_add-long-2 : goal.overflow_add-long-2
 overflow_add-long-2 c =
     let k = constant-in _ _ (parent-constant _ _ (sym c.is_parent.ensures ∙ c.if-not-is_parent.false)) in
-    omega (arith, few-nodes _ _ c.requires.accepted_file.indexed, k)
+    omega (arith, few-nodes _ _ c.args.file.now.accepted.indexed, k)
 
 pub offset_bounds-long-node-2 : goal.offset_bounds-long-node-2
 offset_bounds-long-node-2 c =
     let k = constant-in _ _ (parent-constant _ _ (sym c.is_parent.ensures ∙ c.if-not-is_parent.false)) in
-    omega (arith, few-nodes _ _ c.requires.accepted_file.indexed, k)
+    omega (arith, few-nodes _ _ c.args.file.now.accepted.indexed, k)
 
 pub bounds-long-node-2 : goal.bounds-long-node-2
 bounds-long-node-2 c =
     let k = constant-in _ _ (parent-constant _ _ (sym c.is_parent.ensures ∙ c.if-not-is_parent.false)) in
-    omega (arith, few-nodes _ _ c.requires.accepted_file.indexed, k, c.requires.long_len, c.put_row.auto.long)
+    omega (arith, few-nodes _ _ c.args.file.now.accepted.indexed, k, c.told-long)
 
 pub returns : goal.returns
-returns c = part-row _ _ _ _ c.if-k-ge-ROW_LIMIT.false (sym c.is_parent.ensures ∙ c.if-not-is_parent.false) (sym c.wide16.ensures ∙ c.if-wide16-ne0.false) _ c.put_row.ensures
+returns c = part-row _ _ _ _ c.if-k-ge-ROW_LIMIT.false (sym c.is_parent.ensures ∙ c.if-not-is_parent.false) (sym c.from.ensures ∙ c.if-from-ne0.false) _ c.put_row.ensures

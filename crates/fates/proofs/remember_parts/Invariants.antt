@@ -6,4 +6,4 @@ use Rattle.fates.proofs.Parts.{Parted}
 use Rattle.fates.proofs.remember_parts.Given as goal
 
 abbrev pub invariant-loop-i : goal.invariant-loop-i
-invariant-loop-i l = Parted (tables_of l.file) (patterns_of (tables_of l.file) l.node) (kept l.k l.initial.long) (kept l.next l.long) l.i
+invariant-loop-i l = Parted (tables_of l.file.tables.bytes.now) (patterns_of (tables_of l.file.tables.bytes.now) l.node) (kept l.k l.initial.long) (kept l.next l.long) l.i

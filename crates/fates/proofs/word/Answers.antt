@@ -13,13 +13,13 @@ pub overflow_mul-w : goal.overflow_mul-w
 overflow_mul-w c = let s = digits-small _ (or-small _ _) _ _ _ c.loop-j.invariant.1 in omega arith
 
 pub fate_or-requires : goal.fate_or-requires
-fate_or-requires c = record { accepted_file = c.requires.accepted_file; node_value = c.requires.node_value }
+fate_or-requires c = c.requires.node_value
 
 pub overflow_add-w : goal.overflow_add-w
 overflow_add-w c =
     let s = digits-small _ (or-small _ _) _ _ _ c.loop-j.invariant.1 in
     let r = c.fate_or.ensures in
-    let d = or-small (tables_of c.args.file.now) c.args.node (8 * c.args.q + (c.loop-j.j - 1)) in
+    let d = or-small (tables_of c.args.file.now.tables.bytes.now) c.args.node (8 * c.args.q + (c.loop-j.j - 1)) in
     omega (arith, s, r, d)
 
 pub loop-j-preserved : goal.loop-j-preserved

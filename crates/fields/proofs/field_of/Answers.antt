@@ -9,7 +9,7 @@ use Rattle.fields.proofs.field_of.Goals as goal
 pub field_from-requires : goal.field_from-requires
 field_from-requires c =
     let h = fields-inside _ _ c.type_of.ensures.shows c.in-Record.is in
-    (h, omega (arith, c.requires.small))
+    (h, omega (arith, c.args.file.now.indexed.small))
 
 pub returns-in-Record : goal.returns-in-Record
 unfolding field_of record_ty ◌when_some◌

@@ -10,11 +10,8 @@ pub word_at-requires : goal.word_at-requires
 unfolding PathInside
 word_at-requires c = omega arith
 
-pub wide16-requires : goal.wide16-requires
-wide16-requires c = tt
-
-pub returns-then-word_at-wide16 : goal.returns-then-word_at-wide16
-returns-then-word_at-wide16 c = fields-differ _ _ _ (λ e. c.if-word_at-wide16.true (c.word_at.ensures.reads ∙ e ∙ sym c.wide16.ensures))
+pub returns-then-word_at-from : goal.returns-then-word_at-from
+returns-then-word_at-from c = fields-differ _ _ _ (λ e. c.if-word_at-from.true (c.word_at.ensures.reads ∙ e ∙ sym c.from.ensures))
 
 pub overflow_add-at : goal.overflow_add-at
 unfolding PathInside
@@ -24,11 +21,8 @@ pub bounds-file-at : goal.bounds-file-at
 unfolding PathInside
 bounds-file-at c = omega arith
 
-pub wide-requires : goal.wide-requires
-wide-requires c = tt
-
-pub returns-then-wide-n : goal.returns-then-wide-n
-returns-then-wide-n c = counts-differ _ _ _ step_limit (search rules) (search rules) (sym c.word_at.ensures.reads ∙ c.if-word_at-wide16.false ∙ c.wide16.ensures) (λ e. c.if-wide-n.true (c.wide.ensures.same ∙ e))
+pub returns-then-from-n : goal.returns-then-from-n
+returns-then-from-n c = counts-differ _ _ _ step_limit (search rules) (search rules) (sym c.word_at.ensures.reads ∙ c.if-word_at-from.false ∙ c.from.ensures) (λ e. c.if-from-n.true (c.from-2.ensures ∙ e))
 
 pub loop-i-init : goal.loop-i-init
 loop-i-init c = (refl, omega arith, search rules)
@@ -43,11 +37,11 @@ overflow_add-at-in-loop-i-2 c = omega arith
 
 pub long_at-requires : goal.long_at-requires
 unfolding PathInside
-long_at-requires c = omega (arith, c.wide.ensures.same)
+long_at-requires c = omega (arith, c.from-2.ensures)
 
 pub returns-then-long_at-steps : goal.returns-then-long_at-steps
 returns-then-long_at-steps c =
-    steps-decide _ _ _ _ (sym c.word_at.ensures.reads ∙ c.if-word_at-wide16.false ∙ c.wide16.ensures) (sym c.wide.ensures.same ∙ c.if-wide-n.false)
+    steps-decide _ _ _ _ (sym c.word_at.ensures.reads ∙ c.if-word_at-from.false ∙ c.from.ensures) (sym c.from-2.ensures ∙ c.if-from-n.false)
     (c.loop-i.invariant.0 ∙ same_stop _ _ _ _ step_limit c.loop-i.invariant.2 (search rules) _ c.loop-i-test.true (λ e. c.if-long_at-steps.true (c.long_at.ensures ∙ e)))
 
 pub loop-i-preserved : goal.loop-i-preserved
@@ -55,5 +49,5 @@ loop-i-preserved c = (c.loop-i.invariant.0 ∙ same_more _ _ _ _ step_limit c.lo
 
 pub returns : goal.returns
 returns c =
-    steps-decide _ _ _ _ (sym c.word_at.ensures.reads ∙ c.if-word_at-wide16.false ∙ c.wide16.ensures) (sym c.wide.ensures.same ∙ c.if-wide-n.false)
+    steps-decide _ _ _ _ (sym c.word_at.ensures.reads ∙ c.if-word_at-from.false ∙ c.from.ensures) (sym c.from-2.ensures ∙ c.if-from-n.false)
     (c.loop-i.invariant.0 ∙ same_end _ _ _ _ step_limit c.loop-i.invariant.2 (search rules) _ c.loop-i-test.false)

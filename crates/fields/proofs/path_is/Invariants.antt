@@ -1,7 +1,7 @@
 use lib.ListN.{length}
 use Rattle.rules.specs.Limits.{step_limit}
 use mathlib.Core.Path.{◌≡◌}
-use Prim.Native.Nat.{◌≤◌, ◌-◌, ◌+◌}
+use Prim.Native.Nat.{◌≤◌, ◌+◌}
 use Rattle.fields.proofs.PathsAt.{same_from}
 use Rattle.fields.proofs.path_is.Given as goal
 

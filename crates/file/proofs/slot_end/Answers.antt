@@ -7,13 +7,13 @@ pub returns-then-at-file : goal.returns-then-at-file
 returns-then-at-file c = sym (slot-cut _ _ (omega arith))
 
 pub returns-then-k-gt5 : goal.returns-then-k-gt5
-returns-then-k-gt5 c = sym (slot-bad _ _ c.wide-k.result (omega arith) (omega arith) (omega arith))
+returns-then-k-gt5 c = sym (slot-bad _ _ c.from-k.result (omega arith) (omega arith) (omega arith))
 
 pub returns-then-k-eq3 : goal.returns-then-k-eq3
-returns-then-k-eq3 c = c.fetched_end.ensures ∙ sym (slot-field _ _ c.wide-k.result (omega arith) (omega arith) (omega arith))
+returns-then-k-eq3 c = c.fetched_end.ensures ∙ sym (slot-field _ _ c.from-k.result (omega arith) (omega arith) (omega arith))
 
 pub fixed-requires : goal.fixed-requires
-fixed-requires c = omega (arith, slot_small c.wide-k.result)
+fixed-requires c = omega (arith, slot_small c.from-k.result)
 
 pub returns : goal.returns
-returns c = c.fixed.ensures ∙ sym (slot-plain _ _ c.wide-k.result (omega arith) (omega arith) (omega arith) (omega arith))
+returns c = c.fixed.ensures ∙ sym (slot-plain _ _ c.from-k.result (omega arith) (omega arith) (omega arith) (omega arith))

@@ -7,7 +7,7 @@ use Rattle.file.proofs.ten_sections.Given as goal
 
 abbrev pub invariant-loop-s : goal.invariant-loop-s
 invariant-loop-s l =
-    (step_at l.file Read.ten_sections 0 ≡ step_at l.file (sections (10 - l.s) l.s) l.p)
-    × (filled l.file 10 0 0 l.initial.index ≡ filled l.file (10 - l.s) l.s l.p l.index)
+    (step_at l.file Read.ten_sections 0 ≡ step_at l.file (sections (10 - l.s-index) l.s-index) l.p)
+    × (filled l.file 10 0 0 l.initial.index ≡ filled l.file (10 - l.s-index) l.s-index l.p l.index)
     × (l.p ≤ length l.file)
     × (length l.index ≡ length l.initial.index)

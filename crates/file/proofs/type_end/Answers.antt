@@ -7,16 +7,16 @@ pub returns-then-at-file : goal.returns-then-at-file
 returns-then-at-file c = sym (type-cut _ _ (omega arith))
 
 pub fixed-requires : goal.fixed-requires
-fixed-requires c = omega (arith, type-small c.wide-k.result)
+fixed-requires c = omega (arith, type-small c.from-k.result)
 
 pub returns-then-k-lt4 : goal.returns-then-k-lt4
-returns-then-k-lt4 c = c.fixed.ensures ∙ sym (type-plain _ _ c.wide-k.result (omega arith) (omega arith) (omega arith))
+returns-then-k-lt4 c = c.fixed.ensures ∙ sym (type-plain _ _ c.from-k.result (omega arith) (omega arith) (omega arith))
 
 pub returns-then-k-eq4 : goal.returns-then-k-eq4
-returns-then-k-eq4 c = c.repeated.ensures ∙ sym (type-record _ _ c.wide-k.result (omega arith) (omega arith) (omega arith))
+returns-then-k-eq4 c = c.repeated.ensures ∙ sym (type-record _ _ c.from-k.result (omega arith) (omega arith) (omega arith))
 
 pub returns-then-k-eq5 : goal.returns-then-k-eq5
-returns-then-k-eq5 c = c.repeated-then-k-eq5.ensures ∙ sym (type-union _ _ c.wide-k.result (omega arith) (omega arith) (omega arith))
+returns-then-k-eq5 c = c.repeated-then-k-eq5.ensures ∙ sym (type-union _ _ c.from-k.result (omega arith) (omega arith) (omega arith))
 
 pub returns : goal.returns
-returns c = sym (type-bad _ _ c.wide-k.result (omega arith) (omega arith) (omega arith))
+returns c = sym (type-bad _ _ c.from-k.result (omega arith) (omega arith) (omega arith))

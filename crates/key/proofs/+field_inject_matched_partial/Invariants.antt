@@ -19,4 +19,4 @@ abbrev pub decreases-partial : goal.decreases-partial
 decreases-partial l = l.ty * 3
 
 abbrev pub invariant-partial-loop-i : goal.invariant-partial-loop-i
-invariant-partial-loop-i l = Going (tables_of l.file) l.address.0 l.node l.ty (λ x. x) (then (path_of l.path)) l.i (walk_state (tables_of l.file) l.initial.l l.initial.work l.initial.plan) (walk_state (tables_of l.file) l.l l.work l.plan) l.initial.work l.initial.plan l.work l.plan
+invariant-partial-loop-i l = Going (tables_of l.file.tables.bytes.now) l.address.0 l.node l.ty (λ x. x) (then (path_of l.path)) l.i (walk_state (tables_of l.file.tables.bytes.now) l.initial.l l.initial.work l.initial.plan) (walk_state (tables_of l.file.tables.bytes.now) l.l l.work l.plan) l.initial.work l.initial.plan l.work l.plan

@@ -3,10 +3,10 @@ use Rattle.accepted_file.proofs.Given.{sound-tables}
 use Rattle.key.proofs.key.Goals as goal
 
 pub field-requires : goal.field-requires
-field-requires c = record { accepted_file = c.requires.accepted_file; fits = fits-field _ (sound-tables _ _ c.requires.accepted_file) _ c.requires.ty_in_bounds _ _ c.field-path.ensures.holds }
+field-requires c = fits-field _ (sound-tables _ _ c.args.file.now.accepted) _ c.requires _ _ c.field-path.ensures.holds
 
 pub returns-in_default : goal.returns-in_default
-returns-in_default c = key-scalar _ _ _ _ _ _ _ c.record_ty.ensures.shows _ c.in_default.is c.requires.ty_in_bounds _ c.field-path.ensures.holds c.field.ensures
+returns-in_default c = key-scalar _ _ _ _ _ _ _ c.record_ty.ensures.shows _ c.in_default.is c.requires _ c.field-path.ensures.holds c.field.ensures
 
 pub returns-in-Some-pairs_of : goal.returns-in-Some-pairs_of
 returns-in-Some-pairs_of c = key-by-record _ _ _ _ _ _ c.record_key.ensures _ _ c.record_ty.ensures.shows _ _ c.in-Some.is _ c.pairs_of.ensures.shows _ _ c.in-Some-pairs_of.is

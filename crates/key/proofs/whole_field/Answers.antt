@@ -2,7 +2,7 @@ use Rattle.key.proofs.Answered.{field-none, field-some}
 use Rattle.key.proofs.whole_field.Goals as goal
 
 pub matched-requires : goal.matched-requires
-matched-requires c = record { accepted_file = c.requires.accepted_file; fits = c.requires.fits }
+matched-requires c = c.requires.fits
 
 pub returns-in-Some : goal.returns-in-Some
 returns-in-Some c =

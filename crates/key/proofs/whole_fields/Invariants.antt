@@ -5,4 +5,4 @@ use Rattle.key.proofs.Whole.{Matching}
 use Rattle.key.proofs.whole_fields.Given as goal
 
 abbrev pub invariant-loop-i : goal.invariant-loop-i
-invariant-loop-i l = Matching (tables_of l.file) l.address.0 l.node l.ty (slot_of l.slot) l.i (walk_state (tables_of l.file) l.initial.l l.initial.work l.initial.plan) (walk_state (tables_of l.file) l.l l.work l.plan) l.initial.work l.initial.plan l.work l.plan
+invariant-loop-i l = Matching (tables_of l.file.tables.bytes.now) l.address.0 l.node l.ty (slot_of l.slot) l.i (walk_state (tables_of l.file.tables.bytes.now) l.initial.l l.initial.work l.initial.plan) (walk_state (tables_of l.file.tables.bytes.now) l.l l.work l.plan) l.initial.work l.initial.plan l.work l.plan

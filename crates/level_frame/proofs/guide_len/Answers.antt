@@ -1,10 +1,9 @@
 use native.Mathlib.Omega.{arith}
-use mathlib.Core.Path.{sym, ◌∙◌}
 use Rattle.level_frame.proofs.Puts.{none-size, guide-size}
 use Rattle.level_frame.proofs.guide_len.Goals as goal
 
-pub returns-in-Some : goal.returns-in-Some
-returns-in-Some c = (guide-size _ _ (sym c.kept.ensures ∙ c.in-Some.is) _ c.path_size.ensures.0, omega arith)
+pub returns-then-kept : goal.returns-then-kept
+returns-then-kept c = (guide-size _ _ c.kept.ensures c.if-kept.true _ c.path_size.ensures.0, omega arith)
 
-pub returns-in-None : goal.returns-in-None
-returns-in-None c = (none-size _ (sym c.kept.ensures ∙ c.in-None.is), omega arith)
+pub returns-else-kept : goal.returns-else-kept
+returns-else-kept c = (none-size _ _ c.kept.ensures c.if-kept.false, omega arith)

@@ -4,16 +4,16 @@ use Rattle.file.specs.Tables.{tables_of}
 use Rattle.level_frame.proofs.Middles.{edges-small, range_small, put-edges, put-range, put-bare}
 use Rattle.level_frame.proofs.put_between.Goals as goal
 
-pub put_edge-p-requires-clause-at_bound : goal.put_edge-p-requires-clause-at_bound
-put_edge-p-requires-clause-at_bound c = (
-  omega (arith, c.requires.at_le_plan_limit.0),
-  (edges-small _ _ (sym c.is_bounded.ensures ∙ c.if-is_bounded.true) c.requires.at_le_plan_limit.1).0,
+pub put_edge-p-requires : goal.put_edge-p-requires
+put_edge-p-requires c = (
+  omega (arith, c.requires.0),
+  (edges-small _ _ (sym c.is_bounded.ensures ∙ c.if-is_bounded.true) c.requires.1).0,
 )
 
-pub put_edge-requires-clause-at_bound : goal.put_edge-requires-clause-at_bound
-put_edge-requires-clause-at_bound c =
-    let h = edges-small (tables_of c.args.file.now) c.args.l (sym c.is_bounded.ensures ∙ c.if-is_bounded.true) c.requires.at_le_plan_limit.1 in
-    (omega (arith, c.requires.at_le_plan_limit.0, h.0, c.put_edge-p.ensures.place), h.1)
+pub put_edge-requires : goal.put_edge-requires
+put_edge-requires c =
+    let h = edges-small (tables_of c.args.file.now.tables.bytes.now) c.args.l (sym c.is_bounded.ensures ∙ c.if-is_bounded.true) c.requires.1 in
+    (omega (arith, c.requires.0, h.0, c.put_edge-p.ensures.place), h.1)
 
 pub returns-then-is_bounded : goal.returns-then-is_bounded
 returns-then-is_bounded c = put-edges _ _ (sym c.is_bounded.ensures ∙ c.if-is_bounded.true) _ _ _ _ _ _ c.put_edge-p.ensures c.put_edge.ensures
@@ -21,25 +21,25 @@ returns-then-is_bounded c = put-edges _ _ (sym c.is_bounded.ensures ∙ c.if-is_
 pub put_path-q-requires : goal.put_path-q-requires
 put_path-q-requires c =
     let e = sym c.is_bounded.ensures ∙ c.if-is_bounded.false in
-    let h = range_small (tables_of c.args.file.now) c.args.l e _ (sym c.kept.ensures ∙ c.in-Some.is) c.requires.at_le_plan_limit.1 in
-    omega (arith, c.requires.at_le_plan_limit.0, h, c.put_prefix_text-p.ensures.place)
+    let h = range_small (tables_of c.args.file.now.tables.bytes.now) c.args.l e _ c.kept.ensures c.if-kept.true c.requires.1 in
+    omega (arith, c.requires.0, h, c.put_prefix_text-p.ensures.place)
 
 pub put16-requires : goal.put16-requires
 put16-requires c =
     let e = sym c.is_bounded.ensures ∙ c.if-is_bounded.false in
-    let h = range_small (tables_of c.args.file.now) c.args.l e _ (sym c.kept.ensures ∙ c.in-Some.is) c.requires.at_le_plan_limit.1 in
-    omega (arith, c.requires.at_le_plan_limit.0, h, c.put_prefix_text-p.ensures.place, c.put_path-q.ensures.1)
+    let h = range_small (tables_of c.args.file.now.tables.bytes.now) c.args.l e _ c.kept.ensures c.if-kept.true c.requires.1 in
+    omega (arith, c.requires.0, h, c.put_prefix_text-p.ensures.place, c.put_path-q.ensures.1)
 
 pub overflow_add-result : goal.overflow_add-result
 overflow_add-result c =
     let e = sym c.is_bounded.ensures ∙ c.if-is_bounded.false in
-    let h = range_small (tables_of c.args.file.now) c.args.l e _ (sym c.kept.ensures ∙ c.in-Some.is) c.requires.at_le_plan_limit.1 in
-    omega (arith, c.requires.at_le_plan_limit.0, h, c.put_prefix_text-p.ensures.place, c.put_path-q.ensures.1)
+    let h = range_small (tables_of c.args.file.now.tables.bytes.now) c.args.l e _ c.kept.ensures c.if-kept.true c.requires.1 in
+    omega (arith, c.requires.0, h, c.put_prefix_text-p.ensures.place, c.put_path-q.ensures.1)
 
-pub returns-in-Some : goal.returns-in-Some
-returns-in-Some c =
-    put-range _ _ (sym c.is_bounded.ensures ∙ c.if-is_bounded.false) _ (sym c.kept.ensures ∙ c.in-Some.is) _ _ _ _ _ _ _
+pub returns-then-kept : goal.returns-then-kept
+returns-then-kept c =
+    put-range _ _ (sym c.is_bounded.ensures ∙ c.if-is_bounded.false) _ c.kept.ensures c.if-kept.true _ _ _ _ _ _ _
     c.put_prefix_text-p.ensures c.put_path-q.ensures.0 c.put_path-q.ensures.2 c.put16.ensures
 
-pub returns-in-None : goal.returns-in-None
-returns-in-None c = put-bare _ _ (sym c.is_bounded.ensures ∙ c.if-is_bounded.false) (sym c.kept.ensures ∙ c.in-None.is) _ _
+pub returns : goal.returns
+returns c = put-bare _ _ (sym c.is_bounded.ensures ∙ c.if-is_bounded.false) _ c.kept.ensures c.if-kept.false _ _

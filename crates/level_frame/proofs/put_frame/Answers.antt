@@ -3,13 +3,13 @@ use Rattle.level_frame.proofs.Places.{middle-small, middle-near, at-near, tail-n
 use Rattle.level_frame.proofs.put_frame.Goals as goal
 
 pub put_head-requires : goal.put_head-requires
-put_head-requires c = at-near _ _ _ c.requires.f_value.0 c.requires.f_value.1
+put_head-requires c = at-near _ _ _ c.requires.0 c.requires.1
 
 pub put_middle-requires : goal.put_middle-requires
-put_middle-requires c = record { accepted_file = c.requires.accepted_file; at_le_plan_limit = (middle-near _ _ _ c.requires.f_value.0 c.requires.f_value.1, middle-small _ _ _ c.requires.f_value.0 c.requires.f_value.1) }
+put_middle-requires c = (middle-near _ _ _ c.requires.0 c.requires.1, middle-small _ _ _ c.requires.0 c.requires.1)
 
 pub put_tail-requires : goal.put_tail-requires
-put_tail-requires c = tail-near _ _ _ c.requires.f_value.0 c.requires.f_value.1
+put_tail-requires c = tail-near _ _ _ c.requires.0 c.requires.1
 
 pub returns : goal.returns
-returns c = put-frame _ _ _ _ c.requires.f_value.0 c.requires.f_value.1 _ _ _ _ (c.put_head.ensures _) c.put_middle.ensures (c.put_tail.ensures _)
+returns c = put-frame _ _ _ _ c.requires.0 c.requires.1 _ _ _ _ (c.put_head.ensures _) c.put_middle.ensures (c.put_tail.ensures _)

@@ -1,18 +1,15 @@
-use native.Mathlib.Omega.{arith}
-use mathlib.Core.Path.{sym, ◌∙◌}
+use mathlib.Core.Path.{refl, sym, ◌∙◌}
 use Rattle.level_frame.proofs.Puts.{put_other, put-joined}
 use Rattle.level_frame.proofs.Seeks.{number-is}
 use Rattle.level_frame.proofs.put_head.Goals as goal
 
 pub returns-then-is_joining : goal.returns-then-is_joining
 returns-then-is_joining c T =
-    put-joined _ T _ _ _ _ _ _ _ _ _ _ c.wide32.ensures.0 c.wide32-closers.ensures.0
-    (let x = c.wide32-2.ensures.0 in let y = c.wide32-closers.ensures.0 in omega arith) c.put16.ensures c.put16-2.ensures c.put16-3.ensures
-    c.put8.ensures _ _ c.wide32-then-is_joining.ensures.0 c.put16-then-is_joining.ensures (number-is _ ∙ c.seek_kind.ensures T)
+    put-joined _ T _ _ _ _ _ _ _ _ _ _ refl refl refl c.put16.ensures c.put16-2.ensures c.put16-3.ensures
+    c.put8.ensures _ _ refl c.put16-then-is_joining.ensures (number-is _ ∙ c.seek_kind.ensures T)
     (sym (c.is_joining.ensures T) ∙ c.if-is_joining.true)
 
 pub returns-else-is_joining : goal.returns-else-is_joining
 returns-else-is_joining c T =
-    put_other _ T _ _ _ _ _ _ _ _ _ _ c.wide32.ensures.0 c.wide32-closers.ensures.0
-    (let x = c.wide32-2.ensures.0 in let y = c.wide32-closers.ensures.0 in omega arith) c.put16.ensures c.put16-2.ensures c.put16-3.ensures
+    put_other _ T _ _ _ _ _ _ _ _ _ _ refl refl refl c.put16.ensures c.put16-2.ensures c.put16-3.ensures
     c.put8.ensures (number-is _ ∙ c.seek_kind.ensures T) (sym (c.is_joining.ensures T) ∙ c.if-is_joining.false)

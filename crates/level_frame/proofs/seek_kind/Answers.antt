@@ -5,13 +5,11 @@ use Rattle.level_frame.proofs.seek_kind.Goals as goal
 pub returns-then-is_bounded : goal.returns-then-is_bounded
 returns-then-is_bounded c T = bounded _ T (sym c.is_bounded.ensures ∙ c.if-is_bounded.true)
 
-pub returns-then-is_some : goal.returns-then-is_some
-returns-then-is_some c T = with-range _ T (sym c.is_bounded.ensures ∙ c.if-is_bounded.false) _ c.kept.ensures (sym c.is_some.ensures ∙ c.if-is_some.true)
+pub returns-then-kept : goal.returns-then-kept
+returns-then-kept c T = with-range _ T (sym c.is_bounded.ensures ∙ c.if-is_bounded.false) _ c.kept.ensures c.if-kept.true
 
 pub returns-then-l : goal.returns-then-l
-returns-then-l c T =
-    plain-parts _ T (sym c.is_bounded.ensures ∙ c.if-is_bounded.false) _ c.kept.ensures (sym c.is_some.ensures ∙ c.if-is_some.false) c.if-l.true
+returns-then-l c T = plain-parts _ T (sym c.is_bounded.ensures ∙ c.if-is_bounded.false) _ c.kept.ensures c.if-kept.false c.if-l.true
 
 pub returns-else-l : goal.returns-else-l
-returns-else-l c T =
-    other-parts _ T (sym c.is_bounded.ensures ∙ c.if-is_bounded.false) _ c.kept.ensures (sym c.is_some.ensures ∙ c.if-is_some.false) c.if-l.false
+returns-else-l c T = other-parts _ T (sym c.is_bounded.ensures ∙ c.if-is_bounded.false) _ c.kept.ensures c.if-kept.false c.if-l.false

@@ -12,26 +12,26 @@ use Rattle.levels.proofs.ended.Goals as goal
 pub returns-then-lists : goal.returns-then-lists
 returns-then-lists c =
     let a = c.args in
-    let T = tables_of a.file.now in
-    record { writes = over-left T (level_entry_at T a.k) (ends_of a.ends) a.at a.plan.now a.m a.work.now a.page.now _ c.lists-lists.ensures c.if-lists.true; bounded = c.requires.k_in_bounds.1 }
+    let T = tables_of a.file.now.tables.bytes.now in
+    record { writes = over-left T (level_entry_at T a.k) (ends_of a.ends) a.at a.plan.now a.m a.work.now a.page.now _ c.lists-lists.ensures c.if-lists.true; bounded = c.requires.1 }
 
 pub returns-then-end-gt-PLAN_LIMIT : goal.returns-then-end-gt-PLAN_LIMIT
 returns-then-end-gt-PLAN_LIMIT c =
     let a = c.args in
-    let T = tables_of a.file.now in record { writes = long-left T (level_entry_at T a.k) (ends_of a.ends) a.at a.plan.now a.m a.work.now a.page.now _ c.lists-lists.ensures _ c.if-lists.false (past-limit a.at (level_of T a.m.level) _ c.measure-f.ensures c.if-end-gt-PLAN_LIMIT.true _) c.stopped.ensures; bounded = omega (arith, ap (λ (x : Written). x.at) c.stopped.ensures, c.requires.k_in_bounds.1) }
+    let T = tables_of a.file.now.tables.bytes.now in record { writes = long-left T (level_entry_at T a.k) (ends_of a.ends) a.at a.plan.now a.m a.work.now a.page.now _ c.lists-lists.ensures _ c.if-lists.false (past-limit a.at (level_of T a.m.level) _ c.measure-f.ensures c.if-end-gt-PLAN_LIMIT.true _) c.stopped.ensures; bounded = omega (arith, ap (λ (x : Written). x.at) c.stopped.ensures, c.requires.1) }
 
 pub returns-then-end-plan : goal.returns-then-end-plan
 returns-then-end-plan c =
     let a = c.args in
-    let T = tables_of a.file.now in record { writes = long-left T (level_entry_at T a.k) (ends_of a.ends) a.at a.plan.now a.m a.work.now a.page.now _ c.lists-lists.ensures _ c.if-lists.false (past_room a.at (level_of T a.m.level) _ c.measure-f.ensures c.if-end-gt-PLAN_LIMIT.false _ c.if-end-plan.true) c.stopped-then-end-plan.ensures; bounded = omega (arith, ap (λ (x : Written). x.at) c.stopped-then-end-plan.ensures, c.requires.k_in_bounds.1) }
+    let T = tables_of a.file.now.tables.bytes.now in record { writes = long-left T (level_entry_at T a.k) (ends_of a.ends) a.at a.plan.now a.m a.work.now a.page.now _ c.lists-lists.ensures _ c.if-lists.false (past_room a.at (level_of T a.m.level) _ c.measure-f.ensures c.if-end-gt-PLAN_LIMIT.false _ c.if-end-plan.true) c.stopped-then-end-plan.ensures; bounded = omega (arith, ap (λ (x : Written). x.at) c.stopped-then-end-plan.ensures, c.requires.1) }
 
 pub placed-left-requires : goal.placed-left-requires
-placed-left-requires c = record { accepted_file = c.requires.accepted_file; k_in_bounds = c.requires.k_in_bounds.0; f_value = (c.measure-f.ensures, c.if-end-gt-PLAN_LIMIT.false) }
+placed-left-requires c = record { k_in_bounds = c.requires.0; f_value = (c.measure-f.ensures, c.if-end-gt-PLAN_LIMIT.false) }
 
 pub returns : goal.returns
 returns c =
     let a = c.args in
-    let T = tables_of a.file.now in
+    let T = tables_of a.file.now.tables.bytes.now in
     let L = level_of T a.m.level in
     let ef = c.measure-f.ensures in
     let h = c.if-end-gt-PLAN_LIMIT.false in

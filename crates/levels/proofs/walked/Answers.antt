@@ -3,7 +3,7 @@ use Rattle.levels.proofs.Walks.{walked-is, key_in}
 use Rattle.levels.proofs.walked.Goals as goal
 
 pub key-requires : goal.key-requires
-key-requires c = record { accepted_file = c.requires.accepted_file; ty_in_bounds = key_in c.args.file.now c.args.index.now c.requires.accepted_file c.args.k c.requires.k_in_bounds c.level_at-e.result c.predicate_of-p.result c.level_at-e.ensures c.predicate_of-p.ensures }
+key-requires c = key_in c.args.file.now.tables.bytes.now c.args.file.now.tables.index.now c.args.file.now.accepted c.args.k c.requires c.level_at-e.result c.predicate_of-p.result c.level_at-e.ensures c.predicate_of-p.ensures
 
 pub returns : goal.returns
-returns c = walked-is (tables_of c.args.file.now) c.level_at-e.result _ c.predicate_of-p.result c.level_at-e.ensures c.predicate_of-p.ensures _ _ c.key.ensures
+returns c = walked-is (tables_of c.args.file.now.tables.bytes.now) c.level_at-e.result _ c.predicate_of-p.result c.level_at-e.ensures c.predicate_of-p.ensures _ _ c.key.ensures

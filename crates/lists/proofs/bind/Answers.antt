@@ -15,13 +15,13 @@ pub returns-then-count-ge-COUNT_LIMIT : goal.returns-then-count-ge-COUNT_LIMIT
 unfolding Ops.bind
 returns-then-count-ge-COUNT_LIMIT c = λ lv tg p. stops _ _ _ _ _ _ _ c.if-l.false c.stopped.ensures (too_many _ _ _ _ _ _ _ c.if-count-ge-COUNT_LIMIT.true)
 
-pub returns-then-end-wide32 : goal.returns-then-end-wide32
+pub returns-then-end-ends : goal.returns-then-end-ends
 unfolding Ops.bind
-returns-then-end-wide32 c =
+returns-then-end-ends c =
     λ lv tg p.
-    stops _ _ _ _ _ _ _ c.if-l.false c.stopped-then-end-wide32.ensures
+    stops _ _ _ _ _ _ _ c.if-l.false c.stopped-then-end-ends.ensures
     (counted _ _ _ _ _ _ _ _ (omega (arith, c.if-count-ge-COUNT_LIMIT.false))
-    (no_room _ _ _ _ _ _ _ _ _ c.wide32-at.ensures.0 (binding-end _ _ _ _ c.slot_size.ensures.0) c.wide32.ensures.0 c.if-end-wide32.true))
+    (no_room _ _ _ _ _ _ _ _ _ refl (binding-end _ _ _ _ c.slot_size.ensures.0) refl c.if-end-ends.true))
 
 pub returns : goal.returns
 unfolding Ops.bind Plan.binding Plan.u16
@@ -29,5 +29,5 @@ returns c =
     λ lv tg p.
     not-over _ _ _ c.if-l.false
     (counted _ _ _ _ _ _ _ _ (omega (arith, c.if-count-ge-COUNT_LIMIT.false))
-    (appended _ _ _ _ _ _ _ _ _ c.wide32-at.ensures.0 (binding-end _ _ c.args.name _ c.slot_size.ensures.0) c.wide32.ensures.0 _ c.if-end-wide32.false
-    (noted-after _ _ _ _ _ _ _ _ c.note.ensures (next _ _ _ _ _ _ _ c.put16.ensures c.put_slot.ensures refl) c.wide32-2.ensures.0 c.wide32-at.ensures.0)))
+    (appended _ _ _ _ _ _ _ _ _ refl (binding-end _ _ c.args.name _ c.slot_size.ensures.0) refl _ c.if-end-ends.false
+    (noted-after _ _ _ _ _ _ _ _ c.note.ensures (next _ _ _ _ _ _ _ c.put16.ensures c.put_slot.ensures refl) refl refl)))

@@ -1,3 +1,4 @@
+use mathlib.Core.Path.{refl}
 use Rattle.rules.specs.Plan as Plan
 use Rattle.state.specs.Ops as Ops
 use Rattle.lists.proofs.Appends.{over, not-over, stops, appended-down, no-room-down}
@@ -7,10 +8,10 @@ pub returns-then-l : goal.returns-then-l
 unfolding Ops.constrained
 returns-then-l c = λ lv tg p. over _ _ c.if-l.true
 
-pub returns-then-wide32-top : goal.returns-then-wide32-top
+pub returns-then-ends-top : goal.returns-then-ends-top
 unfolding Ops.constrained Plan.u16
-returns-then-wide32-top c = λ lv tg p. stops _ _ _ _ _ _ _ c.if-l.false c.stopped.ensures (no-room-down _ _ _ _ _ _ _ c.wide32-top.ensures.0 c.wide32.ensures.0 c.if-wide32-top.true)
+returns-then-ends-top c = λ lv tg p. stops _ _ _ _ _ _ _ c.if-l.false c.stopped.ensures (no-room-down _ _ _ _ _ _ _ refl refl c.if-ends-top.true)
 
 pub returns : goal.returns
 unfolding Ops.constrained Plan.u16
-returns c = λ lv tg p. not-over _ _ _ c.if-l.false (appended-down _ _ _ _ _ _ _ c.wide32-top.ensures.0 c.wide32.ensures.0 _ c.if-wide32-top.false c.put16.ensures)
+returns c = λ lv tg p. not-over _ _ _ c.if-l.false (appended-down _ _ _ _ _ _ _ refl refl _ c.if-ends-top.false c.put16.ensures)

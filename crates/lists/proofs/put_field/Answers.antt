@@ -7,4 +7,4 @@ use Rattle.lists.proofs.put_field.Goals as goal
 
 pub returns : goal.returns
 unfolding Plan.u16
-returns c = next _ _ _ _ _ _ _ (next _ _ _ _ _ _ _ (one-is _ _ _ _ _ _ c.put_one.ensures c.wide16.ensures) c.put_path-q.ensures.2 refl) c.put16.ensures (omega (arith, c.put_path-q.ensures.0))
+returns c = next _ _ _ _ _ _ _ (next _ _ _ _ _ _ _ (one-is _ _ _ _ _ _ c.put_one.ensures c.from.ensures) c.put_path-q.ensures.2 refl) c.put16.ensures (omega (arith, c.put_path-q.ensures.0))

@@ -6,7 +6,7 @@ use Rattle.lists.proofs.Fits.{fits-as, inside-as}
 use Rattle.lists.proofs.slot_fits.Goals as goal
 
 pub path_fits-requires : goal.path_fits-requires
-path_fits-requires c = record { accepted_file = c.requires.accepted_file; path_inside = inside-as _ _ _ c.in-Field.is c.requires.slot_inside }
+path_fits-requires c = inside-as _ _ _ c.in-Field.is c.requires
 
 pub returns-in-Row : goal.returns-in-Row
 unfolding roomy is_type

@@ -11,4 +11,4 @@ abbrev pub decreases-go_on : goal.decreases-go_on
 decreases-go_on l = l.ty * 2 + 1
 
 abbrev pub invariant-any_field-loop-i : goal.invariant-any_field-loop-i
-invariant-any_field-loop-i l = Going (meets_below (tables_of l.file)) (tables_of l.file) l.node l.ty l.i
+invariant-any_field-loop-i l = Going (meets_below (tables_of l.file.tables.bytes.now)) (tables_of l.file.tables.bytes.now) l.node l.ty l.i

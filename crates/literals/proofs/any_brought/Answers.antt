@@ -9,23 +9,23 @@ use Rattle.literals.proofs.Seen.{piece-constant}
 use Rattle.literals.proofs.any_brought.Goals as goal
 
 pub pieces-opened-requires : goal.pieces-opened-requires
-pieces-opened-requires c = record { accepted_file = c.requires.accepted_file; ty_in_bounds = c.requires.ty_in_bounds }
+pieces-opened-requires c = c.requires.ty_in_bounds
 
 pub loop-i-init : goal.loop-i-init
 loop-i-init c = going-first _ _ _ _
 
 pub piece_at-p-requires : goal.piece_at-p-requires
-piece_at-p-requires c = record { accepted_file = c.requires.accepted_file; ty_in_bounds = c.requires.ty_in_bounds; opened = c.pieces-opened.ensures.opens; i_lt_count = c.loop-i-test.true }
+piece_at-p-requires c = record { ty_in_bounds = c.requires.ty_in_bounds; opened = c.pieces-opened.ensures.opens; i_lt_count = c.loop-i-test.true }
 
 pub brought-requires : goal.brought-requires
 brought-requires c =
     let k = c.piece_at-p.ensures in
-    record { accepted_file = c.requires.accepted_file; node_value = piece-constant _ _ _ _ _ (passed-all _ c.requires.accepted_file.accepted) c.requires.node_value k _ c.in-Some.is; ty_in_bounds = k.lower.known }
+    record { node_value = piece-constant _ _ _ _ _ (passed-all _ c.args.file.now.accepted.accepted) c.requires.node_value k _ c.in-Some.is; ty_in_bounds = k.lower.known }
 
 pub go_on-requires : goal.go_on-requires
 go_on-requires c =
     let l = c.piece_at-p.ensures.lower in
-    record { accepted_file = c.requires.accepted_file; ty_in_bounds = l.known; step_in = put_in _ (sound-tables _ _ c.requires.accepted_file) _ _ _ l.known c.brought.ensures }
+    record { ty_in_bounds = l.known; step_in = put_in _ (sound-tables _ _ c.args.file.now.accepted) _ _ _ l.known c.brought.ensures }
 
 pub returns-then-go_on : goal.returns-then-go_on
 returns-then-go_on c =

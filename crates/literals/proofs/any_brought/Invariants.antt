@@ -4,4 +4,4 @@ use Rattle.literals.proofs.Going.{Going}
 use Rattle.literals.proofs.any_brought.Given as goal
 
 abbrev pub invariant-loop-i : goal.invariant-loop-i
-invariant-loop-i l = Going (λ limit. brought_meets (tables_of l.file) (meets (tables_of l.file))) (tables_of l.file) l.node l.ty l.i
+invariant-loop-i l = Going (λ limit. brought_meets (tables_of l.file.tables.bytes.now) (meets (tables_of l.file.tables.bytes.now))) (tables_of l.file.tables.bytes.now) l.node l.ty l.i

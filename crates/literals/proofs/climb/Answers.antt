@@ -11,12 +11,12 @@ returns-in_default c = up_none _ c.loop-k.invariant (c.in_default.is)
 pub bounds-trail-k : goal.bounds-trail-k
 bounds-trail-k c =
     let l = c.loop-k in
-    omega (arith, l.invariant.within, c.requires.passed_in_bounds, c.loop-k-test.true)
+    omega (arith, l.invariant.within, c.requires, c.loop-k-test.true)
 
 pub loop-k-preserved : goal.loop-k-preserved
 loop-k-preserved c =
     let l = c.loop-k in
-    up_more _ l.invariant (omega (arith, c.loop-k-test.true)) (omega (arith, l.invariant.within, c.requires.passed_in_bounds, c.loop-k-test.true)) c.wide16.ensures (c.in-Some.is) c.const_up-below.ensures
+    up_more _ l.invariant (omega (arith, c.loop-k-test.true)) (omega (arith, l.invariant.within, c.requires, c.loop-k-test.true)) c.from.ensures (c.in-Some.is) c.const_up-below.ensures
 
 pub returns : goal.returns
 returns c = up-end _ c.loop-k.invariant (omega arith)

@@ -3,4 +3,4 @@ use Rattle.literals.proofs.Chains.{Up}
 use Rattle.literals.proofs.climb.Given as goal
 
 abbrev pub invariant-loop-k : goal.invariant-loop-k
-invariant-loop-k l = Up (tables_of l.file) l.trail l.passed (l.initial.below) (l.below) l.k
+invariant-loop-k l = Up (tables_of l.file.bytes.now) l.trail l.passed (l.initial.below) (l.below) l.k

@@ -6,5 +6,5 @@ use Rattle.literals.proofs.folded.Goals as goal
 
 pub returns-in_default : goal.returns-in_default
 returns-in_default c =
-    let s = c.requires in
+    let s = c.args.file.now.accepted in
     folded-other _ _ _ _ c.node_of.ensures.shows (nodes-lower _ (passed-all _ s.accepted)) (search rules) _ c.leaf_const.ensures

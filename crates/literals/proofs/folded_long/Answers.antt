@@ -9,12 +9,12 @@ use Rattle.literals.proofs.folded_long.Goals as goal
 
 pub folded_up-requires : goal.folded_up-requires
 folded_up-requires c =
-    let low = nodes-lower _ (passed-all _ c.requires.accepted) in
-    let f = chain-few _ low 2048 2048 c.args.node (omega arith) (few-nodes _ _ c.requires.indexed) in
-    record { accepted_file = c.requires; passed_in_bounds = passed-within _ low (replicate 2048 0) c.args.node (c.descend-chain.ensures.passes, c.descend-chain.ensures.writes) f }
+    let low = nodes-lower _ (passed-all _ c.args.file.now.accepted.accepted) in
+    let f = chain-few _ low 2048 2048 c.args.node (omega arith) (few-nodes _ _ c.args.file.now.accepted.indexed) in
+    passed-within _ low (replicate 2048 0) c.args.node (c.descend-chain.ensures.passes, c.descend-chain.ensures.writes) f
 
 pub returns : goal.returns
 returns c =
-    let low = nodes-lower _ (passed-all _ c.requires.accepted) in
-    let f = chain-few _ low 2048 2048 c.args.node (omega arith) (few-nodes _ _ c.requires.indexed) in
+    let low = nodes-lower _ (passed-all _ c.args.file.now.accepted.accepted) in
+    let f = chain-few _ low 2048 2048 c.args.node (omega arith) (few-nodes _ _ c.args.file.now.accepted.indexed) in
     chain-is _ low (replicate 2048 0) c.args.node (c.descend-chain.ensures.passes, c.descend-chain.ensures.writes) f c.folded_up.ensures

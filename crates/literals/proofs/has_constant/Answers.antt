@@ -9,5 +9,5 @@ use Rattle.literals.proofs.has_constant.Goals as goal
 
 pub returns : goal.returns
 returns c =
-    any_from_yields_List (is_constant (tables_of c.args.file.now)) _ _ _ c.any.ensures.ran (YieldsList-from_range 0 _ _ refl refl) (λ x b q k. search (rules, tests))
-    ∙ any-constant (tables_of c.args.file.now) _ c.count_of.ensures
+    any_from_yields_List (is_constant (tables_of c.args.file.now.tables.bytes.now)) _ _ _ c.any.ensures.ran (YieldsList-from_range 0 _ _ refl refl) (λ x b q k. search (rules, tests))
+    ∙ any-constant (tables_of c.args.file.now.tables.bytes.now) _ c.count_of.ensures

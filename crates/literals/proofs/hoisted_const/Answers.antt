@@ -4,10 +4,10 @@ use Rattle.rules.specs.Base.{◌when_some◌}
 use Rattle.literals.proofs.Seen.{hoisted_by}
 use Rattle.literals.proofs.hoisted_const.Goals as goal
 
-pub returns-in-None : goal.returns-in-None
+pub returns-in_err-x : goal.returns-in_err-x
 unfolding ◌when_some◌
-returns-in-None c = hoisted_by _ _ None (sym (c.in-None.is) ∙ c.hoisted_name.ensures)
+returns-in_err-x c = c.from_residual.ensures ∙ hoisted_by _ _ None (sym c.in_err-x.was ∙ c.hoisted_name.ensures)
 
-pub returns-in-Some : goal.returns-in-Some
+pub returns : goal.returns
 unfolding ◌when_some◌
-returns-in-Some c = c.const_of.ensures ∙ hoisted_by _ _ (Some _) (sym (c.in-Some.is) ∙ c.hoisted_name.ensures)
+returns c = c.const_of.ensures ∙ hoisted_by _ _ (Some _) (sym c.in_ok-x.was ∙ c.hoisted_name.ensures)

@@ -11,10 +11,10 @@ use Rattle.literals.proofs.Going.{any-level}
 use Rattle.literals.proofs.levels_meet.Goals as goal
 
 pub returns-then-not-has_constant : goal.returns-then-not-has_constant
-returns-then-not-has_constant c = sym (levels-none _ (passed-all _ c.requires.accepted) (sym c.has_constant.ensures ∙ c.if-not-has_constant.true) _)
+returns-then-not-has_constant c = sym (levels-none _ (passed-all _ c.args.file.now.accepted.accepted) (sym c.has_constant.ensures ∙ c.if-not-has_constant.true) _)
 
 pub returns : goal.returns
 returns c =
-    any_from_yields_List (λ k. level_meets (tables_of c.args.file.now) (level_entry_at (tables_of c.args.file.now) k)) _ _ _ c.any.ensures.ran
+    any_from_yields_List (λ k. level_meets (tables_of c.args.file.now.tables.bytes.now) (level_entry_at (tables_of c.args.file.now.tables.bytes.now) k)) _ _ _ c.any.ensures.ran
     (YieldsList-from_range 0 _ _ refl refl) (λ x b q k. search (rules, tests))
-    ∙ any-level (tables_of c.args.file.now) _ c.count_of.ensures
+    ∙ any-level (tables_of c.args.file.now.tables.bytes.now) _ c.count_of.ensures

@@ -3,7 +3,7 @@ use Rattle.literals.proofs.Seen.{standing-none, standing-some}
 use Rattle.literals.proofs.standing.Goals as goal
 
 pub brought-requires : goal.brought-requires
-brought-requires c = record { accepted_file = c.requires.accepted_file; node_value = c.requires.by_index _ (c.in-Some.is); ty_in_bounds = c.requires.ty_in_bounds }
+brought-requires c = record { node_value = c.requires.by_index _ (c.in-Some.is); ty_in_bounds = c.requires.ty_in_bounds }
 
 pub returns-in-None : goal.returns-in-None
 returns-in-None c = standing-none _ _ _ c.args.found refl c.in-None.is

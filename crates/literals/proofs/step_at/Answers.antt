@@ -7,16 +7,16 @@ use borrow.Author.Rules.{rules}
 use Rattle.literals.proofs.step_at.Goals as goal
 
 pub written-requires : goal.written-requires
-written-requires c = record { accepted_file = c.requires.accepted_file; n_in_bounds = seen-inside _ _ _ c.args.ty _ c.node_of.ensures.shows _ _ c.in-Record.is; ty_in_bounds = c.requires.ty_in_bounds }
+written-requires c = record { n_in_bounds = seen-inside _ _ _ c.args.ty _ c.node_of.ensures.shows _ _ c.in-Record.is; ty_in_bounds = c.requires }
 
 pub standing-requires : goal.standing-requires
-standing-requires c = record { accepted_file = c.requires.accepted_file; by_index = λ k e. folded-is-constant _ (passed-all _ c.requires.accepted_file.accepted) _ _ (sym c.folded_read.ensures ∙ e); ty_in_bounds = c.requires.ty_in_bounds }
+standing-requires c = record { by_index = λ k e. folded-is-constant _ (passed-all _ c.args.file.now.accepted.accepted) _ _ (sym c.folded_read.ensures ∙ e); ty_in_bounds = c.requires }
 
 pub standing-requires-in_default : goal.standing-requires-in_default
 standing-requires-in_default c =
-    let p = passed-all _ c.requires.accepted_file.accepted in
+    let p = passed-all _ c.args.file.now.accepted.accepted in
     let is = seen-constant _ _ _ c.args.ty _ c.node_of.ensures.shows (nodes-lower _ p) (search rules) _ c.leaf_const.ensures in
-    record { accepted_file = c.requires.accepted_file; by_index = λ k e. folded-is-constant _ p _ _ (sym is ∙ e); ty_in_bounds = c.requires.ty_in_bounds }
+    record { by_index = λ k e. folded-is-constant _ p _ _ (sym is ∙ e); ty_in_bounds = c.requires }
 
 pub returns-in-Record : goal.returns-in-Record
 returns-in-Record c = seen-written _ _ _ _ _ c.node_of.ensures.shows _ _ c.in-Record.is _ c.written.ensures
@@ -26,5 +26,5 @@ returns-in-Access c = seen-access _ _ _ _ _ c.node_of.ensures.shows _ _ c.in-Acc
 
 pub returns-in_default : goal.returns-in_default
 returns-in_default c =
-    let p = passed-all _ c.requires.accepted_file.accepted in
+    let p = passed-all _ c.args.file.now.accepted.accepted in
     seen_other _ _ _ _ _ c.node_of.ensures.shows (nodes-lower _ p) (search rules) _ c.leaf_const.ensures _ c.standing-in_default.ensures

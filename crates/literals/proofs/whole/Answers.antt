@@ -12,7 +12,7 @@ returns-in_default c = whole-none [] _ _ _ _ c.folded.ensures c.in_default.is
 pub any_brought-requires : goal.any_brought-requires
 any_brought-requires c =
     let e = sym c.folded.ensures ∙ c.in-Some.is in
-    record { accepted_file = c.requires.accepted_file; node_value = folded-is-constant _ (passed-all _ c.requires.accepted_file.accepted) _ _ e; ty_in_bounds = c.requires.ty_in_bounds }
+    record { node_value = folded-is-constant _ (passed-all _ c.args.file.now.accepted.accepted) _ _ e; ty_in_bounds = c.requires }
 
 pub returns-in-Some-pairs_of : goal.returns-in-Some-pairs_of
 returns-in-Some-pairs_of c = whole-record _ _ _ _ _ _ c.folded.ensures c.in-Some.is _ c.pairs_of.ensures.shows _ _ c.in-Some-pairs_of.is _ (search rules)

@@ -1,13 +1,12 @@
-use Rattle.std.proofs.Common.{ap, ◌∙◌, arith}
+use Rattle.std.proofs.Common.{◌∙◌, arith}
 use borrow.Author.Tests.{lt-leb}
-use lib.Dec.{leb}
 use Rattle.seek.specs.Seek.{counts_of, sums_of}
 use Rattle.page.proofs.Pages.{no_room, room}
 use Rattle.page.proofs.is_paged.Goals as goal
 
 pub returns-then-parts-le-PAGE_REST : goal.returns-then-parts-le-PAGE_REST
 unfolding counts_of sums_of
-returns-then-parts-le-PAGE_REST c = ap (λ k. leb k 2048) c.wide32-then-parts-le-PAGE_REST.ensures.0 ∙ room (counts_of c.args.c) (omega arith)
+returns-then-parts-le-PAGE_REST c = room (counts_of c.args.c) (omega arith)
 
 pub returns-else-parts-le-PAGE_REST : goal.returns-else-parts-le-PAGE_REST
 unfolding counts_of sums_of

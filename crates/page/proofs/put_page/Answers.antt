@@ -1,3 +1,4 @@
+use mathlib.Core.Path.{refl}
 use Rattle.seek.specs.Seek.{counts_of, sums_of, target_of}
 use Rattle.page.proofs.Pages.{page-put}
 use Rattle.page.proofs.put_page.Goals as goal
@@ -6,4 +7,4 @@ pub returns : goal.returns
 unfolding counts_of sums_of
 returns c =
     let a = c.args in
-    page-put (target_of a.t) (counts_of a.c) a.page.now a.plan.now _ _ _ _ c.wide32.ensures.0 c.wide32-2.ensures.0 c.put_parts.ensures c.copy_run.ensures.is
+    page-put (target_of a.t) (counts_of a.c) a.page.now a.plan.now _ _ _ _ refl refl c.put_parts.ensures c.copy_run.ensures.is

@@ -4,4 +4,4 @@ use Rattle.plan_lists.proofs.names.Goals as goal
 
 pub returns : goal.returns
 unfolding constrained_count
-returns c = (omega (arith, c.saturating_sub.ensures, c.wide32.ensures.0), omega (arith, c.saturating_sub.ensures))
+returns c = (omega (arith, c.saturating_sub.ensures), omega (arith, c.saturating_sub.ensures))

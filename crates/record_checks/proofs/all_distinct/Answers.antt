@@ -1,6 +1,5 @@
 use mathlib.Core.Path.{sym, ◌∙◌}
 use native.Mathlib.Omega.{arith}
-use Prim.Native.Nat.{◌+◌, ◌-◌, ◌*◌}
 use Rattle.rules.specs.Base.{distinct}
 use Rattle.views.specs.Views.{run}
 use Rattle.record_checks.specs.RecordChecks.{number_at}

@@ -15,7 +15,7 @@ returns-in-None c = binding-yes _ _ _ _ c.binding_at-v.ensures.shows _ (omega (a
 
 pub returns-in-Some : goal.returns-in-Some
 unfolding none_or is_predicate
-returns-in-Some c = binding-yes _ _ _ _ c.binding_at-v.ensures.shows _ (omega (arith, c.count_of.ensures)) (ap₂ ltb c.wide16.ensures c.count_of-in-Some.ensures ∙ row_in _ _ _ _ _ _ _ c.binding_at-v.ensures.shows c.in-Row.is c.in-Some.is)
+returns-in-Some c = binding-yes _ _ _ _ c.binding_at-v.ensures.shows _ (omega (arith, c.count_of.ensures)) (ap₂ ltb c.from.ensures c.count_of-in-Some.ensures ∙ row_in _ _ _ _ _ _ _ c.binding_at-v.ensures.shows c.in-Row.is c.in-Some.is)
 
 pub returns-in-Key : goal.returns-in-Key
 unfolding slot_in is_type

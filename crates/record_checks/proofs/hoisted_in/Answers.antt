@@ -6,4 +6,4 @@ use Rattle.record_checks.proofs.hoisted_in.Goals as goal
 
 pub returns : goal.returns
 unfolding hoisted_in is_name is_node
-returns c = c.both_below.ensures ∙ below_as refl c.count_of.ensures refl c.count_of-2.ensures ∙ ap (hoisted_in (tables_of c.args.file.now)) c.hoisted_at-h.ensures
+returns c = c.both_below.ensures ∙ below_as refl c.count_of.ensures refl c.count_of-2.ensures ∙ ap (hoisted_in (tables_of c.args.file.now.bytes.now)) c.hoisted_at-h.ensures

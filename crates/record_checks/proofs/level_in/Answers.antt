@@ -6,4 +6,4 @@ use Rattle.record_checks.proofs.level_in.Goals as goal
 
 pub returns : goal.returns
 unfolding level_in is_predicate is_node
-returns c = c.both_below.ensures ∙ below_as c.wide16.ensures c.count_of.ensures refl c.count_of-2.ensures ∙ ap (level_in (tables_of c.args.file.now)) c.level_at-l.ensures
+returns c = c.both_below.ensures ∙ below_as c.from.ensures c.count_of.ensures refl c.count_of-2.ensures ∙ ap (level_in (tables_of c.args.file.now.bytes.now)) c.level_at-l.ensures

@@ -18,7 +18,7 @@ returns-in-Value c = ap (ltb _) c.count_of-nodes.ensures ∙ by-node (node_in _)
 
 pub returns-in-Fact : goal.returns-in-Fact
 unfolding node_in is_predicate is_node
-returns-in-Fact c = c.both_below.ensures ∙ below_as c.wide16.ensures c.count_of.ensures refl c.count_of-nodes.ensures ∙ by-node (node_in _) c.node_at.ensures.shows c.in-Fact.is
+returns-in-Fact c = c.both_below.ensures ∙ below_as c.from.ensures c.count_of.ensures refl c.count_of-nodes.ensures ∙ by-node (node_in _) c.node_at.ensures.shows c.in-Fact.is
 
 pub returns-in-Str : goal.returns-in-Str
 unfolding node_in is_name

@@ -35,5 +35,5 @@ pub returns-in_default : goal.returns-in_default
 unfolding lower all
 returns-in_default c =
     let n = c.in_default in
-    ap (all (λ k. ltb k c.args.n)) (sym (node-rest (tables_of c.args.file.now) _ _ n.not-Record n.not-Access n.not-Value n.not-Select n.not-Fact))
+    ap (all (λ k. ltb k c.args.n)) (sym (node-rest (tables_of c.args.file.now.bytes.now) _ _ n.not-Record n.not-Access n.not-Value n.not-Select n.not-Fact))
     ∙ by-node (lower _) c.node_at.ensures.shows refl

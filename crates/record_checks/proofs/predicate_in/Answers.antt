@@ -8,7 +8,7 @@ use Rattle.record_checks.proofs.predicate_in.Goals as goal
 
 pub overflow_cast-t : goal.overflow_cast-t
 unfolding limit_of
-overflow_cast-t c = let h = c.requires.indexed.predicates.under in omega (arith, h, c.requires.t_in_bounds)
+overflow_cast-t c = let h = c.args.file.now.indexed.predicates.under in omega (arith, h, c.requires)
 
 pub returns-then-p-types : goal.returns-then-p-types
 returns-then-p-types c = predicate-no _ c.predicate_at-p.result _ c.predicate_at-p.ensures (omega (arith, c.count_of-types.ensures))

@@ -6,7 +6,7 @@ use Rattle.record_checks.proofs.type_in.Goals as goal
 
 pub returns-in-Fact : goal.returns-in-Fact
 unfolding type_in is_predicate
-returns-in-Fact c = ap₂ ltb c.wide16.ensures c.count_of.ensures ∙ by-type (type_in _) c.type_at.ensures.shows c.in-Fact.is
+returns-in-Fact c = ap₂ ltb c.from.ensures c.count_of.ensures ∙ by-type (type_in _) c.type_at.ensures.shows c.in-Fact.is
 
 pub returns-in-Record : goal.returns-in-Record
 returns-in-Record c = c.pairs_in.ensures ∙ pairs-as _ _ _ _ _ c.count_of-names.ensures c.count_of-types.ensures ∙ fields_in_lem _ _ _ _ ∙ by-type (type_in _) c.type_at.ensures.shows c.in-Record.is

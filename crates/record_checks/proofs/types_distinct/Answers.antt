@@ -11,5 +11,5 @@ use Rattle.record_checks.proofs.types_distinct.Goals as goal
 
 pub returns : goal.returns
 returns c =
-    all_from_yields_List (λ t. type_distinct (type_at (tables_of c.args.file.now) t)) _ _ _ c.all.ensures.ran (YieldsList-from_range 0 _ _ refl refl) (λ x b q k. search (rules, tests))
+    all_from_yields_List (λ t. type_distinct (type_at (tables_of c.args.file.now.bytes.now) t)) _ _ _ c.all.ensures.ran (YieldsList-from_range 0 _ _ refl refl) (λ x b q k. search (rules, tests))
     ∙ every-list _ _ _ ∙ sym (types-distinct-every _ ∙ every-start _ _ _ c.count_of.ensures)

@@ -27,5 +27,5 @@ returns c =
     let s : 3 + 4 * q.result.count ≡ length (Plan.path (path_of c.args.p)) = path-size q.result (search rules) q.ensures.1 ∙ ap (λ p. length (Plan.path p)) q.ensures.0 in (
       omega arith,
       omega (arith, q.ensures.1),
-      path-put q.result _ at _ _ _ _ _ _ (search rules) q.ensures.1 q.ensures.0 c.wide16.ensures c.put16.ensures c.put8.ensures c.loop-i-test.false c.loop-i.invariant.1,
+      path-put q.result _ at _ _ _ _ _ _ (search rules) q.ensures.1 q.ensures.0 c.from.ensures c.put16.ensures c.put8.ensures c.loop-i-test.false c.loop-i.invariant.1,
     )

@@ -10,4 +10,4 @@ returns-then-not-place c = off _ _ _ (not-true _ c.if-not-place.true)
 
 pub returns : goal.returns
 unfolding Plan.u16
-returns c = on _ _ _ _ (not-false _ c.if-not-place.false) (next _ _ _ _ _ _ _ (next _ _ _ _ _ _ _ c.put8.ensures (word-is _ _ _ _ _ c.put16.ensures c.wide16.ensures) refl) c.put_path.ensures.2 refl)
+returns c = on _ _ _ _ (not-false _ c.if-not-place.false) (next _ _ _ _ _ _ _ (next _ _ _ _ _ _ _ c.put8.ensures (word-is _ _ _ _ _ c.put16.ensures c.from.ensures) refl) c.put_path.ensures.2 refl)

@@ -5,7 +5,7 @@ use Rattle.resolve.proofs.Answers.{gives-is, dereference-at}
 use Rattle.resolve.proofs.dereference.Goals as goal
 
 pub dereference_field-requires : goal.dereference_field-requires
-dereference_field-requires c = record { indexed = c.requires.indexed; path_value = path-cleared _ _ _ c.requires.slot_value c.in-Field.is }
+dereference_field-requires c = path-cleared _ _ _ c.requires c.in-Field.is
 
 pub returns-in-Row : goal.returns-in-Row
 unfolding ResolveRules.dereference

@@ -16,7 +16,7 @@ returns-in_default c = named (down-end _ c.loop-k.invariant (sym c.read_of.ensur
 pub overflow_cast-trail : goal.overflow_cast-trail
 overflow_cast-trail c =
     let l = c.loop-k in
-    omega (arith, reader-in _ _ _ _ (sym c.read_of.ensures ∙ c.in-Some.is), few-nodes _ _ c.requires.indexed)
+    omega (arith, reader-in _ _ _ _ (sym c.read_of.ensures ∙ c.in-Some.is), few-nodes _ _ c.args.file.now.accepted.indexed)
 
 pub loop-k-preserved : goal.loop-k-preserved
 loop-k-preserved c =

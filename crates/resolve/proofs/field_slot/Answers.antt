@@ -5,7 +5,7 @@ use Rattle.resolve.proofs.Answers.{gives-is, field_at}
 use Rattle.resolve.proofs.field_slot.Goals as goal
 
 pub field_below-requires : goal.field_below-requires
-field_below-requires c = record { accepted_file = c.requires.accepted_file; clear_room = field_room _ _ _ _ c.requires.tidy_room c.in-Field.is }
+field_below-requires c = field_room _ _ _ _ c.requires c.in-Field.is
 
 pub returns-in-Row : goal.returns-in-Row
 unfolding field_slot

@@ -9,15 +9,15 @@ returns-in_default c = follows-none c.in_default.is refl c.gives.ensures
 pub field_past-requires : goal.field_past-requires
 field_past-requires c =
     let there = c.in-Some.is in
-    record { accepted_file = c.requires.accepted_file; tidy_room = record { room = rooms-of _ c.args.base there c.requires.given_slot_room; tidy = tidy-there c.requires.base_value there } }
+    record { room = rooms-of _ c.args.base there c.requires.given_slot_room; tidy = tidy-there c.requires.base_value there }
 
 pub value_past-requires : goal.value_past-requires
-value_past-requires c = record { indexed = c.requires.accepted_file.indexed; slot_value = tidy-there c.requires.base_value c.in-Some.is }
+value_past-requires c = tidy-there c.requires.base_value c.in-Some.is
 
 pub select_slot-requires : goal.select_slot-requires
 select_slot-requires c =
     let there = c.in-Some.is in
-    record { accepted_file = c.requires.accepted_file; tidy_room = record { room = rooms-of _ c.args.base there c.requires.given_slot_room; tidy = tidy-there c.requires.base_value there } }
+    record { room = rooms-of _ c.args.base there c.requires.given_slot_room; tidy = tidy-there c.requires.base_value there }
 
 pub returns-in-Key : goal.returns-in-Key
 returns-in-Key c = follows-some c.in-Some.is (read_at_lem _ _ _ c.in-Key.is c.field_past.ensures)

@@ -6,16 +6,15 @@ use Rattle.resolve.proofs.resolve_chain.Goals as goal
 
 pub resolve_up-requires : goal.resolve_up-requires
 resolve_up-requires c =
-    let low = nodes-lower _ (passed-all _ c.requires.accepted) in
+    let low = nodes-lower _ (passed-all _ c.args.file.now.accepted.accepted) in
     let f = not-filled _ (replicate 8 0) c.args.node (c.descend-chain.ensures.passes, c.descend-chain.ensures.writes) c.if-chain-eq-SHORT_TRAIL.false in
     record {
-      accepted_file = c.requires;
       passed_in_bounds = passed-within _ low (replicate 8 0) c.args.node (c.descend-chain.ensures.passes, c.descend-chain.ensures.writes) f;
       node_value = end-reads _ low (replicate 8 0) c.args.node (c.descend-chain.ensures.passes, c.descend-chain.ensures.writes) f;
     }
 
 pub returns : goal.returns
 returns c =
-    let low = nodes-lower _ (passed-all _ c.requires.accepted) in
+    let low = nodes-lower _ (passed-all _ c.args.file.now.accepted.accepted) in
     let f = not-filled _ (replicate 8 0) c.args.node (c.descend-chain.ensures.passes, c.descend-chain.ensures.writes) c.if-chain-eq-SHORT_TRAIL.false in
     chain-is _ low (replicate 8 0) c.args.node (c.descend-chain.ensures.passes, c.descend-chain.ensures.writes) f c.resolve_up.ensures

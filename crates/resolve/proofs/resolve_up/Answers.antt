@@ -5,9 +5,8 @@ use Rattle.resolve.proofs.resolve_up.Goals as goal
 
 pub ascend-requires : goal.ascend-requires
 ascend-requires c =
-    let passed = passed-all _ c.requires.accepted_file.accepted in
+    let passed = passed-all _ c.args.file.now.accepted.accepted in
     record {
-      accepted_file = c.requires.accepted_file;
       given_slot_room = end-rooms _ (nodes-lower _ passed) (sound _ passed) _ c.requires.node_value c.leaf_answer-end.ensures;
       end_value = c.leaf_answer-end.ensures.tidy;
       passed_in_bounds = c.requires.passed_in_bounds;

@@ -11,8 +11,8 @@ pub selected-requires : goal.selected-requires
 selected-requires c =
     record {
       path_len_bound = λ a e.
-          union-room (sound _ (passed-all _ c.requires.accepted_file.accepted)) _ _ _ _ a c.requires.clear_room.room (sym (seen-run c.in-Some.is c.union_ty.ensures.shows).is) (sym c.alternative_of.ensures ∙ e);
-      path_value = c.requires.clear_room.clear;
+          union-room (sound _ (passed-all _ c.args.file.now.accepted.accepted)) _ _ _ _ a c.requires.room (sym (seen-run c.in-Some.is c.union_ty.ensures.shows).is) (sym c.alternative_of.ensures ∙ e);
+      path_value = c.requires.clear;
     }
 
 pub returns-in-None : goal.returns-in-None

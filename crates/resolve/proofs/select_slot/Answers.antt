@@ -4,7 +4,7 @@ use Rattle.slots.proofs.Tidy.{kind-is, field_room}
 use Rattle.resolve.proofs.select_slot.Goals as goal
 
 pub select_field-requires : goal.select_field-requires
-select_field-requires c = record { accepted_file = c.requires.accepted_file; clear_room = field_room _ _ _ _ c.requires.tidy_room c.in-Field.is }
+select_field-requires c = field_room _ _ _ _ c.requires c.in-Field.is
 
 pub returns-in-Field : goal.returns-in-Field
 returns-in-Field c = select-at _ _ _ (kind-is _ _ c.in-Field.is) c.select_field.ensures

@@ -12,4 +12,4 @@ pub loop-preserved : goal.loop-preserved
 loop-preserved c = c.loop.invariant ∙ digit-later _ _ (omega arith) ∙ ap (λ (i : ℕ). digit i (c.loop.w / 4)) (omega arith)
 
 pub returns : goal.returns
-returns c = digit-first _ _ (omega arith) ∙ sym c.loop.invariant
+returns c = record { is = digit-first _ _ (omega arith) ∙ sym c.loop.invariant; small = omega arith }

@@ -5,13 +5,13 @@ use mathlib.Core.Path.{◌∙◌}
 use Rattle.tables.proofs.is_constant.Goals as goal
 
 pub overflow_add-n : goal.overflow_add-n
-overflow_add-n c = let p = c.requires in omega (arith, few-nodes _ _ p.accepted_file.indexed)
+overflow_add-n c = let p = c.requires in omega (arith, few-nodes _ _ c.args.file.now.accepted.indexed)
 
-pub offset_bounds-index-n : goal.offset_bounds-index-n
-offset_bounds-index-n c = let p = c.requires in omega (arith, few-nodes _ _ p.accepted_file.indexed)
+pub offset_bounds-file-n : goal.offset_bounds-file-n
+offset_bounds-file-n c = let p = c.requires in omega (arith, few-nodes _ _ c.args.file.now.accepted.indexed)
 
-pub bounds-index-n : goal.bounds-index-n
-bounds-index-n c = let p = c.requires in omega (arith, few-nodes _ _ p.accepted_file.indexed)
+pub bounds-file-n : goal.bounds-file-n
+bounds-file-n c = let p = c.requires in omega (arith, few-nodes _ _ c.args.file.now.accepted.indexed)
 
 pub returns : goal.returns
-returns c = flag-read _ (c.wide16.ensures ∙ c.requires.accepted_file.constants _ c.requires.n_in_bounds)
+returns c = flag-read _ (c.from.ensures ∙ c.args.file.now.accepted.constants _ c.requires)

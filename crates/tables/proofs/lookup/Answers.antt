@@ -5,28 +5,28 @@ use Rattle.tables.proofs.Searches.{no_name, no_last, last_none, last_some, last-
 use Rattle.tables.proofs.lookup.Goals as goal
 
 pub returns-then-name-count_of : goal.returns-then-name-count_of
-returns-then-name-count_of c = let r = c.requires in record { shows = record { is = no_name _ _ (passed _ _ r) (omega (arith, c.count_of.ensures, c.if-name-count_of.true)); inside = tt }; view = bound-none _ _ _ _ refl (no_last _ _ (passed _ _ r) (omega (arith, c.count_of.ensures, c.if-name-count_of.true))) }
+returns-then-name-count_of c = let r = c.args.file.now.accepted in record { shows = record { is = no_name _ _ (passed _ _ r) (omega (arith, c.count_of.ensures, c.if-name-count_of.true)); inside = tt }; view = bound-none _ _ _ _ refl (no_last _ _ (passed _ _ r) (omega (arith, c.count_of.ensures, c.if-name-count_of.true))) }
 
 pub overflow_add-name : goal.overflow_add-name
-overflow_add-name c = omega (arith, c.count_of.ensures, c.if-name-count_of.false, few-names _ _ c.requires.indexed)
+overflow_add-name c = omega (arith, c.count_of.ensures, c.if-name-count_of.false, few-names _ _ c.args.file.now.accepted.indexed)
 
-pub offset_bounds-index-name : goal.offset_bounds-index-name
-offset_bounds-index-name c = omega (arith, c.count_of.ensures, c.if-name-count_of.false, few-names _ _ c.requires.indexed)
+pub offset_bounds-file-name : goal.offset_bounds-file-name
+offset_bounds-file-name c = omega (arith, c.count_of.ensures, c.if-name-count_of.false, few-names _ _ c.args.file.now.accepted.indexed)
 
-pub bounds-index-name : goal.bounds-index-name
-bounds-index-name c =
-    let i = c.requires.indexed in
+pub bounds-file-name : goal.bounds-file-name
+bounds-file-name c =
+    let i = c.args.file.now.accepted.indexed in
     omega (arith, c.count_of.ensures, c.if-name-count_of.false, few-names _ _ i, i.long)
 
 pub returns-then-k-eq0 : goal.returns-then-k-eq0
 returns-then-k-eq0 c =
-    let e = c.wide16-k.ensures ∙ c.requires.last-bindings _ (omega (arith, c.count_of.ensures, c.if-name-count_of.false)) in
+    let e = c.from-k.ensures ∙ c.args.file.now.accepted.last-bindings _ (omega (arith, c.count_of.ensures, c.if-name-count_of.false)) in
     record { shows = record { is = last_none _ _ _ e c.if-k-eq0.true; inside = tt }; view = bound-none _ _ _ _ e c.if-k-eq0.true }
 
 pub binding_at-b-requires : goal.binding_at-b-requires
 binding_at-b-requires c =
-    let r = c.requires in
-    record { indexed = r.indexed; b_in_bounds = (last_some _ _ _ (c.wide16-k.ensures ∙ r.last-bindings _ (omega (arith, c.count_of.ensures, c.if-name-count_of.false))) c.if-k-eq0.false).0 }
+    let r = c.args.file.now.accepted in
+    (last_some _ _ _ (c.from-k.ensures ∙ r.last-bindings _ (omega (arith, c.count_of.ensures, c.if-name-count_of.false))) c.if-k-eq0.false).0
 
 pub returns : goal.returns
-returns c = let n = c.wide16-k.ensures ∙ c.requires.last-bindings _ (omega (arith, c.count_of.ensures, c.if-name-count_of.false)) in record { shows = last-slot _ _ _ _ c.binding_at-b.ensures.shows (last_some _ _ _ n c.if-k-eq0.false).1; view = bound_some _ _ _ _ n _ c.if-k-eq0.false c.binding_at-b.ensures.view }
+returns c = let n = c.from-k.ensures ∙ c.args.file.now.accepted.last-bindings _ (omega (arith, c.count_of.ensures, c.if-name-count_of.false)) in record { shows = last-slot _ _ _ _ c.binding_at-b.ensures.shows (last_some _ _ _ n c.if-k-eq0.false).1; view = bound_some _ _ _ _ n _ c.if-k-eq0.false c.binding_at-b.ensures.view }

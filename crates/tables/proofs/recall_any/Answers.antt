@@ -6,8 +6,8 @@ use Rattle.tables.proofs.recall_any.Goals as goal
 
 pub recall-requires : goal.recall-requires
 recall-requires c =
-    let i = c.requires.indexed in
-    (omega (arith, few-nodes _ _ i, c.count_of.ensures), omega (arith, few-types _ _ i, c.requires.t_in_bounds))
+    let i = c.args.file.now.indexed in
+    (omega (arith, few-nodes _ _ i, c.count_of.ensures), omega (arith, few-types _ _ i, c.requires))
 
 pub returns-then-n-count_of : goal.returns-then-n-count_of
 returns-then-n-count_of c = c.recall.ensures ∙ any-in _ _ _ _ (omega (arith, c.count_of.ensures))

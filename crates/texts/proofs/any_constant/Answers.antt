@@ -6,4 +6,4 @@ pub returns-then-node-count_of : goal.returns-then-node-count_of
 returns-then-node-count_of c = node-past _ _ _ (omega (arith, c.if-node-count_of.true, c.count_of.ensures))
 
 pub constant-requires : goal.constant-requires
-constant-requires c = record { accepted_file = c.requires; node_in_bounds = omega (arith, c.if-node-count_of.false, c.count_of.ensures); ty_in_bounds = omega (arith, c.if-ty-count_of.true, c.count_of-2.ensures) }
+constant-requires c = record { node_in_bounds = omega (arith, c.if-node-count_of.false, c.count_of.ensures); ty_in_bounds = omega (arith, c.if-ty-count_of.true, c.count_of-2.ensures) }

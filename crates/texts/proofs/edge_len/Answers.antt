@@ -1,8 +1,8 @@
 use Rattle.texts.proofs.Sizes.{edge-size, unset-size}
 use Rattle.texts.proofs.edge_len.Goals as goal
 
-pub returns-in-Some : goal.returns-in-Some
-returns-in-Some c = edge-size _ _ _ c.in-Some.is _ _ c.bytes_len.ensures c.capped.ensures
+pub returns-then-e : goal.returns-then-e
+returns-then-e c = edge-size _ _ _ _ c.if-e.true c.bytes_len.ensures c.capped.ensures
 
-pub returns-in-None : goal.returns-in-None
-returns-in-None c = unset-size _ _ c.in-None.is
+pub returns-else-e : goal.returns-else-e
+returns-else-e c = unset-size _ _ c.if-e.false

@@ -5,7 +5,7 @@ use borrow.Author.Rules.{rules}
 use Rattle.texts.proofs.put_past.Goals as goal
 
 pub node_at-requires : goal.node_at-requires
-node_at-requires c = record { indexed = c.requires.accepted_file.indexed; n_in_bounds = stood-in _ _ c.requires.accepted_file _ _ c.requires.node_in_bounds c.folded-m.ensures }
+node_at-requires c = stood-in _ _ c.args.file.now.accepted _ _ c.requires.node_in_bounds c.folded-m.ensures
 
 pub put_i64-requires : goal.put_i64-requires
 put_i64-requires c = (int-inside _ _ _ _ c.node_at.ensures.shows c.in-Int.is, omega (arith, c.requires.room_for_bytes.room))

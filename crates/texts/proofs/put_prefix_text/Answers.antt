@@ -4,7 +4,7 @@ use Rattle.texts.proofs.Sizes.{put-name, put-past}
 use Rattle.texts.proofs.put_prefix_text.Goals as goal
 
 pub put_prefix-requires : goal.put_prefix-requires
-put_prefix-requires c = record { indexed = c.requires.accepted_file.indexed; name_in_bounds = (omega (arith, c.if-name-count_of.true, c.count_of.ensures), omega (arith, c.requires.at_bound)) }
+put_prefix-requires c = (omega (arith, c.if-name-count_of.true, c.count_of.ensures), omega (arith, c.requires))
 
 pub returns-then-name-count_of : goal.returns-then-name-count_of
 returns-then-name-count_of c = put-name _ _ _ _ _ _ _ c.put16.ensures _ c.prefix_len.ensures.gives c.put_prefix.ensures.writes

@@ -1,19 +1,18 @@
+use Rattle.std.proofs.Common.{◌≡◌, refl}
+use denote.Enum.Declared.{tag_of}
 use Rattle.rules.specs.File.{op_number}
-use borrow.Author.Rules.{rules}
+use Rattle.views.specs.Views.{op_of}
+use Rattle.views.specs.declared.CompareOp.{CompareOp}
+use Rattle.views.specs.declared.CompareOp.TheVariants as Op
+use Rattle.views.specs.contracts.CompareOp.{the_type}
 use Rattle.views.proofs.op_number.Goals as goal
 
-pub returns-in-Lt : goal.returns-in-Lt
+number-is : (op : CompareOp) → tag_of the_type op ≡ op_number (op_of op)
 unfolding op_number
-returns-in-Lt c = search rules
+number-is Op.Lt = refl
+number-is Op.Le = refl
+number-is Op.Gt = refl
+number-is Op.Ge = refl
 
-pub returns-in-Le : goal.returns-in-Le
-unfolding op_number
-returns-in-Le c = search rules
-
-pub returns-in-Gt : goal.returns-in-Gt
-unfolding op_number
-returns-in-Gt c = search rules
-
-pub returns-in-Ge : goal.returns-in-Ge
-unfolding op_number
-returns-in-Ge c = search rules
+pub returns : goal.returns
+returns c = number-is c.args.op

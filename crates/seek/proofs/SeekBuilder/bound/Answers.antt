@@ -14,7 +14,7 @@ pub loop-i-init : goal.loop-i-init
 loop-i-init c = λ e w p. refl
 
 pub compared-l-requires : goal.compared-l-requires
-compared-l-requires c = record { accepted_file = c.requires.accepted_file; k_in_bounds = omega (arith, c.loop-i-test.true, c.count_of-i-end.ensures); ty_in_bounds = c.requires.ty_in_bounds }
+compared-l-requires c = record { k_in_bounds = omega (arith, c.loop-i-test.true, c.count_of-i-end.ensures); ty_in_bounds = c.requires }
 
 pub loop-i-preserved : goal.loop-i-preserved
 loop-i-preserved c =

@@ -16,7 +16,7 @@ unfolding narrowing
 returns-then-self-2 c =
     λ e w.
     let a = c.args in
-    let T = tables_of a.file.now in
+    let T = tables_of a.file.now.tables.bytes.now in
     let x = constant_bytes T a.value a.ty in
     as-part a.self T e w _ a.node (path_of a.path) (SeekKeyPart.Bytes x) (Narrowing.Bytes x) _ (λ s. refl) c.if-self.false c.if-self-2.true (c.bytes_part.ensures e w)
 
@@ -25,6 +25,6 @@ unfolding narrowing
 returns-else-self-2 c =
     λ e w.
     let a = c.args in
-    let T = tables_of a.file.now in
+    let T = tables_of a.file.now.tables.bytes.now in
     let x = constant_bytes T a.value a.ty in
     as-rest a.self T e w _ a.node (path_of a.path) (SeekKeyPart.Bytes x) (Narrowing.Bytes x) _ (λ s. refl) c.if-self.false c.if-self-2.false (c.bytes_residual.ensures e w)

@@ -18,7 +18,6 @@ pub put_constant_at-requires : goal.put_constant_at-requires
 put_constant_at-requires c =
     let p = c.part-p in
     let h = c.put_head-at in record {
-      accepted_file = c.requires.accepted_file;
       node_in_bounds = c.requires.value_in_bounds;
       ty_in_bounds = c.requires.ty_in_bounds;
       room_for_bytes = λ on.
@@ -33,7 +32,7 @@ returns c =
     λ e w.
     let p = c.part-p in
     let h = c.put_head-at in
-    let T = tables_of c.args.file.now in
+    let T = tables_of c.args.file.now.tables.bytes.now in
     let k = known T _ _ _ _ _ c.requires.ty_value in
     let x = constant_bytes T c.args.value c.args.ty in
     part-is c.args.self T e w _ c.args.node false true c.args.len 3 (SeekKeyPart.Bytes x) p.result _ _ p.ensures.grows.0 p.ensures.writes refl (alike T _ _ _ k) (text-size x)

@@ -5,13 +5,13 @@ use Rattle.seek.proofs.Folds.{edges-same, edges-stay, edge-lacking, edge-having}
 use Rattle.seek.proofs.SeekBuilder.edge_at.Goals as goal
 
 pub overflow_cast-k : goal.overflow_cast-k
-overflow_cast-k c = omega (arith, c.requires.k_in_bounds, few-comparisons _ _ c.requires.accepted_file.indexed)
+overflow_cast-k c = omega (arith, c.requires.k_in_bounds, few-comparisons _ _ c.args.file.now.accepted.indexed)
 
 pub overflow_cast-node : goal.overflow_cast-node
-overflow_cast-node c = omega (arith, c.requires.node_in_bounds, few-nodes _ _ c.requires.accepted_file.indexed)
+overflow_cast-node c = omega (arith, c.requires.node_in_bounds, few-nodes _ _ c.args.file.now.accepted.indexed)
 
 pub overflow_cast-ty : goal.overflow_cast-ty
-overflow_cast-ty c = omega (arith, c.requires.ty_in_bounds, few-types _ _ c.requires.accepted_file.indexed)
+overflow_cast-ty c = omega (arith, c.requires.ty_in_bounds, few-types _ _ c.args.file.now.accepted.indexed)
 
 pub returns-then-has_bytes : goal.returns-then-has_bytes
 returns-then-has_bytes c = λ e w p. edges-same _ _ _ _ (c.edge.ensures _ e w p) (λ y. edge-having _ _ _ _ _ y (sym c.has_bytes.ensures ∙ c.if-has_bytes.true))

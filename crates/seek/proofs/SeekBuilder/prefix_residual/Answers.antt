@@ -12,7 +12,7 @@ use Rattle.rules.specs.Constant.{encode_prefix}
 use Rattle.seek.proofs.SeekBuilder.prefix_residual.Goals as goal
 
 pub put_prefix_at-requires : goal.put_prefix_at-requires
-put_prefix_at-requires c = record { indexed = c.requires.accepted_file.indexed; name_in_bounds = (c.requires.name_in_bounds, omega (arith, c.put_text_at-at.ensures.2, c.put_path_at-op.ensures.2, c.residual-p.ensures.grows.1)) }
+put_prefix_at-requires c = (c.requires, omega (arith, c.put_text_at-at.ensures.2, c.put_path_at-op.ensures.2, c.residual-p.ensures.grows.1))
 
 pub returns : goal.returns
 unfolding Plan.op
@@ -22,7 +22,7 @@ returns c =
     let p = c.residual-p in
     let q = c.put_path_at-op.ensures in
     let t = c.put_text_at-at in
-    let T = tables_of c.args.file.now in
+    let T = tables_of c.args.file.now.tables.bytes.now in
     let bytes = encode_prefix (name_at T c.args.name) in
     let path = path_of c.args.path in
     residual-is c.args.self T e w _ c.args.node _ path (Narrowing.Prefix bytes) p.result _ _ p.ensures.grows.0 p.ensures.writes (text-residual path (Narrowing.Prefix bytes) bytes 1 _ _ refl c.path_size.ensures.0 (ap (min 16385) (sym l)))

@@ -5,11 +5,11 @@ use Rattle.seek.proofs.SeekBuilder.with_constant.Goals as goal
 
 pub bytes-requires : goal.bytes-requires
 bytes-requires c =
-    let k = at_place _ _ c.requires.1 _ _ _ (c.in-Some.is ∙ ap Some c.in-Bytes.is) in
-    record { accepted_file = c.requires.0; value_in_bounds = k.in-nodes; ty_in_bounds = k.in-types; ty_value = k.is }
+    let k = at_place _ _ c.requires _ _ _ (c.in-Some.is ∙ ap Some c.in-Bytes.is) in
+    record { value_in_bounds = k.in-nodes; ty_in_bounds = k.in-types; ty_value = k.is }
 
 pub prefix-requires : goal.prefix-requires
-prefix-requires c = record { accepted_file = c.requires.0; name_in_bounds = in-names _ _ c.requires.0 _ c.requires.1 _ (c.in-Some.is ∙ ap Some c.in-Prefix.is) }
+prefix-requires c = in-names _ _ c.args.file.now.accepted _ c.requires _ (c.in-Some.is ∙ ap Some c.in-Prefix.is)
 
 pub returns-in_default : goal.returns-in_default
 returns-in_default c = λ e w. by-nothing _ _ _ _ _ _ c.in_default.is refl
@@ -17,7 +17,7 @@ returns-in_default c = λ e w. by-nothing _ _ _ _ _ _ c.in_default.is refl
 pub returns-in-Bytes : goal.returns-in-Bytes
 returns-in-Bytes c =
     λ e w.
-    by_bytes _ _ _ _ _ _ _ _ _ (c.in-Some.is ∙ ap Some c.in-Bytes.is) (at_place _ _ c.requires.1 _ _ _ (c.in-Some.is ∙ ap Some c.in-Bytes.is)).is (c.bytes.ensures e w)
+    by_bytes _ _ _ _ _ _ _ _ _ (c.in-Some.is ∙ ap Some c.in-Bytes.is) (at_place _ _ c.requires _ _ _ (c.in-Some.is ∙ ap Some c.in-Bytes.is)).is (c.bytes.ensures e w)
 
 pub returns-in-Prefix : goal.returns-in-Prefix
 returns-in-Prefix c = λ e w. by-prefix _ _ _ _ _ _ _ (c.in-Some.is ∙ ap Some c.in-Prefix.is) (c.prefix.ensures e w)

@@ -6,7 +6,7 @@ pub returns-then-not-place : goal.returns-then-not-place
 returns-then-not-place c = off _ _ _ (not-true _ c.if-not-place.true)
 
 pub put_constant-requires : goal.put_constant-requires
-put_constant-requires c = record { accepted_file = c.requires.accepted_file; node_in_bounds = c.requires.node_in_bounds; ty_in_bounds = c.requires.ty_in_bounds; room_for_bytes = c.requires.room_for_bytes (not-false _ c.if-not-place.false) }
+put_constant-requires c = record { node_in_bounds = c.requires.node_in_bounds; ty_in_bounds = c.requires.ty_in_bounds; room_for_bytes = c.requires.room_for_bytes (not-false _ c.if-not-place.false) }
 
 pub returns : goal.returns
 returns c = on _ _ _ _ (not-false _ c.if-not-place.false) c.put_constant.ensures.is

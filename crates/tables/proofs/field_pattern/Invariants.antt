@@ -1,7 +1,0 @@
-use Prim.Native.Nat.{◌-◌}
-use Rattle.views.specs.Views.{pattern_at}
-use Rattle.tables.proofs.Searches.{Seeking, named}
-use Rattle.tables.proofs.field_pattern.Given as goal
-
-abbrev pub invariant-loop-k : goal.invariant-loop-k
-invariant-loop-k l = Seeking (named l.name) (pattern_at l.file) 4 l.n l.at l.k

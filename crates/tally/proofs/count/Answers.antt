@@ -1,0 +1,13 @@
+use Rattle.std.proofs.Common.{sym, ◌∙◌}
+use Rattle.tally.proofs.Counts.{counted-skipped, counted-added, added-most}
+use Rattle.tally.proofs.count.Goals as goal
+
+pub returns-then-skipped-clause-counts : goal.returns-then-skipped-clause-counts
+returns-then-skipped-clause-counts g c = λ h k. counted-skipped h _ _ (sym c.skipped.ensures ∙ c.if-skipped.true)
+
+pub returns-clause-counts : goal.returns-clause-counts
+returns-clause-counts g c =
+    λ h k. counted-added h _ _ (sym c.skipped.ensures ∙ c.if-skipped.false) _ (k c.args.line _ c.agrees.ensures) _ c.with.ensures
+
+pub returns-clause-grows : goal.returns-clause-grows
+returns-clause-grows g c = added-most c.agrees.result c.args.t c.with.result c.with.ensures
