@@ -1,6 +1,7 @@
 -- A stored list of answers (docs/ORACLE.md): a text's lines, of which those that are empty or begin with `#` are comments. What it is for
 -- a line to agree is a list's own.
-use Rattle.std.specs.Prelude.{Bool, true, false, List, [], ◌∷◌, ℕ, ◌+◌, eqb}
+use Rattle.std.specs.Prelude.{Bool, true, false, List, [], ◌∷◌, ◌++◌, ℕ, ◌+◌, eqb, codes}
+use Rattle.std.specs.Fmt.{decimal}
 use Rattle.rules.specs.Base.{both}
 use Rattle.tally.specs.declared.Tally.{Tally}
 
@@ -53,3 +54,7 @@ tallied agrees (l ∷ ls) t = tallied agrees ls (counted agrees l t)
 -- nothing compared yet
 abbrev pub none : Tally
 none = record { compared = 0; different = 0 }
+
+-- what a program prints of a tally
+abbrev pub words : Tally → List ℕ
+words t = decimal t.compared ++ codes " compared, " ++ decimal t.different ++ codes " different"

@@ -20,12 +20,15 @@ pub struct Tally {
 }
 
 impl fmt::Display for Tally {
+    ghost use Rattle.std.specs.Prelude.{Some};
+    ghost use Rattle.tally.specs.Tallies.{words};
+
+    ghost output = { λ t. Some (words t) };
+
     fn fmt<W: fmt::Write>(&self, f: &mut fmt::Formatter<W>) -> fmt::Result {
-        write!(
-            f,
-            "{} compared, {} different",
-            self.compared, self.different
-        )
+        let compared = self.compared;
+        let different = self.different;
+        write!(f, "{compared} compared, {different} different")
     }
 }
 
