@@ -198,13 +198,11 @@ impl SeekBuilder {
             let after = state_of T result e w plan.new in
             after ≡ narrowed_by T node (const_of T constant) (path_of path) before }
     {
-        let Some(known) = constant else {
-            return self;
-        };
-        match known {
-            Const::Bytes(n, ty, len) => self.bytes(file, path, n, ty, len, node, plan),
-            Const::Prefix(x) => self.prefix(file, path, x, node, plan),
-            Const::Fuzzy(x, d, a) => self.fuzzy(path, x, d, a, node, plan),
+        match constant {
+            None => self,
+            Some(Const::Bytes(n, ty, len)) => self.bytes(file, path, n, ty, len, node, plan),
+            Some(Const::Prefix(x)) => self.prefix(file, path, x, node, plan),
+            Some(Const::Fuzzy(x, d, a)) => self.fuzzy(path, x, d, a, node, plan),
         }
     }
 }
