@@ -9,7 +9,7 @@ use denote.Enum.Declared.{tag_of}
 use native.Mathlib.Omega.{arith}
 use native.Mathlib.Numerals.{add-one}
 use lib.ListN.{length, drop, length-drop}
-use lib.Seq.{drop-cons}
+use lib.Seq.{sets, length-sets, drop-cons}
 use Rattle.rules.specs.Base.{◌when_some◌}
 use Rattle.rules.specs.File.{Tables, Binding, FieldPattern, node_at, record_fields}
 use Rattle.rules.specs.Constant.{const_node}
@@ -19,7 +19,9 @@ use Rattle.views.specs.declared.SlotView.TheVariants as Sv
 use Rattle.views.specs.contracts.SlotView as SlotViews
 use Rattle.tables.specs.Tables.{SeenRun, SeenSlot}
 use Rattle.tables.proofs.Searches.{last-slot, const-is, const-not}
-use Rattle.fates.specs.Rows.{const_record, Kept, with_part, with_binding, with_bindings, any_record}
+use Rattle.accepted_file.specs.Fates.{long_length}
+use Rattle.fates.specs.Rows.{const_record, Kept, kept, with_part, with_binding, with_bindings, any_record}
+use Rattle.fates.proofs.Parts.{index_size, part_length}
 
 -- a Const's Record, as the code sees it
 module _ (f : List ℕ) (T : Tables) (b : Binding) (v : BindingView) (s : SeenBinding f b v) where
@@ -95,14 +97,28 @@ module _ (T : Tables) (b : Binding) (s : Kept) where
   unfolding with_binding
   binding-part n e = ap (λ (o : Option ℕ). elim o [ None ↦ s | Some m ↦ with_part T m s ]) e
 
+binding-length : (T : Tables) (b : Binding) (s : Kept) → length (with_binding T b s).index ≡ length s.index
+unfolding with_binding
+binding-length T b s = go (const_record T b)
+  where
+    go : (o : Option ℕ) → index_size (elim o [ None ↦ s | Some n ↦ with_part T n s ]) ≡ length s.index
+    go None = refl
+    go (Some n) = part_length T n s
+
+bindings-length : (T : Tables) (bs : List Binding) (s : Kept) → length (with_bindings T bs s).index ≡ length s.index
+unfolding with_bindings
+bindings-length T [] s = refl
+bindings-length T (b ∷ bs) s = bindings-length T bs (with_binding T b s) ∙ binding-length T b s
+
 -- the first b bindings are remembered, from s₀ on
 pub record Remembers (T : Tables) (s₀ s : Kept) (b : ℕ) : Type 0 where
   pub low : b ≤ length T.bindings
+  pub long : length s.index ≡ long_length
   pub is : with_bindings T T.bindings s₀ ≡ with_bindings T (drop b T.bindings) s
 
 module _ (T : Tables) (s₀ : Kept) where
-  pub remembers-none : Remembers T s₀ s₀ 0
-  remembers-none = record { low = omega arith; is = refl }
+  pub remembers-none : length s₀.index ≡ long_length → Remembers T s₀ s₀ 0
+  remembers-none l = record { low = omega arith; long = l; is = refl }
 
   module _ (s : Kept) (b : ℕ) (R : Remembers T s₀ s b) where
     pub remembers-more : b < length T.bindings → (r : Kept) → r ≡ with_binding T (binding_at T b) s → Remembers T s₀ r (b + 1)
@@ -110,6 +126,7 @@ module _ (T : Tables) (s₀ : Kept) where
     remembers-more h r e =
         record {
           low = omega arith;
+          long = ap (λ (x : Kept). length x.index) e ∙ binding-length T (binding_at T b) s ∙ R.long;
           is =
               R.is ∙ ap (λ (bs : List Binding). with_bindings T bs s) (drop-cons T.bindings b _ h)
               ∙ ap (with_bindings T (drop (suc b) T.bindings)) (sym e)
@@ -119,3 +136,10 @@ module _ (T : Tables) (s₀ : Kept) where
     pub remembers-all : length T.bindings ≤ b → s ≡ with_bindings T T.bindings s₀
     unfolding with_bindings
     remembers-all h = sym (R.is ∙ ap (λ (bs : List Binding). with_bindings T bs s) (none_left (drop b T.bindings) (omega (arith, length-drop b T.bindings))))
+
+-- the index in front
+pub front_length : (ix long sx : List ℕ) → sx ≡ sets long 0 ix → length long ≡ long_length → length sx ≡ long_length
+front_length ix long sx e l = ap length e ∙ length-sets long 0 ix ∙ l
+
+pub bound-long : (T : Tables) (fx sx : List ℕ) (k : ℕ) → kept k sx ≡ with_bindings T T.bindings (kept 0 fx) → length fx ≡ long_length → length sx ≡ long_length
+bound-long T fx sx k e l = ap (λ (x : Kept). length x.index) e ∙ bindings-length T T.bindings (kept 0 fx) ∙ l

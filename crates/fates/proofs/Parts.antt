@@ -8,8 +8,8 @@ use native.Mathlib.Omega.{arith}
 use native.Mathlib.Numerals.{add-one}
 use borrow.Author.Tests.{lt-ltb, le-ltb, eq-eqb, ne_eqb}
 use lib.Dec.{ltb}
-use lib.ListN.{length, get_or, set, drop, length-drop}
-use lib.Seq.{sets, drop-cons}
+use lib.ListN.{length, get_or, set, drop, length-set, length-drop}
+use lib.Seq.{sets, length-sets, drop-cons}
 use Rattle.rules.specs.Base.{both}
 use Rattle.rules.specs.File.{Tables, FieldPattern, node_at, is_constant, record_fields}
 use Rattle.rules.proofs.Cases.{pick, true≢false, both_left}
@@ -17,7 +17,7 @@ use Rattle.views.specs.Views.{pattern_at, pattern_of, run}
 use Rattle.views.specs.declared.FieldPattern.{FieldPattern as FieldPatternView}
 use Rattle.views.proofs.Runs.{run_at, length_run}
 use Rattle.tables.specs.Tables.{SeenRun}
-use Rattle.accepted_file.specs.Fates.{rows_base, fates_base, row_words}
+use Rattle.accepted_file.specs.Fates.{rows_base, fates_base, row_words, long_length}
 use Rattle.field_cases.specs.Pieces.{patterns_of}
 use Rattle.fates.specs.Rows.{row_limit, row_of, with_row, with_bindings, Kept, kept, is_parent, rowless, with_part, with_parts, with_held, with_nodes, remembering}
 
@@ -99,14 +99,26 @@ module _ (T : Tables) (n k : ℕ) (lx : List ℕ) where
       ap (λ (r : List ℕ). kept (k + 1) (set r (rows_base + n) (k + 1))) q
       ∙ sym (ap by-test (ap₂ both (lt-ltb k row_limit h) (ap₂ both e (eq-eqb _ _ z))))
 
+abbrev pub index_size : Kept → ℕ
+index_size s = length s.index
+
+pub part_length : (T : Tables) (n : ℕ) (s : Kept) → length (with_part T n s).index ≡ length s.index
+unfolding with_part with_row
+part_length T n s = go (both (ltb s.next row_limit) (both (is_parent T n) (rowless n s)))
+  where
+    go : (b : Bool) → index_size (elim b [ true ↦ kept (s.next + 1) (with_row T n s.next s.index) | false ↦ s ]) ≡ length s.index
+    go true = length-set (sets s.index (fates_base + row_words * s.next) (row_of T n)) (rows_base + n) (s.next + 1) ∙ length-sets s.index (fates_base + row_words * s.next) (row_of T n)
+    go false = refl
+
 -- a node's parts, the first i of them done
 pub record Parted (T : Tables) (fs : List FieldPattern) (s₀ s : Kept) (i : ℕ) : Type 0 where
   pub low : i ≤ length fs
+  pub long : length s.index ≡ long_length
   pub is : with_parts T fs s₀ ≡ with_parts T (drop i fs) s
 
 module _ (T : Tables) (fs : List FieldPattern) (s₀ : Kept) where
-  pub parted-none : Parted T fs s₀ s₀ 0
-  parted-none = record { low = omega arith; is = refl }
+  pub parted-none : length s₀.index ≡ long_length → Parted T fs s₀ s₀ 0
+  parted-none l = record { low = omega arith; long = l; is = refl }
 
   module _ (s : Kept) (i : ℕ) (P : Parted T fs s₀ s i) where
     pub parted-more : i < length fs → (d : FieldPattern) (n : ℕ) → n ≡ (get_or fs i d).node → (r : Kept) → r ≡ with_part T n s → Parted T fs s₀ r (i + 1)
@@ -114,6 +126,7 @@ module _ (T : Tables) (fs : List FieldPattern) (s₀ : Kept) where
     parted-more h d n e r q =
         record {
           low = omega arith;
+          long = ap (λ (x : Kept). length x.index) q ∙ part_length T n s ∙ P.long;
           is =
               P.is ∙ ap (λ (l : List FieldPattern). with_parts T l s) (drop-cons fs i d h)
               ∙ ap (λ (m : ℕ). with_parts T (drop (suc i) fs) (with_part T m s)) (sym e)
@@ -139,16 +152,31 @@ module _ (T : Tables) (n : ℕ) (s : Kept) where
   unfolding with_held rowless
   held-parts e = sym (pick (rowless n s) false s (with_parts T (patterns_of T n) s) (ne_eqb _ _ e))
 
+parts-length : (T : Tables) (fs : List FieldPattern) (s : Kept) → length (with_parts T fs s).index ≡ length s.index
+unfolding with_parts
+parts-length T [] s = refl
+parts-length T (f ∷ fs) s = parts-length T fs (with_part T f.node s) ∙ part_length T f.node s
+
+held-length : (T : Tables) (n : ℕ) (s : Kept) → length (with_held T n s).index ≡ length s.index
+unfolding with_held
+held-length T n s = go (rowless n s)
+  where
+    go : (b : Bool) → index_size (elim b [ true ↦ s | false ↦ with_parts T (patterns_of T n) s ]) ≡ length s.index
+    go true = refl
+    go false = parts-length T (patterns_of T n) s
+
 -- all nodes, those from n on done, from s₀ on
 pub record Held (T : Tables) (s₀ : Kept) (lx : List ℕ) (k n : ℕ) : Type 0 where
   pub low : n ≤ length T.nodes
+  pub long : length lx ≡ long_length
   pub is : with_nodes T (length T.nodes) s₀ ≡ with_nodes T n (kept k lx)
 
 module _ (T : Tables) where
-  pub held_first : (k n : ℕ) (sx : List ℕ) → n ≡ length T.nodes → Held T (kept k sx) sx k n
-  held_first k n sx q =
+  pub held_first : (k n : ℕ) (sx : List ℕ) → length sx ≡ long_length → n ≡ length T.nodes → Held T (kept k sx) sx k n
+  held_first k n sx l q =
       record {
         low = omega arith;
+        long = l;
         is = ap (λ (m : ℕ). with_nodes T m (kept k sx)) (sym q);
       }
 
@@ -159,6 +187,7 @@ module _ (T : Tables) where
         let m : n ≡ suc (n - 1) = omega arith in
         record {
           low = omega (arith, H.low);
+          long = ap (λ (x : Kept). length x.index) e ∙ held-length T (n - 1) (kept k lx) ∙ H.long;
           is = H.is ∙ ap (λ (i : ℕ). with_nodes T i (kept k lx)) m ∙ ap (with_nodes T (n - 1)) (sym e);
         }
 

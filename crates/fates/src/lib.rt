@@ -9,7 +9,7 @@ ghost use Rattle.rules.specs.File.{is_constant};
 ghost use Rattle.file.specs.Steps.{index_length};
 ghost use Rattle.views.specs.Views.{binding_at};
 ghost use Rattle.accepted_file.specs.Tables.{accepted_tables};
-ghost use Rattle.accepted_file.specs.Fates.{fate, fates_base, row_words};
+ghost use Rattle.accepted_file.specs.Fates.{fate, fates_base, row_words, long_length};
 ghost use Rattle.tables.specs.Recalled.{fate_digit};
 ghost use Rattle.field_cases.specs.Pieces.{patterns_of};
 ghost use Rattle.fates.specs.Rows.{Heard, fate_or, word_of, row_of, const_record, with_binding, with_bindings, kept, is_parent};
@@ -96,9 +96,9 @@ fn word(file: &AcceptedFile, node: usize, q: usize) -> usize
 }
 
 // The row of a node, as row k.
-fn put_row(file: &AcceptedFile, long: &mut [u16; LONG_INDEX], node: usize, k: usize)
+fn put_row(file: &AcceptedFile, long: &mut [u16], node: usize, k: usize)
     requires node_value { is_constant (accepted_tables file.now) node ≡ true }
-    requires k_lt_binding_limit { k < binding_limit }
+    requires k_lt_binding_limit { (k < binding_limit) × (length long.old ≡ long_length) }
     ensures { let T = accepted_tables file.now in
         long.new ≡ sets long.old (fates_base + row_words * k) (row_of T node) }
 {
@@ -127,9 +127,10 @@ fn const_record(file: &AcceptedFile, k: usize) -> Option<usize>
     }
 }
 
-// The index, in front of a longer one.
-fn put_index(index: &[u16], long: &mut [u16; LONG_INDEX])
-    requires { length index.now ≡ index_length }
+// The index, in front of a longer one. The length of the longer one stays a clause, here and below: an array type would be
+// narrower for the callers of `remember` than the slice that it takes.
+fn put_index(index: &[u16], long: &mut [u16])
+    requires { (length index.now ≡ index_length) × (length long.old ≡ long_length) }
     ensures { long.new ≡ sets long.old 0 index.now }
 {
     long[..index.len()].copy_from_slice(index);
@@ -146,7 +147,8 @@ fn is_parent(file: &AcceptedFile, node: usize) -> bool
 }
 
 // The row of a Record that is constant, as row k, if it has none yet and while there are rows left; the number of the next row.
-fn remember_part(file: &AcceptedFile, long: &mut [u16; LONG_INDEX], node: usize, k: usize) -> usize
+fn remember_part(file: &AcceptedFile, long: &mut [u16], node: usize, k: usize) -> usize
+    requires { length long.old ≡ long_length }
     ensures { let T = accepted_tables file.now in
         kept result long.new ≡ with_part T node (kept k long.old) }
 {
@@ -165,7 +167,8 @@ fn remember_part(file: &AcceptedFile, long: &mut [u16; LONG_INDEX], node: usize,
 }
 
 // The rows of a node's parts.
-fn remember_parts(file: &AcceptedFile, long: &mut [u16; LONG_INDEX], node: usize, k: usize) -> usize
+fn remember_parts(file: &AcceptedFile, long: &mut [u16], node: usize, k: usize) -> usize
+    requires { length long.old ≡ long_length }
     ensures { let T = accepted_tables file.now in
         kept result long.new ≡ with_parts T (patterns_of T node) (kept k long.old) }
 {
@@ -181,8 +184,8 @@ fn remember_parts(file: &AcceptedFile, long: &mut [u16; LONG_INDEX], node: usize
 }
 
 // The same, if the node has a row itself.
-fn remember_held(file: &AcceptedFile, long: &mut [u16; LONG_INDEX], node: usize, k: usize) -> usize
-    requires { node < length (accepted_tables file.now).nodes }
+fn remember_held(file: &AcceptedFile, long: &mut [u16], node: usize, k: usize) -> usize
+    requires { (node < length (accepted_tables file.now).nodes) × (length long.old ≡ long_length) }
     ensures { let T = accepted_tables file.now in
         kept result long.new ≡ with_held T node (kept k long.old) }
 {
@@ -193,8 +196,8 @@ fn remember_held(file: &AcceptedFile, long: &mut [u16; LONG_INDEX], node: usize,
 }
 
 // The row of binding b's Record, if it is a Const of one.
-fn remember_binding(file: &AcceptedFile, long: &mut [u16; LONG_INDEX], b: usize, k: usize) -> usize
-    requires { b < length (accepted_tables file.now).bindings }
+fn remember_binding(file: &AcceptedFile, long: &mut [u16], b: usize, k: usize) -> usize
+    requires { (b < length (accepted_tables file.now).bindings) × (length long.old ≡ long_length) }
     ensures { let T = accepted_tables file.now in
         kept result long.new ≡ with_binding T (binding_at T b) (kept k long.old) }
 {
@@ -206,7 +209,8 @@ fn remember_binding(file: &AcceptedFile, long: &mut [u16; LONG_INDEX], b: usize,
 }
 
 // The rows of all bindings.
-fn remember_bindings(file: &AcceptedFile, long: &mut [u16; LONG_INDEX]) -> usize
+fn remember_bindings(file: &AcceptedFile, long: &mut [u16]) -> usize
+    requires { length long.old ≡ long_length }
     ensures { let T = accepted_tables file.now in
         kept result long.new ≡ with_bindings T T.bindings (kept 0 long.old) }
 {
@@ -220,8 +224,8 @@ fn remember_bindings(file: &AcceptedFile, long: &mut [u16; LONG_INDEX]) -> usize
 
 // The index in a longer one, with what is remembered of all bindings and of the Records in them, the last node first: a part is lower than
 // what holds it.
-pub fn remember(file: &AcceptedFile, long: &mut [u16; LONG_INDEX])
-    requires { length file.now.tables.index.now ≡ index_length }
+pub fn remember(file: &AcceptedFile, long: &mut [u16])
+    requires { (length file.now.tables.index.now ≡ index_length) × (length long.old ≡ long_length) }
     ensures { let T = accepted_tables file.now in
         long.new ≡ remembering T file.now.tables.index.now long.old }
 {

@@ -13,4 +13,4 @@ returns c =
     let long = c.args.long.now in
     ap (λ (l : List ℕ). l ++ drop (length ix) long) c.copy_from_slice.ensures.after
     ∙ ap (λ (k : ℕ). ix ++ drop k long) (sym (zero-add (length ix)))
-    ∙ sym (sets-eq ix long 0 (omega (arith, c.requires, c.told-long)))
+    ∙ sym (sets-eq ix long 0 (omega (arith, c.requires.0, c.requires.1)))

@@ -6,7 +6,7 @@ use Rattle.fates.proofs.Packed.{row-none, row_more, row-all}
 use Rattle.fates.proofs.put_row.Goals as goal
 
 pub loop-q-init : goal.loop-q-init
-loop-q-init c = (c.told-long, row-none _ _ _ 0 refl)
+loop-q-init c = (c.requires.k_lt_binding_limit.1, row-none _ _ _ 0 refl)
 
 pub word-w-requires : goal.word-w-requires
 word-w-requires c = record { node_value = c.requires.node_value; q_lt_row_words = omega arith }
@@ -15,13 +15,13 @@ pub overflow_cast-long : goal.overflow_cast-long
 overflow_cast-long c = omega (arith, c.word-w.ensures.1)
 
 pub overflow_add-long : goal.overflow_add-long
-overflow_add-long c = omega (arith, c.requires.k_lt_binding_limit, c.loop-q-test.true)
+overflow_add-long c = omega (arith, c.requires.k_lt_binding_limit.0, c.loop-q-test.true)
 
 pub offset_bounds-long-at : goal.offset_bounds-long-at
-offset_bounds-long-at c = omega (arith, c.requires.k_lt_binding_limit, c.loop-q-test.true)
+offset_bounds-long-at c = omega (arith, c.requires.k_lt_binding_limit.0, c.loop-q-test.true)
 
 pub bounds-long-at : goal.bounds-long-at
-bounds-long-at c = omega (arith, c.requires.k_lt_binding_limit, c.loop-q-test.true, c.loop-q.invariant.0)
+bounds-long-at c = omega (arith, c.requires.k_lt_binding_limit.0, c.loop-q-test.true, c.loop-q.invariant.0)
 
 pub loop-q-preserved : goal.loop-q-preserved
 loop-q-preserved c = (simp length-set c.loop-q.invariant.0, row_more _ _ _ _ _ _ c.loop-q-test.true c.word-w.ensures.0 c.loop-q.invariant.1)

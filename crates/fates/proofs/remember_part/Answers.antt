@@ -24,13 +24,13 @@ offset_bounds-long-node c =
 pub bounds-long-node : goal.bounds-long-node
 bounds-long-node c =
     let k = constant-in _ _ (parent-constant _ _ (sym c.is_parent.ensures ∙ c.if-not-is_parent.false)) in
-    omega (arith, few-nodes _ _ c.args.file.now.accepted.indexed, k, c.told-long)
+    omega (arith, few-nodes _ _ c.args.file.now.accepted.indexed, k, c.requires)
 
 pub returns-then-from-ne0 : goal.returns-then-from-ne0
 returns-then-from-ne0 c = part-has _ _ _ _ (λ e. c.if-from-ne0.true (c.from.ensures ∙ e))
 
 pub put_row-requires : goal.put_row-requires
-put_row-requires c = record { node_value = parent-constant _ _ (sym c.is_parent.ensures ∙ c.if-not-is_parent.false); k_lt_binding_limit = c.if-k-ge-ROW_LIMIT.false }
+put_row-requires c = record { node_value = parent-constant _ _ (sym c.is_parent.ensures ∙ c.if-not-is_parent.false); k_lt_binding_limit = (c.if-k-ge-ROW_LIMIT.false, c.requires) }
 
 pub overflow_add-long-2 : goal.overflow_add-long-2
 overflow_add-long-2 c =
@@ -45,7 +45,7 @@ offset_bounds-long-node-2 c =
 pub bounds-long-node-2 : goal.bounds-long-node-2
 bounds-long-node-2 c =
     let k = constant-in _ _ (parent-constant _ _ (sym c.is_parent.ensures ∙ c.if-not-is_parent.false)) in
-    omega (arith, few-nodes _ _ c.args.file.now.accepted.indexed, k, c.told-long)
+    omega (arith, few-nodes _ _ c.args.file.now.accepted.indexed, k, c.requires, c.put_row.auto.long)
 
 pub returns : goal.returns
 returns c = part-row _ _ _ _ c.if-k-ge-ROW_LIMIT.false (sym c.is_parent.ensures ∙ c.if-not-is_parent.false) (sym c.from.ensures ∙ c.if-from-ne0.false) _ c.put_row.ensures

@@ -11,10 +11,13 @@ pub returns-in_default : goal.returns-in_default
 returns-in_default c = parts_none _ _ _ (no-patterns _ _ _ _ c.pairs_of.ensures.shows c.in_default.is)
 
 pub loop-i-init : goal.loop-i-init
-loop-i-init c = parted-none _ _ _
+loop-i-init c = parted-none _ _ _ c.requires
 
 pub field_pattern_at-p-requires : goal.field_pattern_at-p-requires
 field_pattern_at-p-requires c = omega (arith, c.loop-i-test.true, run_inside _ _ _ _ _ c.pairs_of.ensures.shows _ _ c.in-Some.is)
+
+pub remember_part-next-requires : goal.remember_part-next-requires
+remember_part-next-requires c = c.loop-i.invariant.long
 
 pub loop-i-preserved : goal.loop-i-preserved
 loop-i-preserved c =
