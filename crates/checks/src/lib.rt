@@ -103,6 +103,7 @@ fn node_constant(file: &IndexedFile, n: usize) -> bool
     match file.node_at(n) {
         NodeView::Int(_) | NodeView::Str(_) | NodeView::Bytes(_, _) => true,
         NodeView::Record(m, at) => all_constant(file, n, m, at + 2),
+        NodeView::Var(_) => false,
         _ => false,
     }
 }

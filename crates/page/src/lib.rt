@@ -33,7 +33,8 @@ pub fn is_paged(c: Counts) -> bool
     ensures { result ≡ paged (counts_of c) }
 {
     let parts = c.joined as usize + c.framed as usize;
-    parts <= PAGE_REST && c.rest as usize <= PAGE - PAGE_REST
+    let fits = parts <= PAGE_REST;
+    fits && c.rest as usize <= PAGE - PAGE_REST
 }
 
 // The first n parts of the page, all of them bytes, joined in the plan: their texts from `text` on, their nodes from `node` on.

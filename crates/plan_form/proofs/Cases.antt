@@ -85,11 +85,11 @@ bytes-alike f n x p = alike-step f (alike-fixed n x (fixed-bytes n)) p
 
 -- a count, then as many
 module _ {A : Type 0} (f : List ℕ) (r : Reader A) (p : ℕ) where
-  counted-cut : p ≤ length f → length f < p + 2 → step_at f (Reader.counted r) p ≡ Err 3
+  pub counted-cut : p ≤ length f → length f < p + 2 → step_at f (Reader.counted r) p ≡ Err 3
   unfolding Reader.counted
   counted-cut h g = cut_short f 2 p (needs-first 2 _ (needs-fixed 2 fixed-u16)) h g
 
-  counted-in : (n : ℕ) → p + 2 ≤ length f → n ≡ word f p → step_at f (Reader.counted r) p ≡ step_at f (many n r) (p + 2)
+  pub counted-in : (n : ℕ) → p + 2 ≤ length f → n ≡ word f p → step_at f (Reader.counted r) p ≡ step_at f (many n r) (p + 2)
   unfolding Reader.counted
   counted-in n h e = step_same f _ _ _ _ (word-then f p _ h) ∙ ap (λ (j : ℕ). step_at f (many j r) (p + 2)) (sym e)
 
@@ -375,11 +375,11 @@ module _ (f : List ℕ) (p : ℕ) where
     unfolding Reader.diagnostic
     diagnostic-code = step_same f _ _ _ _ (fixed_then f 2 p fixed-u16 _ (omega arith)) ∙ alike-step f (alike-map _ (alike_refl Reader.code)) (p + 2)
 
-    diagnostic-zero : get_or f (p + 2) 0 ≡ 0 → step_at f Reader.diagnostic p ≡ Err 5
+    pub diagnostic-zero : get_or f (p + 2) 0 ≡ 0 → step_at f Reader.diagnostic p ≡ Err 5
     unfolding Reader.code refuse read_at
     diagnostic-zero e = diagnostic-code ∙ kinded f (p + 2) code_readers 0 (omega arith) (sym e) ∙ step-refused f (refuse 5) (p + 2 + 1) 5 refl
 
-    diagnostic-bad : 11 < get_or f (p + 2) 0 → step_at f Reader.diagnostic p ≡ Err 5
+    pub diagnostic-bad : 11 < get_or f (p + 2) 0 → step_at f Reader.diagnostic p ≡ Err 5
     unfolding Reader.code
     diagnostic-bad g = diagnostic-code ∙ kind-bad f (p + 2) code_readers (get_or f (p + 2) 0) (omega arith) refl g
 

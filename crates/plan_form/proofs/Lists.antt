@@ -23,12 +23,12 @@ use Rattle.std.specs.Prelude.{Result, Ok, Err}
 
 -- n times the same reading, by where each ends
 module _ {A : Type 0} (f : List ℕ) {r : Reader A} (x : Suffix r) (n p : ℕ) (h : p ≤ length f) where
-  each_more : (m q : ℕ) → n ≡ m + 1 → step_at f r p ≡ Ok q → step_at f (many n r) p ≡ step_at f (many m r) q
+  pub each_more : (m q : ℕ) → n ≡ m + 1 → step_at f r p ≡ Ok q → step_at f (many n r) p ≡ step_at f (many m r) q
   each_more m q k e =
       let w = ended f r p q x h e in
       many_more f r n p w.value q (omega arith) w.is ∙ ap (λ (j : ℕ). step_at f (many j r) q) (omega arith)
 
-  each-fault : (y : ℕ) → 0 < n → step_at f r p ≡ Err y → step_at f (many n r) p ≡ Err y
+  pub each-fault : (y : ℕ) → 0 < n → step_at f r p ≡ Err y → step_at f (many n r) p ≡ Err y
   each-fault y k e = many-fault f r n p y k (faulted f r p y e)
 
 -- a run by its first step

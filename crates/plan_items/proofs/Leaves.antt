@@ -239,11 +239,11 @@ module _ (f : List ℕ) (p : ℕ) (x : Found f Reader.edge p) where
   unfolding Reader.edge read_at pure
   edge_none e = kind-reads f edge_readers p x 0 e None (p + 1) refl
 
-  exclusive-text : get_or f p 0 ≡ 1 → Found f Reader.text (p + 1)
+  pub exclusive-text : get_or f p 0 ≡ 1 → Found f Reader.text (p + 1)
   unfolding Reader.edge Reader.edge_that
   exclusive-text e = found_first f Reader.text _ (p + 1) (kind-then f edge_readers p x 1 e)
 
-  inclusive-text : get_or f p 0 ≡ 2 → Found f Reader.text (p + 1)
+  pub inclusive-text : get_or f p 0 ≡ 2 → Found f Reader.text (p + 1)
   unfolding Reader.edge Reader.edge_that
   inclusive-text e = found_first f Reader.text _ (p + 1) (kind-then f edge_readers p x 2 e)
 

@@ -8,9 +8,9 @@ use native.Mathlib.Nat.{add-zero, zero-add}
 use native.Mathlib.Numerals.{add-one}
 use lib.Dec.{ltb, eqb}
 use lib.ListN.{length, get_or}
-use borrow.Author.Tests.{lt-ltb, le-ltb}
-use Rattle.std.specs.Prelude.{◌||◌, Option, None, Some}
-use Rattle.std.specs.List.{list_all, list_any, range_with_len}
+use borrow.Author.Tests.{lt-ltb, le-ltb, eq-eqb, ne_eqb}
+use Rattle.std.specs.Prelude.{Option, None, Some}
+use Rattle.std.specs.List.{list_all, range_with_len}
 use Rattle.rules.specs.Base.{both, all, all_from, first, distinct}
 use Rattle.file.specs.Steps.{word}
 use Rattle.views.specs.Views.{run, long}
@@ -184,9 +184,6 @@ pub run-every : {A : Type 0} (p : A → Bool) (g : ℕ → A) (w n q : ℕ) → 
 run-every p g w n q =
     ap (λ (j : ℕ). all p (run g w n j)) (omega arith) ∙ sym (all-from-list p g w q n 0) ∙ every-list (λ k. p (g (q + w * k))) n 0
 
-pub all-list : {A : Type 0} (p : A → Bool) (g : ℕ → A) (w q n : ℕ) → list_all (λ k. p (g (q + w * k))) (range_with_len 0 (n - 0)) ≡ all p (run g w n q)
-all-list p g w q n = all-from-list p g w q (n - 0) 0 ∙ ap₂ (λ (m j : ℕ). all p (run g w m j)) (omega arith) (omega arith)
-
 -- pairs of a name and a number
 pub pairs-law : {A : Type 0} (f : List ℕ) (w behind a b : ℕ) (g : ℕ → A) (name number : A → ℕ) → ((p : ℕ) → name (g p) ≡ word f p) → ((p : ℕ) → number (g p) ≡ word f (p + behind))
     → (n p : ℕ) → all (λ x. both (ltb (name x) a) (ltb (number x) b)) (run g w n p) ≡ pairs_in f w n p a behind b
@@ -223,6 +220,21 @@ module _ (g : ℕ → ℕ) (w : ℕ) where
   unfolding among first run
   among_none x n q h = rw h
 
+  among-run : (x n q : ℕ) → 0 < n → among x (run g w n q) ≡ elim (eqb x (g q)) as (λ _. Bool) [ true ↦ true | false ↦ among x (run g w (n - 1) (q + w)) ]
+  unfolding among first run
+  among-run x n q h = ap (λ (k : ℕ). among x (run g w k q)) (down' n h) ∙ go (eqb x (g q))
+    where
+      go : (b : Bool) → ◌≡◌ {A = Bool} (elim (elim b as (λ _. Option ℕ) [ true ↦ Some (g q) | false ↦ first (eqb x) (run g w (n - 1) (q + w)) ]) as (λ _. Bool) [ None ↦ false | Some y ↦ true ])
+          (elim b as (λ _. Bool) [ true ↦ true | false ↦ elim (first (eqb x) (run g w (n - 1) (q + w))) as (λ _. Bool) [ None ↦ false | Some y ↦ true ] ])
+      go true = refl
+      go false = refl
+
+  pub among-here : (x n q : ℕ) → 0 < n → g q ≡ x → among x (run g w n q) ≡ true
+  among-here x n q h e = among-run x n q h ∙ ap (λ (b : Bool). elim b as (λ _. Bool) [ true ↦ true | false ↦ among x (run g w (n - 1) (q + w)) ]) (eq-eqb x (g q) (sym e))
+
+  pub among_later : (x n q : ℕ) → 0 < n → (g q ≡ x → ⊥) → among x (run g w n q) ≡ among x (run g w (n - 1) (q + w))
+  among_later x n q h e = among-run x n q h ∙ ap (λ (b : Bool). elim b as (λ _. Bool) [ true ↦ true | false ↦ among x (run g w (n - 1) (q + w)) ]) (ne_eqb x (g q) (λ z. e (sym z)))
+
   pub distinct_none : (n q : ℕ) → n ≡ 0 → distinct (run g w n q) ≡ true
   unfolding distinct run
   distinct_none n q h = rw h
@@ -241,30 +253,3 @@ module _ (g : ℕ → ℕ) (w : ℕ) where
 
   pub distinct-stop : (n q : ℕ) → 0 < n → among (g q) (run g w (n - 1) (q + w)) ≡ true → distinct (run g w n q) ≡ false
   distinct-stop n q h e = distinct-run n q h ∙ ap (λ (b : Bool). elim b as (λ _. Bool) [ true ↦ false | false ↦ distinct (run g w (n - 1) (q + w)) ]) e
-
--- whether a number is among those of a run, as an iterator has it
-among-cons : (x y : ℕ) (l : List ℕ) → elim (eqb x y) as (λ _. Bool) [ true ↦ true | false ↦ among x l ] ≡ among x (y ∷ l)
-unfolding among first
-among-cons x y l = go (eqb x y)
-  where
-    go : (b : Bool) → ◌≡◌ {A = Bool} (elim b as (λ _. Bool) [ true ↦ true | false ↦ elim (first (eqb x) l) as (λ _. Bool) [ None ↦ false | Some y ↦ true ] ])
-        (elim (elim b as (λ _. Option ℕ) [ true ↦ Some y | false ↦ first (eqb x) l ]) as (λ _. Bool) [ None ↦ false | Some y ↦ true ])
-    go true = refl
-    go false = refl
-
-or-elim : (a b : Bool) → (a || b) ≡ elim a as (λ _. Bool) [ true ↦ true | false ↦ b ]
-or-elim true b = refl
-or-elim false b = refl
-
-any-from-list : (g : ℕ → ℕ) (w x q n t : ℕ) → list_any (λ k. eqb x (g (q + w * k))) (range_with_len t n) ≡ among x (run g w n (q + w * t))
-unfolding run
-any-from-list g w x q zero t = sym (among_none g w x 0 (q + w * t) refl)
-any-from-list g w x q (suc n) t =
-    let i : q + w * suc t ≡ q + w * t + w = omega arith in
-    or-elim (eqb x (g (q + w * t))) (list_any (λ k. eqb x (g (q + w * k))) (range_with_len (t + 1) n))
-    ∙ ap (λ (b : Bool). elim (eqb x (g (q + w * t))) as (λ _. Bool) [ true ↦ true | false ↦ b ])
-    (ap (λ (j : ℕ). list_any (λ k. eqb x (g (q + w * k))) (range_with_len j n)) (add-one t) ∙ any-from-list g w x q n (suc t) ∙ ap (λ (j : ℕ). among x (run g w n j)) i)
-    ∙ among-cons x (g (q + w * t)) (run g w n (q + w * t + w))
-
-pub any-list : (g : ℕ → ℕ) (w x q n : ℕ) → list_any (λ k. eqb x (g (q + w * k))) (range_with_len 0 (n - 0)) ≡ among x (run g w n q)
-any-list g w x q n = any-from-list g w x q (n - 0) 0 ∙ ap₂ (λ (m j : ℕ). among x (run g w m j)) (omega arith) (omega arith)

@@ -19,7 +19,12 @@ pub fn words_below(file: &[u8], w: usize, n: usize, p: usize, bound: usize) -> b
     requires { Words file.now 2 w n p }
     ensures { result ≡ all (λ c. ltb c bound) (run (word file.now) w n p) }
 {
-    (0..n).all(|k| word_at(file, p + w * k) < bound)
+    for k in 0..n {
+        if word_at(file, p + w * k) >= bound {
+            return false;
+        }
+    }
+    true
 }
 
 // 8: whether n pairs name only numbers below their bounds. The first pair's name stands at p, each next one w bytes on; the other number
@@ -255,7 +260,12 @@ fn is_among(file: &[u8], long: bool, w: usize, n: usize, p: usize, x: u32) -> bo
     requires { Words file.now 4 w n p }
     ensures { result ≡ among x (run (number_at file.now long) w n p) }
 {
-    (0..n).any(|k| number_at(file, long, p + w * k) == x)
+    for k in 0..n {
+        if number_at(file, long, p + w * k) == x {
+            return true;
+        }
+    }
+    false
 }
 
 // Whether n numbers rise, the first of them past x.

@@ -40,7 +40,7 @@ pub fn list_room() -> [u8; LIST_ROOM]
 }
 
 // Whether a line is none to compare: empty, or a comment.
-fn skipped(line: &[u8]) -> bool
+pub fn skipped(line: &[u8]) -> bool
     ensures { result ≡ Tallies.skipped line.now }
 {
     line.is_empty() || line[0] == b'#'
@@ -48,7 +48,7 @@ fn skipped(line: &[u8]) -> bool
 
 impl Tally {
     // The tally after one answer more, which agrees or not.
-    fn with(self, agrees: bool) -> Tally
+    pub fn with(self, agrees: bool) -> Tally
         requires { (self.compared < count_limit) × (self.different < count_limit) }
         ensures { result ≡ Tallies.added agrees self }
     {

@@ -3,6 +3,10 @@ use Rattle.std.specs.Prelude.{Bool, List, [], ◌∷◌, ℕ, ltb, get_or, Optio
 use Rattle.rules.specs.Utf8.{Octets, ◌to◌, UTF8-tail}
 use Rattle.utf8.specs.declared.Wanted.{Wanted}
 
+-- how many bytes are looked at together
+abbrev pub block_size : ℕ
+block_size = 16
+
 -- what `more` bytes stand for, the next one in range r: from four on, a fault
 abbrev pub ranges : Octets → List (Option (List Octets))
 ranges r = Some [] ∷ Some (r ∷ []) ∷ Some (r ∷ UTF8-tail ∷ []) ∷ Some (r ∷ UTF8-tail ∷ UTF8-tail ∷ []) ∷ []

@@ -4,7 +4,7 @@
 ghost use Rattle.std.specs.Prelude.{◌≡◌, [], ◌≤◌, ◌<◌, max, fold, Some};
 ghost use Rattle.std.specs.List.{list_all};
 ghost use Rattle.rules.specs.Utf8.{begins, after, after_all, UTF8-octets};
-ghost use Rattle.utf8.specs.Wants.{wants, is_low};
+ghost use Rattle.utf8.specs.Wants.{block_size, wants, is_low};
 
 // What the character at hand still wants: how many bytes, and the range of the next one. It is nothing between two characters.
 #[derive(Clone, Copy)]
@@ -128,12 +128,19 @@ fn after_block(block: &[u8], start: Wanted) -> Wanted
     after_bytes(block, start)
 }
 
+// How long a block is.
+fn block_len() -> usize
+    ensures { result ≡ block_size }
+{
+    BLOCK
+}
+
 // What is wanted after these bytes, block by block.
 fn after_blocks(bytes: &[u8]) -> Wanted
     ensures { wants result ≡ after_all (Some []) bytes.now }
 {
     let mut w = wanting(0, 0, 0);
-    for block in bytes.chunks(BLOCK) {
+    for block in bytes.chunks(block_len()) {
         w = after_block(block, w);
     }
     w
@@ -150,7 +157,7 @@ fn low_bytes(bytes: &[u8]) -> bool
 fn is_ascii(bytes: &[u8]) -> bool
     ensures { result ≡ list_all is_low bytes.now }
 {
-    if bytes.len() < BLOCK {
+    if bytes.len() < block_len() {
         return low_bytes(bytes);
     }
     greatest_byte(bytes) < 0x80

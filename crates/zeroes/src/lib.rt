@@ -1,9 +1,9 @@
 // Memory that is lent again and again, left all zero.
 #![tactic(auto)]
 
-ghost use Rattle.std.specs.Prelude.{◌≡◌, fold};
+ghost use Rattle.std.specs.Prelude.{◌≡◌, ◌+◌, ◌<◌, min, fold};
 ghost use Rattle.std.specs.Int.Bits.{bit_or};
-ghost use Rattle.zeroes.specs.Zeroed.{zeroed};
+ghost use Rattle.zeroes.specs.Zeroed.{block_size, zeroed};
 
 // How many bytes are looked at before any of them is written.
 const BLOCK: usize = 4096;
@@ -29,6 +29,14 @@ fn clear(block: &mut [u8])
     }
 }
 
+// Where the block that begins at a place ends.
+fn block_end(len: usize, at: usize) -> usize
+    requires { at < len }
+    ensures { result ≡ min len (at + block_size) }
+{
+    at + BLOCK.min(len - at)
+}
+
 // The bytes from a place on, all zero: what an exported call owes of the memory it was lent.
 // By hand: of what `chunks_mut` lent only the length is known afterwards.
 pub fn zero(buf: &mut [u8], from: usize)
@@ -36,7 +44,7 @@ pub fn zero(buf: &mut [u8], from: usize)
 {
     let mut at = from;
     while at < buf.len() {
-        let end = at + BLOCK.min(buf.len() - at);
+        let end = block_end(buf.len(), at);
         clear(&mut buf[at..end]);
         at = end;
     }

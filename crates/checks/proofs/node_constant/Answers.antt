@@ -26,6 +26,10 @@ returns-in-Int c =
     let s = c.node_at.ensures.shows in
     ⊎_elim (λ w. by-node (constant_of _) s w.1) (λ o. ⊎_elim (λ w. by-node (constant_of _) s w.1) (λ w. by-node (constant_of _) s w.2) o) c.in-Int.is
 
+pub returns-in-Var : goal.returns-in-Var
+unfolding constant_of
+returns-in-Var c = by-node (constant_of _) c.node_at.ensures.shows c.in-Var.is
+
 pub returns-in_default : goal.returns-in_default
 returns-in_default c =
     let n = c.in_default in

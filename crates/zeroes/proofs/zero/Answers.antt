@@ -5,7 +5,7 @@ use Rattle.zeroes.proofs.zero.Goals as goal
 pub loop-at-smaller : goal.loop-at-smaller
 loop-at-smaller c =
     let b = c.loop-at in
-    omega (arith, block_same b.buf _ b.at (b.at + c.min.result) (omega arith) (omega arith) c.clear.ensures)
+    omega (arith, block_same b.buf _ b.at c.block_end-end.result (omega arith) (omega arith) c.clear.ensures)
 
 pub loop-at-preserved : goal.loop-at-preserved
 loop-at-preserved c =
