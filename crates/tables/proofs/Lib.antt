@@ -6,3 +6,4 @@ pub mod Recalls
 pub mod Firsts
 pub mod Searches
 pub mod Fates
+pub mod Pairs

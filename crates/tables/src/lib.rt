@@ -114,10 +114,13 @@ pub fn field_pattern(file: &[u8], at: usize, n: usize, name: usize) -> Option<us
     requires { at + 4 * n ≤ length file.now }
     ensures { result ≡ field_pattern (run (pattern_at file.now) 4 n at) name }
 {
-    (0..n).find_map(|k| {
+    for k in 0..n {
         let p = field_pattern_at(file, at, k);
-        if p.name == name { Some(p.node) } else { None }
-    })
+        if p.name == name {
+            return Some(p.node);
+        }
+    }
+    None
 }
 
 // The alternative of that name among the n of a Union type.

@@ -1,13 +1,15 @@
-use Rattle.std.proofs.Common.{rules, refl, ◌∙◌}
 use native.Mathlib.Omega.{arith}
-use borrow.Author.Tests.{tests}
-use Rattle.std.proofs.lemmas.Iterator.{YieldsList-from_range}
-use Rattle.tables.proofs.Firsts.{given-by-find_map}
-use Rattle.tables.proofs.Searches.{first-pattern}
+use Rattle.tables.proofs.Pairs.{first-start, pattern-more, pattern-hit, pattern-end}
 use Rattle.tables.proofs.field_pattern.Goals as goal
 
+pub loop-k-init : goal.loop-k-init
+loop-k-init c = record { within = omega arith; same = first-start _ _ _ _ _ }
+
+pub returns-then-p-name : goal.returns-then-p-name
+returns-then-p-name c = pattern-hit _ _ _ _ _ c.loop-k.invariant _ c.loop-k-test.true c.field_pattern_at-p.ensures c.if-p-name.true
+
+pub loop-k-preserved : goal.loop-k-preserved
+loop-k-preserved c = pattern-more _ _ _ _ _ c.loop-k.invariant _ c.loop-k-test.true c.field_pattern_at-p.ensures c.if-p-name.false
+
 pub returns : goal.returns
-returns c =
-    given-by-find_map _ (λ r. r) (λ y. y) _ c.args.n _ c.find_map.ensures.runs (YieldsList-from_range 0 _ _ refl (omega arith))
-    (λ x r q k. search rules) (λ x r k l. search (rules, tests)) refl (λ y. refl)
-    ∙ first-pattern _ _ _ _
+returns c = pattern-end _ _ _ _ _ c.loop-k.invariant c.loop-k-test.false
