@@ -1,6 +1,6 @@
 -- A stored list of answers (docs/ORACLE.md): a text's lines, of which those that are empty or begin with `#` are comments. What it is for
 -- a line to agree is a list's own.
-use Rattle.std.specs.Prelude.{Bool, true, false, List, [], ◌∷◌, ◌++◌, ℕ, ◌+◌, eqb, codes}
+use Rattle.std.specs.Prelude.{Bool, true, false, List, [], ◌∷◌, ◌++◌, length, take, slice_index, ℕ, ◌+◌, ◌-◌, eqb, codes}
 use Rattle.std.specs.Fmt.{decimal}
 use Rattle.rules.specs.Base.{both}
 use Rattle.tally.specs.declared.Tally.{Tally}
@@ -24,6 +24,10 @@ same [] [] = true
 same [] (y ∷ ys) = false
 same (x ∷ xs) [] = false
 same (x ∷ xs) (y ∷ ys) = both (eqb x y) (same xs ys)
+
+-- a line without the newline at its end, where it has one
+unfoldable pub content : List ℕ → List ℕ
+content l = elim (eqb (slice_index l (length l - 1)) newline) [ true ↦ take (length l - 1) l | false ↦ l ]
 
 -- an empty line, or one that begins with `#`
 unfoldable pub skipped : List ℕ → Bool

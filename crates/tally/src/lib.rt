@@ -67,13 +67,24 @@ impl Tally {
     }
 }
 
-// The tally after one line more, by a test of whether a line agrees.
+// A line without the line feed at its end, which a text's last line need not have.
+fn content(line: &[u8]) -> &[u8]
+    ensures { result.now ≡ Tallies.content line.now }
+{
+    let Some((end, front)) = line.split_last() else {
+        return line;
+    };
+    if *end == b'\n' { front } else { line }
+}
+
+// The tally after one line more, with its end or without, by a test of whether a line agrees.
 fn count<F: Fn(&[u8]) -> bool>(line: &[u8], t: Tally, agrees: &F) -> Tally
     requires callable { F.IsAlwaysCallable agrees.now }
     requires room { (t.compared < count_limit) × (t.different < count_limit) }
-    ensures counts { (g : List ℕ → Bool) → Computes F.Fn agrees.now g → result ≡ counted g line.now t }
+    ensures counts { (g : List ℕ → Bool) → Computes F.Fn agrees.now g → result ≡ counted g (Tallies.content line.now) t }
     ensures grows { (result.compared ≤ t.compared + 1) × (result.different ≤ t.different + 1) }
 {
+    let line = content(line);
     if skipped(line) {
         return t;
     }
@@ -90,7 +101,7 @@ pub fn tally_of<F: Fn(&[u8]) -> bool>(text: &[u8], agrees: F) -> Tally
         compared: 0,
         different: 0,
     };
-    text.split(|b| *b == b'\n')
+    text.split_inclusive(|b| *b == b'\n')
         .fold(none, |t, line| count(line, t, &agrees))
 }
 
